@@ -1,0 +1,235 @@
+-- Laws of counting and searching: what `count`, `least` and `some` say, and how a loop that goes up by one learns them.
+use mathlib.Core.Path.{_≡_, refl, sym, _∙_, subst}
+use mathlib.Core.Logic.{_⊎_, inl, inr, ⊎-elim, _≢_}
+use mathlib.Core.Bool.{Bool, true, false, _||_, not}
+use Prim.Native.Nat.{ℕ, zero, suc, _+_, _≤_, _<_}
+use native.Mathlib.Omega.{arith}
+use native.Mathlib.Nat.{eq-or-lt-of-le, le-of-suc-le-suc}
+use native.Mathlib.Numerals.{add-one}
+use lib.Dec.{ltb}
+use borrow.Author.Tests.{ltb-true, ltb-false, lt-ltb, le-ltb}
+use Rattle.cube.specs.Count.{count, least, some}
+
+-- a test either way, with its equation
+pub either : (b : Bool) → (b ≡ true) ⊎ (b ≡ false)
+either true = inl refl
+either false = inr refl
+
+pub clash : {b : Bool} → b ≡ true → b ≡ false → ⊥
+clash p q = let z : _≡_ {A = ℕ} 0 1 = cc in omega arith
+
+pub below-suc : {i n : ℕ} → i < suc n → (i ≡ n) ⊎ (i < n)
+below-suc h = eq-or-lt-of-le (le-of-suc-le-suc h)
+
+pub count-yes : (n : ℕ) (p : ℕ → Bool) → p n ≡ true → count (suc n) p ≡ suc (count n p)
+unfolding count
+count-yes n p e = rw e (omega arith)
+
+pub count-no : (n : ℕ) (p : ℕ → Bool) → p n ≡ false → count (suc n) p ≡ count n p
+unfolding count
+count-no n p e = rw e (omega arith)
+
+pub count-zero : (p : ℕ → Bool) → count zero p ≡ zero
+unfolding count
+count-zero p = refl
+
+pub count-bound : (n : ℕ) (p : ℕ → Bool) → count n p ≤ n
+count-bound zero p = omega (arith, count-zero p)
+count-bound (suc n) p = go (count-bound n p) (either (p n))
+  where
+    go : count n p ≤ n → (p n ≡ true) ⊎ (p n ≡ false) → count (suc n) p ≤ suc n
+    go ih (inl e) = omega (arith, count-yes n p e)
+    go ih (inr e) = omega (arith, count-no n p e)
+
+pub count-le : (n : ℕ) (p q : ℕ → Bool) → ((i : ℕ) → i < n → p i ≡ true → q i ≡ true) → count n p ≤ count n q
+count-le zero p q f = omega (arith, count-zero p)
+count-le (suc n) p q f = go (count-le n p q (λ i h. f i (omega arith))) (either (p n)) (either (q n))
+  where
+    go : count n p ≤ count n q → (p n ≡ true) ⊎ (p n ≡ false) → (q n ≡ true) ⊎ (q n ≡ false) → count (suc n) p ≤ count (suc n) q
+    go ih (inl e) (inl k) = omega (arith, count-yes n p e, count-yes n q k)
+    go ih (inl e) (inr k) = absurd (clash (f n (omega arith) e) k)
+    go ih (inr e) (inl k) = omega (arith, count-no n p e, count-yes n q k)
+    go ih (inr e) (inr k) = omega (arith, count-no n p e, count-no n q k)
+
+-- fewer p than q: some place has q and not p
+pub pigeon : (n : ℕ) (p q : ℕ → Bool) → count n p < count n q → (i : ℕ) × (i < n) × (q i ≡ true) × (p i ≡ false)
+pigeon zero p q h = absurd (omega (arith, count-zero p, count-zero q))
+pigeon (suc n) p q h = go (pigeon n p q) (either (p n)) (either (q n))
+  where
+    go : (count n p < count n q → (i : ℕ) × (i < n) × (q i ≡ true) × (p i ≡ false))
+        → (p n ≡ true) ⊎ (p n ≡ false) → (q n ≡ true) ⊎ (q n ≡ false) → (i : ℕ) × (i < suc n) × (q i ≡ true) × (p i ≡ false)
+    go ih (inl e) (inl k) = let r = ih (omega (arith, count-yes n p e, count-yes n q k)) in (r .0, omega arith, r .2, r .3)
+    go ih (inl e) (inr k) = let r = ih (omega (arith, count-yes n p e, count-no n q k)) in (r .0, omega arith, r .2, r .3)
+    go ih (inr e) (inl k) = (n, omega arith, k, e)
+    go ih (inr e) (inr k) = let r = ih (omega (arith, count-no n p e, count-no n q k)) in (r .0, omega arith, r .2, r .3)
+
+pub count-pos : (n : ℕ) (p : ℕ → Bool) (i : ℕ) → i < n → p i ≡ true → 0 < count n p
+count-pos zero p i h e = absurd (omega arith)
+count-pos (suc n) p i h e = go (λ k. count-pos n p i k e) (either (p n)) (below-suc h)
+  where
+    go : (i < n → 0 < count n p) → (p n ≡ true) ⊎ (p n ≡ false) → (i ≡ n) ⊎ (i < n) → 0 < count (suc n) p
+    go ih (inl t) _ = omega (arith, count-yes n p t)
+    go ih (inr t) (inl k) = absurd (clash (subst (λ j. p j ≡ true) k e) t)
+    go ih (inr t) (inr k) = omega (arith, count-no n p t, ih k)
+
+pub count-none : (n : ℕ) (p : ℕ → Bool) → ((i : ℕ) → i < n → p i ≡ false) → count n p ≡ 0
+count-none zero p f = count-zero p
+count-none (suc n) p f = count-no n p (f n (omega arith)) ∙ count-none n p (λ i h. f i (omega arith))
+
+pub count-same : (n : ℕ) (p q : ℕ → Bool) → ((i : ℕ) → i < n → p i ≡ q i) → count n p ≡ count n q
+count-same n p q f = omega (arith, count-le n p q (λ i h e. sym (f i h) ∙ e), count-le n q p (λ i h e. f i h ∙ e))
+
+-- q is p with one place more
+pub count-more : (n j : ℕ) (p q : ℕ → Bool) → j < n → p j ≡ false → q j ≡ true → ((i : ℕ) → i < n → i ≢ j → p i ≡ q i) → count n q ≡ suc (count n p)
+count-more zero j p q h a b f = absurd (omega arith)
+count-more (suc n) j p q h a b f = go (count-more n j p q) (below-suc h)
+  where
+    same : n ≢ j → count n q ≡ suc (count n p) → (p n ≡ true) ⊎ (p n ≡ false) → count (suc n) q ≡ suc (count (suc n) p)
+    same d ih (inl e) = omega (arith, count-yes n p e, count-yes n q (sym (f n (omega arith) d) ∙ e))
+    same d ih (inr e) = omega (arith, count-no n p e, count-no n q (sym (f n (omega arith) d) ∙ e))
+
+    go : (j < n → p j ≡ false → q j ≡ true → ((i : ℕ) → i < n → i ≢ j → p i ≡ q i) → count n q ≡ suc (count n p)) → (j ≡ n) ⊎ (j < n) → count (suc n) q ≡ suc (count (suc n) p)
+    go ih (inl e) =
+        omega (
+          arith,
+          count-no n p (rw (← e) a),
+          count-yes n q (rw (← e) b),
+          count-same n p q (λ i l. f i (omega arith) (omega arith)),
+        )
+    go ih (inr k) = same (omega arith) (ih k a b (λ i l. f i (omega arith))) (either (p n))
+
+-- two tests that exclude one another are counted apart
+pub count-sum : (n : ℕ) (p q : ℕ → Bool) → ((i : ℕ) → i < n → p i ≡ true → q i ≡ false) → count n (λ i. p i || q i) ≡ count n p + count n q
+unfolding count
+count-sum zero p q f = omega arith
+count-sum (suc n) p q f = go (count-sum n p q (λ i h. f i (omega arith))) (either (p n)) (either (q n))
+  where
+    go : count n (λ i. p i || q i) ≡ count n p + count n q → (p n ≡ true) ⊎ (p n ≡ false) → (q n ≡ true) ⊎ (q n ≡ false) → count (suc n) (λ i. p i || q i) ≡ count (suc n) p + count (suc n) q
+    go ih (inl a) (inl b) = absurd (clash b (f n (omega arith) a))
+    go ih (inl a) (inr b) = rw (a, b) (omega arith)
+    go ih (inr a) (inl b) = rw (a, b) (omega arith)
+    go ih (inr a) (inr b) = rw (a, b) (omega arith)
+
+pub none-counted : (n : ℕ) (p : ℕ → Bool) → count n p ≡ 0 → (i : ℕ) → i < n → p i ≡ false
+none-counted n p e i h = ⊎-elim (λ (t : p i ≡ true). absurd (omega (arith, count-pos n p i h t))) (λ t. t) (either (p i))
+
+-- ---- the search
+
+least-old : (n : ℕ) (p : ℕ → Bool) → least n p < n → least (suc n) p ≡ least n p
+unfolding least
+least-old n p h = rw (lt-ltb (least n p) n h, least)
+
+least-here : (n : ℕ) (p : ℕ → Bool) → n ≤ least n p → p n ≡ true → least (suc n) p ≡ n
+unfolding least
+least-here n p h e = rw (le-ltb (least n p) n h, least, e)
+
+least-past : (n : ℕ) (p : ℕ → Bool) → n ≤ least n p → p n ≡ false → least (suc n) p ≡ suc n
+unfolding least
+least-past n p h e = rw (le-ltb (least n p) n h, least, e)
+
+-- what the search says: its result is a place that has p or n, and no earlier place has p
+pub record Least (n : ℕ) (p : ℕ → Bool) : Type 0 where
+  pub within : least n p ≤ n
+  pub hit : least n p < n → p (least n p) ≡ true
+  pub before : (j : ℕ) → j < least n p → p j ≡ false
+
+least-zero : (p : ℕ → Bool) → least zero p ≡ zero
+unfolding least
+least-zero p = refl
+
+pub the-least : (n : ℕ) (p : ℕ → Bool) → Least n p
+the-least zero p = record { within = omega (arith, least-zero p); hit = λ h. absurd (omega arith); before = λ j h. absurd (omega (arith, least-zero p)) }
+the-least (suc n) p = go (the-least n p) (either (ltb (least n p) n)) (either (p n))
+  where
+    go : Least n p → (ltb (least n p) n ≡ true) ⊎ (ltb (least n p) n ≡ false) → (p n ≡ true) ⊎ (p n ≡ false) → Least (suc n) p
+    go ih (inl a) _ =
+        let l = ltb-true (least n p) n a in
+        record {
+          within = omega (arith, least-old n p l);
+          hit = λ _. rw (least-old n p l) (ih .hit l);
+          before = λ j h. ih .before j (omega (arith, least-old n p l));
+        }
+    go ih (inr a) (inl b) =
+        let l = ltb-false (least n p) n a in
+        record {
+          within = omega (arith, least-here n p l b);
+          hit = λ _. rw (least-here n p l b) b;
+          before = λ j h. ih .before j (omega (arith, least-here n p l b));
+        }
+    go ih (inr a) (inr b) =
+        let l = ltb-false (least n p) n a in
+        record {
+          within = omega (arith, least-past n p l b);
+          hit = λ h. absurd (omega (arith, least-past n p l b));
+          before = λ j h. ⊎-elim (λ (k : j ≡ n). rw k b) (λ (k : j < n). ih .before j (omega arith)) (below-suc (omega (arith, least-past n p l b)));
+        }
+
+pub least-found : (n : ℕ) (p : ℕ → Bool) (i : ℕ) → i < n → p i ≡ true → least n p < n
+least-found n p i h e = go (either (ltb (least n p) n))
+  where
+    go : (ltb (least n p) n ≡ true) ⊎ (ltb (least n p) n ≡ false) → least n p < n
+    go (inl a) = ltb-true (least n p) n a
+    go (inr a) = absurd (clash e (the-least n p .before i (omega (arith, ltb-false (least n p) n a))))
+
+-- some place below n has p, or none has
+pub find : (n : ℕ) (p : ℕ → Bool) → ((i : ℕ) × (i < n) × (p i ≡ true)) ⊎ ((i : ℕ) → i < n → p i ≡ false)
+find n p = go (either (ltb (least n p) n))
+  where
+    go : (ltb (least n p) n ≡ true) ⊎ (ltb (least n p) n ≡ false) → ((i : ℕ) × (i < n) × (p i ≡ true)) ⊎ ((i : ℕ) → i < n → p i ≡ false)
+    go (inl a) = let l = ltb-true (least n p) n a in inl (least n p, l, the-least n p .hit l)
+    go (inr a) = inr (λ i h. the-least n p .before i (omega (arith, ltb-false (least n p) n a)))
+
+pub least-mono : (n : ℕ) (p q : ℕ → Bool) → ((i : ℕ) → i < n → q i ≡ true → p i ≡ true) → least n p ≤ least n q
+least-mono n p q f = go (either (ltb (least n q) (least n p)))
+  where
+    P : Least n p
+    P = the-least n p
+
+    go : (ltb (least n q) (least n p) ≡ true) ⊎ (ltb (least n q) (least n p) ≡ false) → least n p ≤ least n q
+    go (inl a) =
+        let l = ltb-true (least n q) (least n p) a in
+        let h : least n q < n = omega (arith, P .within) in
+        absurd (clash (f (least n q) h (the-least n q .hit h)) (P .before (least n q) l))
+    go (inr a) = ltb-false (least n q) (least n p) a
+
+pub least-same : (n : ℕ) (p q : ℕ → Bool) → ((i : ℕ) → i < n → p i ≡ q i) → least n p ≡ least n q
+least-same n p q f = omega (arith, least-mono n p q (λ i h e. f i h ∙ e), least-mono n q p (λ i h e. sym (f i h) ∙ e))
+
+-- the search's result, from what a loop knows
+pub least-is : (n : ℕ) (p : ℕ → Bool) (i : ℕ) → i ≤ n → ((j : ℕ) → j < i → p j ≡ false) → (i < n → p i ≡ true) → least n p ≡ i
+least-is n p i h before hit = omega (arith, low, high)
+  where
+    low : ¬ (least n p < i)
+    low l = clash (the-least n p .hit (omega arith)) (before (least n p) l)
+
+    high : ¬ (i < least n p)
+    high l = clash (hit (omega (arith, the-least n p .within))) (the-least n p .before i l)
+
+-- the count of a loop, one place on
+pub count-in : (i : ℕ) (p : ℕ → Bool) → p i ≡ true → count (i + 1) p ≡ count i p + 1
+count-in i p e = rw add-one (omega (arith, count-yes i p e))
+
+pub count-out : (i : ℕ) (p : ℕ → Bool) → p i ≡ false → count (i + 1) p ≡ count i p
+count-out i p e = rw add-one (count-no i p e)
+
+-- ---- some place below n has p
+
+pub some-hit : (n : ℕ) (p : ℕ → Bool) (i : ℕ) → i < n → p i ≡ true → some n p ≡ true
+unfolding some
+some-hit n p i h e = lt-ltb (least n p) n (least-found n p i h e)
+
+pub some-none : (n : ℕ) (p : ℕ → Bool) → ((i : ℕ) → i < n → p i ≡ false) → some n p ≡ false
+unfolding some
+some-none n p f = le-ltb (least n p) n (omega (arith, least-is n p n (omega arith) f (λ h. absurd (omega arith))))
+
+pub some-found : (n : ℕ) (p : ℕ → Bool) → some n p ≡ true → (i : ℕ) × (i < n) × (p i ≡ true)
+unfolding some
+some-found n p e = let l = ltb-true (least n p) n e in (least n p, l, the-least n p .hit l)
+
+pub none-some : (n : ℕ) (p : ℕ → Bool) → some n p ≡ false → (i : ℕ) → i < n → p i ≡ false
+unfolding some
+none-some n p e i h = the-least n p .before i (omega (arith, ltb-false (least n p) n e))
+
+pub some-same : (n : ℕ) (p q : ℕ → Bool) → ((i : ℕ) → i < n → p i ≡ q i) → some n p ≡ some n q
+unfolding some
+some-same n p q f = rw (least-same n p q f)

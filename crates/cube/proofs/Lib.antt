@@ -1,0 +1,5 @@
+pub mod Bools
+pub mod Count
+pub mod Cube
+pub mod Front
+pub mod Tables

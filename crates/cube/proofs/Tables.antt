@@ -1,0 +1,111 @@
+-- The sizes of a fault table, and its unused bits: from dimension 3 on every bit stands for a node; below it the unused bits are the
+-- high part of the one byte.
+use mathlib.Core.Path.{_≡_, sym, ap, _∙_}
+use mathlib.Core.Logic.{_⊎_, inl, inr}
+use mathlib.Core.Bool.{true, false, not, _&&_}
+use mathlib.Core.List.{List}
+use Prim.Native.Nat.{ℕ, _+_, _-_, _*_, _/_, _%_, _^_, _≤_, _<_}
+use native.Mathlib.Omega.{arith}
+use native.Mathlib.Nat.{mul-div-cancel, zero-lt-suc}
+use lib.Dec.{leb, eqb}
+use lib.ListN.{length, getD}
+use lib.Pow.{pow-add, pow-mono, pow-pos, pow-lt, shr-lt}
+use borrow.Author.Tests.{le-leb, lt-leb, eq-eqb, ne-eqb, leb-true, leb-false}
+use Rattle.cube.specs.Count.{some}
+use Rattle.cube.specs.Cube.{bit}
+use Rattle.cube.specs.Tables.{isDimension, tableLen, nodeBit, unusedSet}
+use Rattle.cube.proofs.Bools.{and-true}
+use Rattle.cube.proofs.Count.{either, clash, some-none, some-found, none-some}
+use Rattle.cube.proofs.Cube.{bit-none, bit-shift, bits-same}
+
+-- ---- the dimension
+
+pub dimension-is : (n : ℕ) → isDimension n ≡ true → (1 ≤ n) × (n ≤ 12)
+unfolding isDimension
+dimension-is n e = let r = and-true (leb 1 n) (leb n 12) e in (leb-true 1 n (r .0), leb-true n 12 (r .1))
+
+-- ---- the length
+
+pub len-small : (n : ℕ) → n ≤ 3 → tableLen n ≡ 1
+unfolding tableLen
+len-small n h = rw (le-leb n 3 h)
+
+pub len-large : (n : ℕ) → 3 < n → tableLen n ≡ 2 ^ n / 8
+unfolding tableLen
+len-large n h = rw (lt-leb n 3 h)
+
+eighths : (n : ℕ) → 3 ≤ n → 2 ^ n ≡ 2 ^ (n - 3) * 8
+eighths n h = let z : n ≡ n - 3 + 3 = omega arith in ap (λ (k : ℕ). 2 ^ k) z ∙ pow-add 2 (n - 3) 3
+
+-- from dimension 3 on every bit of a fault table stands for a node
+pub table-full : (n : ℕ) → 3 ≤ n → 8 * tableLen n ≡ 2 ^ n
+table-full n h = go (either (leb n 3))
+  where
+    go : (leb n 3 ≡ true) ⊎ (leb n 3 ≡ false) → 8 * tableLen n ≡ 2 ^ n
+    go (inl a) =
+        let z : 3 ≡ n = omega (arith, leb-true n 3 a) in
+        omega (arith, len-small n (leb-true n 3 a), ap (λ (k : ℕ). 2 ^ k) z)
+    go (inr a) = omega (arith, len-large n (leb-false n 3 a), eighths n h, ap (λ (x : ℕ). x / 8) (eighths n h), mul-div-cancel (2 ^ (n - 3)) (zero-lt-suc 7))
+
+-- every node has its bit in a fault table
+pub table-room : (n : ℕ) → 2 ^ n ≤ 8 * tableLen n
+table-room n = go (either (leb 3 n))
+  where
+    go : (leb 3 n ≡ true) ⊎ (leb 3 n ≡ false) → 2 ^ n ≤ 8 * tableLen n
+    go (inl a) = omega (arith, table-full n (leb-true 3 n a))
+    go (inr a) = omega (arith, leb-false 3 n a, len-small n (omega (arith, leb-false 3 n a)), pow-mono {i = n} {j = 3} (omega (arith, leb-false 3 n a)))
+
+pub node-room : (n k m : ℕ) → m ≡ tableLen n → k < 2 ^ n → k / 8 < m
+node-room n k m e h = omega (arith, table-room n)
+
+-- ---- the unused bits
+
+pub nodes-few : (n : ℕ) → n < 3 → 2 ^ n < 8
+nodes-few n h = pow-lt {i = n} {j = 3} h
+
+pub unused-none : (n : ℕ) (t : List ℕ) → 3 ≤ n → length t ≡ tableLen n → unusedSet n t ≡ false
+unfolding unusedSet
+unused-none n t h e = some-none (8 * length t) (λ k. leb (2 ^ n) k && nodeBit t k) (λ k l. rw (lt-leb (2 ^ n) k (omega (arith, table-full n h))))
+
+-- a byte whose bits from m on are clear is below 2 ^ m
+clear-above : (m x : ℕ) → x / 2 ^ m ≡ 0 → (i : ℕ) → m ≤ i → bit i x ≡ false
+clear-above m x e i h =
+    let z : m + (i - m) ≡ i = omega arith in
+    ap (λ (j : ℕ). bit j x) (sym z) ∙ sym (bit-shift m (i - m) x) ∙ rw e (bit-none (i - m))
+
+above-clear : (m x : ℕ) → m ≤ 8 → x < 256 → ((i : ℕ) → m ≤ i → i < 8 → bit i x ≡ false) → x / 2 ^ m ≡ 0
+above-clear m x h hx f =
+    let z : 8 ≡ (8 - m) + m = omega arith in
+    let l : x < 2 ^ ((8 - m) + m) = omega (arith, ap (λ (k : ℕ). 2 ^ k) z) in
+    bits-same (8 - m) (x / 2 ^ m) 0 (shr-lt (8 - m) m l) (pow-pos (8 - m)) (λ i k. bit-shift m i x ∙ f (m + i) (omega arith) (omega arith) ∙ sym (bit-none i))
+
+module _ (n : ℕ) (t : List ℕ) (small : n < 3) (sized : length t ≡ tableLen n) (fits : getD t 0 0 < 256) where
+  one-byte : 8 * length t ≡ 8
+  one-byte = omega (arith, len-small n (omega arith))
+
+  low : 2 ^ n ≤ 8
+  low = pow-mono {i = n} {j = 3} (omega arith)
+
+  bit-here : (k : ℕ) → k < 8 → nodeBit t k ≡ bit k (getD t 0 0)
+  unfolding nodeBit
+  bit-here k h =
+      let q : k / 8 ≡ 0 = omega arith in
+      let r : k % 8 ≡ k = omega arith in
+      rw (q, r)
+
+  -- below dimension 3 an unused bit is set exactly where the byte, shifted down past the nodes' bits, is not 0
+  pub unused-byte : not (eqb (getD t 0 0 / 2 ^ (2 ^ n)) 0) ≡ unusedSet n t
+  unfolding unusedSet
+  unused-byte = go (either (some (8 * length t) (λ k. leb (2 ^ n) k && nodeBit t k)))
+    where
+      go : (unusedSet n t ≡ true) ⊎ (unusedSet n t ≡ false) → not (eqb (getD t 0 0 / 2 ^ (2 ^ n)) 0) ≡ unusedSet n t
+      go (inl a) =
+          let r = some-found (8 * length t) (λ k. leb (2 ^ n) k && nodeBit t k) a in
+          let q = and-true (leb (2 ^ n) (r .0)) (nodeBit t (r .0)) (r .2) in
+          let h : r .0 < 8 = omega (arith, r .1, one-byte) in
+          let set : bit (r .0) (getD t 0 0) ≡ true = sym (bit-here (r .0) h) ∙ q .1 in
+          ap not (ne-eqb (getD t 0 0 / 2 ^ (2 ^ n)) 0 (λ z. clash set (clear-above (2 ^ n) (getD t 0 0) z (r .0) (leb-true (2 ^ n) (r .0) (q .0))))) ∙ sym a
+      go (inr a) =
+          let none = none-some (8 * length t) (λ k. leb (2 ^ n) k && nodeBit t k) a in
+          let f : (i : ℕ) → 2 ^ n ≤ i → i < 8 → bit i (getD t 0 0) ≡ false = λ i h l. sym (bit-here i l) ∙ (rw (le-leb (2 ^ n) i h) at (none i (omega (arith, one-byte)))) in
+          ap not (eq-eqb (getD t 0 0 / 2 ^ (2 ^ n)) 0 (above-clear (2 ^ n) (getD t 0 0) low fits f)) ∙ sym a

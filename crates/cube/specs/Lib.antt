@@ -1,0 +1,4 @@
+pub mod Count
+pub mod Cube
+pub mod Tables
+pub mod Answer
