@@ -1,0 +1,19 @@
+-- A number of document 01: one or two groups of seven bits, lowest group first, a group's high bit set when another follows.
+use mathlib.Core.Bool.{cond, _||_}
+use mathlib.Core.List.{List}
+use Prim.Native.Nat.{ℕ, _+_, _*_, _%_}
+use lib.Dec.{eqb, ltb, leb}
+use lib.ListN.{length, getD}
+use Rattle.groups.specs.declared.Number.{Number}
+use Rattle.groups.specs.declared.Number.the-variants.{Value, Refused}
+
+-- a number of two groups, from their bytes: 10 where the second is zero or has its high bit set
+unfoldable pub twoGroups : (low high next : ℕ) → Number
+twoGroups low high next = cond (eqb high 0 || leb 128 high) (Refused 10) (Value (low % 128 + high * 128) next)
+
+-- the number that begins at place `at`, with the next place: 9 where the bytes end before it is complete
+unfoldable pub numberAt : List ℕ → ℕ → Number
+numberAt s at =
+    cond (leb (length s) at) (Refused 9)
+    (cond (ltb (getD s at 0) 128) (Value (getD s at 0) (at + 1))
+    (cond (leb (length s) (at + 1)) (Refused 9) (twoGroups (getD s at 0) (getD s (at + 1) 0) (at + 2))))
