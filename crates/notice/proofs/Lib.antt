@@ -1,0 +1,11 @@
+pub mod Open
+pub mod Rising
+pub mod Steps
+pub mod Good
+pub mod Whole
+pub mod Opened
+pub mod Answers
+pub mod Bits
+pub mod Named
+pub mod Vectors
+pub mod Refusals
