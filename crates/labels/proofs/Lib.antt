@@ -1,0 +1,11 @@
+pub mod Rounds
+pub mod Largest
+pub mod Bytes
+pub mod Good
+pub mod Filling
+pub mod Marking
+pub mod Counting
+pub mod Deciding
+pub mod Standing
+pub mod Turning
+pub mod Refusal

@@ -1,0 +1,127 @@
+-- The rounds come to rest. A round that is not quiet marks a working node that had no mark, so the marks are never more than the working
+-- nodes and never fewer than the rounds: within as many rounds as there are working nodes one is quiet, and `rounds` is the first.
+use mathlib.Core.Path.{_≡_, refl, sym, ap, ap₂, _∙_}
+use mathlib.Core.Logic.{_⊎_, inl, inr, ⊎-elim}
+use mathlib.Core.Bool.{Bool, true, false, not, _&&_, _||_}
+use Prim.Native.Nat.{ℕ, zero, suc, _+_, _^_, _≤_, _<_}
+use native.Mathlib.Omega.{arith}
+use lib.Dec.{ltb}
+use lib.Pow.{pow-mono}
+use borrow.Author.Tests.{ltb-true, ltb-false, eqb-true, eqb-false, eq-eqb, not-true}
+use Rattle.cube.specs.Count.{count}
+use Rattle.cube.specs.Cube.{flip}
+use Rattle.cube.proofs.Bools.{and-true, or-true}
+use Rattle.cube.proofs.Count.{either, clash, count-bound, count-le, count-same, count-sum, count-none, none-counted, find, the-least, least-is}
+use Rattle.labels.specs.Rule.{meets, newly, marked, quiet, working, rounds}
+
+pub is-false : {b : Bool} → (b ≡ true → ⊥) → b ≡ false
+is-false {b} f = ⊎-elim (λ t. absurd (f t)) (λ t. t) (either b)
+
+-- the rule looks at the neighbours alone
+pub meets-same : (n k : ℕ) (F F′ m m′ : ℕ → Bool) (x : ℕ) → ((i : ℕ) → i < n → F (flip i x) ≡ F′ (flip i x))
+    → ((i : ℕ) → i < n → m (flip i x) ≡ m′ (flip i x)) → meets n k F m x ≡ meets n k F′ m′ x
+unfolding meets
+meets-same n k F F′ m m′ x f g =
+    rw (
+      count-same n (λ i. F (flip i x)) (λ i. F′ (flip i x)) f,
+      count-same n (λ i. F (flip i x) || m (flip i x)) (λ i. F′ (flip i x) || m′ (flip i x)) (λ i l. ap₂ _||_ (f i l) (g i l)),
+    )
+
+-- a cube of dimension 12 or less has at most 4096 nodes
+pub working-few : (n : ℕ) (F : ℕ → Bool) → n ≤ 12 → working n F ≤ 4096
+unfolding working
+working-few n F h = omega (arith, count-bound (2 ^ n) (λ x. not (F x)), pow-mono h)
+
+module _ (n k : ℕ) (F : ℕ → Bool) where
+  pub marked-zero : (x : ℕ) → marked n k F 0 x ≡ false
+  unfolding marked
+  marked-zero x = refl
+
+  pub marked-suc : (r x : ℕ) → marked n k F (suc r) x ≡ (marked n k F r x || newly n k F (marked n k F r) x)
+  unfolding marked
+  marked-suc r x = refl
+
+  pub newly-says : (m : ℕ → Bool) (x : ℕ) → newly n k F m x ≡ true → (F x ≡ false) × (m x ≡ false) × (meets n k F m x ≡ true)
+  unfolding newly
+  newly-says m x e =
+      let a = and-true (not (F x)) (not (m x) && meets n k F m x) e in
+      let b = and-true (not (m x)) (meets n k F m x) (a .1) in
+      (not-true (F x) (a .0), not-true (m x) (b .0), b .1)
+
+  pub newly-is : (m : ℕ → Bool) (x : ℕ) → F x ≡ false → m x ≡ false → newly n k F m x ≡ meets n k F m x
+  unfolding newly
+  newly-is m x a b = rw (a, b)
+
+  pub marks-work : (r x : ℕ) → marked n k F r x ≡ true → F x ≡ false
+  marks-work zero x e = absurd (clash e (marked-zero x))
+  marks-work (suc r) x e =
+      ⊎-elim (λ t. marks-work r x t) (λ t. newly-says (marked n k F r) x t .0)
+      (or-true (marked n k F r x) (newly n k F (marked n k F r) x) (sym (marked-suc r x) ∙ e))
+
+  -- ---- how many are marked
+
+  grows : (r : ℕ) → count (2 ^ n) (marked n k F (suc r)) ≡ count (2 ^ n) (marked n k F r) + count (2 ^ n) (newly n k F (marked n k F r))
+  unfolding marked
+  grows r = count-sum (2 ^ n) (marked n k F r) (newly n k F (marked n k F r)) go
+    where
+      go : (x : ℕ) → x < 2 ^ n → marked n k F r x ≡ true → newly n k F (marked n k F r) x ≡ false
+      go x h e = is-false (λ t. clash e (newly-says (marked n k F r) x t .1))
+
+  bounded : (r : ℕ) → count (2 ^ n) (marked n k F r) ≤ working n F
+  unfolding working
+  bounded r = count-le (2 ^ n) (marked n k F r) (λ x. not (F x)) (λ x h e. ap not (marks-work r x e))
+
+  one-each : (r : ℕ) → ((j : ℕ) → j < r → quiet n k F j ≡ false) → r ≤ count (2 ^ n) (marked n k F r)
+  unfolding quiet
+  one-each zero f = omega arith
+  one-each (suc r) f = omega (arith, one-each r (λ j h. f j (omega arith)), grows r, eqb-false (count (2 ^ n) (newly n k F (marked n k F r))) 0 (f r (omega arith)))
+
+  -- no more rounds mark something new than there are working nodes
+  pub loud-le : (r : ℕ) → ((j : ℕ) → j < r → quiet n k F j ≡ false) → r ≤ working n F
+  loud-le r f = omega (arith, one-each r f, bounded r)
+
+  -- ---- the round count
+
+  -- it is at most the number of working nodes,
+  pub rounds-le : rounds n k F ≤ working n F
+  unfolding rounds
+  rounds-le = the-least (working n F) (quiet n k F) .within
+
+  pub rounds-first : (j : ℕ) → j < rounds n k F → quiet n k F j ≡ false
+  unfolding rounds
+  rounds-first = the-least (working n F) (quiet n k F) .before
+
+  rounds-hit : rounds n k F < working n F → quiet n k F (rounds n k F) ≡ true
+  unfolding rounds
+  rounds-hit = the-least (working n F) (quiet n k F) .hit
+
+  pub rest : quiet n k F (rounds n k F) ≡ true
+  unfolding quiet
+  rest = go (either (ltb (rounds n k F) (working n F)))
+    where
+      go : (ltb (rounds n k F) (working n F) ≡ true) ⊎ (ltb (rounds n k F) (working n F) ≡ false) → quiet n k F (rounds n k F) ≡ true
+      go (inl a) = rounds-hit (ltb-true (rounds n k F) (working n F) a)
+      go (inr a) =
+          eq-eqb (count (2 ^ n) (newly n k F (marked n k F (rounds n k F)))) 0
+          (omega (arith, ltb-false (rounds n k F) (working n F) a, one-each (rounds n k F) rounds-first, bounded (suc (rounds n k F)), grows (rounds n k F)))
+
+  -- each counted round marks some node that had no mark,
+  pub round-marks : (j : ℕ) → j < rounds n k F → (x : ℕ) × (x < 2 ^ n) × (newly n k F (marked n k F j) x ≡ true)
+  unfolding quiet
+  round-marks j h = go (find (2 ^ n) (newly n k F (marked n k F j)))
+    where
+      go : ((x : ℕ) × (x < 2 ^ n) × (newly n k F (marked n k F j) x ≡ true)) ⊎ ((x : ℕ) → x < 2 ^ n → newly n k F (marked n k F j) x ≡ false)
+          → (x : ℕ) × (x < 2 ^ n) × (newly n k F (marked n k F j) x ≡ true)
+      go (inl a) = a
+      go (inr a) = absurd (eqb-false (count (2 ^ n) (newly n k F (marked n k F j))) 0 (rounds-first j h) (count-none (2 ^ n) (newly n k F (marked n k F j)) a))
+
+  -- and the next marks none
+  pub none-new : (x : ℕ) → x < 2 ^ n → newly n k F (marked n k F (rounds n k F)) x ≡ false
+  unfolding quiet
+  none-new =
+      none-counted (2 ^ n) (newly n k F (marked n k F (rounds n k F))) (eqb-true (count (2 ^ n) (newly n k F (marked n k F (rounds n k F)))) 0 rest)
+
+  -- the first quiet round is the one: what a loop shows at its end
+  pub rounds-is : (r : ℕ) → ((j : ℕ) → j < r → quiet n k F j ≡ false) → quiet n k F r ≡ true → rounds n k F ≡ r
+  unfolding rounds
+  rounds-is r f q = least-is (working n F) (quiet n k F) r (loud-le r f) f (λ _. q)

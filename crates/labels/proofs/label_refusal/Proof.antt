@@ -1,0 +1,72 @@
+-- `label_refusal` tests in the order of `labelRefusal`.
+use mathlib.Core.Path.{_≡_, sym, _∙_}
+use mathlib.Core.Bool.{true}
+use Prim.Native.Nat.{_^_}
+use native.Mathlib.Omega.{arith}
+use lib.ListN.{length}
+use borrow.Author.Needs.{needs}
+use borrow.Author.Tests.{not-true, not-false}
+use Rattle.cube.specs.Tables.{isDimension, tableLen}
+use Rattle.cube.proofs.Tables.{dimension-is}
+use Rattle.labels.proofs.Refusal.{refuse-dimension, refuse-faults, refuse-labels, refuse-unused, accept}
+use Rattle.labels.proofs.label_refusal.Statement.{statement}
+use Rattle.labels.proofs.label_refusal.Tie as tie
+
+-- what each test that did not refuse has shown
+dimension : (c : tie.Else1) → isDimension (c .before .before .before .args .n) ≡ true
+dimension c = sym (c .before .is-dimension .ensures) ∙ not-false _ (c .if1 .left)
+
+fault-length : (c : tie.Else2) → let a = c .before .before .before .before .before .args in length (a .faults .now) ≡ tableLen (a .n)
+fault-length c = c .if2 .left ∙ c .before .table-len .ensures
+
+label-length : (c : tie.Else3) → let a = c .before .before .before .before .before .before .before .args in a .m ≡ 2 ^ (a .n)
+label-length c = c .if3 .left ∙ c .before .nodes .ensures
+
+is-dimension-requires : tie.Need-is-dimension-requires
+is-dimension-requires c κs = search needs
+
+returns : tie.Need-returns
+returns c = refuse-dimension _ _ _ (sym (c .before .is-dimension .ensures) ∙ not-true _ (c .if1 .taken))
+
+table-len-requires : tie.Need-table-len-requires
+table-len-requires c κs = omega (arith, dimension-is _ (dimension c) .1)
+
+returns-2 : tie.Need-returns-2
+returns-2 c = refuse-faults _ _ _ (dimension (c .before .before)) (λ q. c .if2 .taken (q ∙ sym (c .before .table-len .ensures)))
+
+nodes-requires : tie.Need-nodes-requires
+nodes-requires c κs = omega (arith, dimension-is _ (dimension (c .before .before)) .1)
+
+returns-3 : tie.Need-returns-3
+returns-3 c =
+    refuse-labels _ _ _ (dimension (c .before .before .before .before)) (fault-length (c .before .before))
+    (λ q. c .if3 .taken (q ∙ sym (c .before .nodes .ensures)))
+
+unused-set-requires : tie.Need-unused-set-requires
+unused-set-requires c κs = search needs
+
+returns-4 : tie.Need-returns-4
+returns-4 c =
+    let s = c .before .before in
+    refuse-unused _ _ _ (dimension (s .before .before .before .before)) (fault-length (s .before .before)) (label-length s)
+    (sym (c .before .unused-set .ensures) ∙ c .if4 .taken)
+
+returns-5 : tie.Need-returns-5
+returns-5 c =
+    let s = c .before .before in
+    accept _ _ _ (dimension (s .before .before .before .before)) (fault-length (s .before .before)) (label-length s)
+    (sym (c .before .unused-set .ensures) ∙ c .if4 .left)
+
+pub label-refusal-spec : {M : Type 1} → statement M
+label-refusal-spec =
+    tie.close
+    (tie.spec
+    is-dimension-requires
+    returns
+    table-len-requires
+    returns-2
+    nodes-requires
+    returns-3
+    unused-set-requires
+    returns-4
+    returns-5)

@@ -1,0 +1,20 @@
+-- `start_byte` asks the fault table.
+use mathlib.Core.Path.{sym, _∙_}
+use borrow.Author.Needs.{needs}
+use Rattle.labels.specs.Passes.{started}
+use Rattle.labels.proofs.start_byte.Statement.{statement}
+use Rattle.labels.proofs.start_byte.Tie as tie
+
+node-bit-requires : tie.Need-node-bit-requires
+node-bit-requires c κs = search needs
+
+returns : tie.Need-returns
+unfolding started
+returns c = rw (sym (c .before .node-bit .ensures) ∙ c .if1 .taken)
+
+returns-2 : tie.Need-returns-2
+unfolding started
+returns-2 c = rw (sym (c .before .node-bit .ensures) ∙ c .if1 .left)
+
+pub start-byte-spec : {M : Type 1} → statement M
+start-byte-spec = tie.close (tie.spec node-bit-requires returns returns-2)

@@ -1,0 +1,5 @@
+pub mod Rule
+pub mod Closed
+pub mod Good
+pub mod Passes
+pub mod Labelling

@@ -1,0 +1,48 @@
+-- How labelling keeps its rounds in the lent label table l. A byte of 3 or more is a node that does not work. Until the labels are final,
+-- 2 is a node that an earlier round marked, 1 one that this round marked, and 0 one that has no mark: so the nodes that the rule counts are
+-- those of 3 and more, and those of 2 and more. Each definition below the line is what one pass over the table leaves at x.
+use mathlib.Core.Bool.{Bool, cond, _&&_}
+use mathlib.Core.List.{List}
+use Prim.Native.Nat.{ℕ}
+use lib.Dec.{eqb, leb}
+use Rattle.cube.specs.Count.{count, some}
+use Rattle.cube.specs.Cube.{flip}
+use Rattle.cube.specs.Tables.{labelIn}
+use Rattle.labels.specs.Rule.{meets}
+
+-- by their bytes: the nodes that do not work, those that an earlier round marked, and those without a mark
+unfoldable pub outIn : (l : List ℕ) (x : ℕ) → Bool
+outIn l x = leb 3 (labelIn l x)
+
+unfoldable pub markIn : (l : List ℕ) (x : ℕ) → Bool
+markIn l x = eqb (labelIn l x) 2
+
+unfoldable pub plainIn : (l : List ℕ) (x : ℕ) → Bool
+plainIn l x = eqb (labelIn l x) 0
+
+-- how many neighbours of x have a byte of low or more
+abbrev pub countFrom : (n : ℕ) (l : List ℕ) (x low : ℕ) → ℕ
+countFrom n l x low = count n (λ i. leb low (labelIn l (flip i x)))
+
+-- the round that begins with the table l marks x
+unfoldable pub fresh : (n k : ℕ) (l : List ℕ) (x : ℕ) → Bool
+fresh n k l x = plainIn l x && meets n k (outIn l) (markIn l) x
+
+-- x is marked and has a neighbour without a mark
+unfoldable pub ordinary : (n : ℕ) (l : List ℕ) (x : ℕ) → Bool
+ordinary n l x = markIn l x && some n (λ i. plainIn l (flip i x))
+
+-- ---- the passes
+
+-- before the first round
+unfoldable pub started : (F : ℕ → Bool) (out : ℕ → ℕ) (x : ℕ) → ℕ
+started F out x = cond (F x) (out x) 0
+
+-- 1 where p holds, elsewhere what stood there. A round marks with p = fresh; with p = ordinary the ordinarily unsafe nodes are told from
+-- the strongly unsafe ones in the end
+unfoldable pub oneWhere : (p : ℕ → Bool) (l : List ℕ) (x : ℕ) → ℕ
+oneWhere p l x = cond (p x) 1 (labelIn l x)
+
+-- the end of a round: its marks are marks of an earlier round from now on
+unfoldable pub settled : (l : List ℕ) (x : ℕ) → ℕ
+settled l x = cond (eqb (labelIn l x) 1) 2 (labelIn l x)

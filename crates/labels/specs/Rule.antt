@@ -1,0 +1,43 @@
+-- The labels of document 01, over n, the dimension; k, the number of the rule (3 there); F, the nodes that do not work (there: the faulty
+-- ones); and out, the byte of a node that does not work (there: 3). A mark means unsafe.
+use mathlib.Core.Bool.{Bool, false, cond, not, _&&_, _||_}
+use Prim.Native.Nat.{ℕ, zero, suc, _^_}
+use lib.Dec.{eqb, leb}
+use Rattle.cube.specs.Count.{count, least, some}
+use Rattle.cube.specs.Cube.{flip}
+
+-- x meets the rule with the marks m: two or more neighbours do not work, or k or more do not work or are marked
+unfoldable pub meets : (n k : ℕ) (F m : ℕ → Bool) (x : ℕ) → Bool
+meets n k F m x = leb 2 (count n (λ i. F (flip i x))) || leb k (count n (λ i. F (flip i x) || m (flip i x)))
+
+-- a round that begins with the marks m marks x: it works, has no mark yet, and meets the rule
+unfoldable pub newly : (n k : ℕ) (F m : ℕ → Bool) (x : ℕ) → Bool
+newly n k F m x = not (F x) && (not (m x) && meets n k F m x)
+
+-- the marks after r rounds
+unfoldable pub marked : (n k : ℕ) (F : ℕ → Bool) (r x : ℕ) → Bool
+marked n k F zero x = false
+marked n k F (suc r) x = marked n k F r x || newly n k F (marked n k F r) x
+
+-- round r + 1 marks nothing new
+unfoldable pub quiet : (n k : ℕ) (F : ℕ → Bool) (r : ℕ) → Bool
+quiet n k F r = eqb (count (2 ^ n) (newly n k F (marked n k F r))) 0
+
+-- how many nodes work
+unfoldable pub working : (n : ℕ) (F : ℕ → Bool) → ℕ
+working n F = count (2 ^ n) (λ x. not (F x))
+
+-- how many rounds marked something new: the first quiet one is looked for among as many as there are working nodes, which is enough
+unfoldable pub rounds : (n k : ℕ) (F : ℕ → Bool) → ℕ
+rounds n k F = least (working n F) (quiet n k F)
+
+-- x works and has no mark when the rounds have come to rest
+unfoldable pub safe : (n k : ℕ) (F : ℕ → Bool) (x : ℕ) → Bool
+safe n k F x = not (F x || marked n k F (rounds n k F) x)
+
+-- the label byte of x, where S are the safe nodes: 0 safe; unsafe: 1 with a safe neighbour, 2 without
+unfoldable pub labelOf : (n : ℕ) (F : ℕ → Bool) (out : ℕ → ℕ) (S : ℕ → Bool) (x : ℕ) → ℕ
+labelOf n F out S x = cond (F x) (out x) (cond (S x) 0 (cond (some n (λ i. S (flip i x))) 1 2))
+
+unfoldable pub label : (n k : ℕ) (F : ℕ → Bool) (out : ℕ → ℕ) (x : ℕ) → ℕ
+label n k F out = labelOf n F out (safe n k F)

@@ -1,0 +1,225 @@
+// Labelling: which working nodes are safe, ordinarily unsafe or strongly unsafe. The rounds are kept in the lent label table itself, by the
+// bytes that PLAIN, NEW, MARKED and OUT name, in this order, so that each question of the rule is one compare: from MARKED on, from OUT on.
+// The last pass tells ORDINARY apart; PLAIN and MARKED stay as safe and strongly unsafe.
+ghost use Prim.Native.Nat.{_/_, _<_, _≤_, _^_};
+ghost use Rattle.cube.specs.Count.{count, some};
+ghost use Rattle.cube.specs.Cube.{flip};
+ghost use Rattle.cube.specs.Tables.{nodeBit, tab, tableLen};
+ghost use Rattle.labels.specs.Labelling.{labelRefusal, labelled, labelsAfter, labelsOf, roundsOf};
+ghost use Rattle.labels.specs.Passes.{countFrom, fresh, markIn, oneWhere, ordinary, outIn, plainIn, settled, started};
+ghost use Rattle.labels.specs.Rule.{meets};
+ghost use lib.Dec.{eqb};
+ghost use lib.ListN.{length};
+ghost use mathlib.Core.Bool.{cond};
+ghost use mathlib.Core.Path.{_≡_};
+use cube::is_dimension;
+use cube::neighbour;
+use cube::node_bit;
+use cube::nodes;
+use cube::table_len;
+use cube::unused_set;
+
+const PLAIN: u8 = 0; // no mark; in the end: safe
+
+const NEW: u8 = 1; // marked by this round
+
+const ORDINARY: u8 = 1; // in the end: ordinarily unsafe
+
+const MARKED: u8 = 2; // marked by an earlier round; in the end: strongly unsafe
+
+const OUT: u8 = 3; // this byte and every larger one: does not work
+
+pub enum Labelled {
+    Rounds(usize),
+    Refused(u32),
+}
+
+fn label_refusal(n: usize, faults: &[u8], m: usize) -> u32
+    ensures { λ r. ⌜ r ≡ labelRefusal n (now (faults .entry)) m ⌝ }
+{
+    if !is_dimension(n) {
+        return 1;
+    }
+    if faults.len() != table_len(n) {
+        return 2;
+    }
+    if m != nodes(n) {
+        return 2;
+    }
+    if unused_set(n, faults) {
+        return 3;
+    }
+    0
+}
+
+// What a test adds to a count.
+fn one(b: bool) -> usize
+    ensures { λ r. ⌜ (r ≡ cond b 1 0) × (r ≤ 1) ⌝ }
+{
+    b as usize
+}
+
+// How many neighbours of node x have the byte low or a larger one. Nearly all of labelling's time is spent here, so the bit of the
+// dimension is doubled and not shifted into its place anew.
+fn count_from(n: usize, labels: &[u8], x: usize, low: u8) -> usize
+    requires { ⌜ (n ≤ 12) × ((length (now labels) ≡ 2 ^ n) × (x < 2 ^ n)) ⌝ }
+    ensures { λ r. ⌜ r ≡ countFrom n (now (labels .entry)) x low ⌝ }
+{
+    let mut found: usize = 0;
+    let mut bit: usize = 1;
+    let mut i: usize = 0;
+    while i < n {
+        found = found + one(labels[x ^ bit] >= low);
+        bit = bit * 2;
+        i = i + 1;
+    }
+    found
+}
+
+// Whether node x meets the rule with the marks of the earlier rounds. The neighbours that do not work are among the bad ones, so only two
+// bad ones leave it open.
+fn meets_rule(n: usize, labels: &[u8], x: usize) -> bool
+    requires { ⌜ (n ≤ 12) × ((length (now labels) ≡ 2 ^ n) × (x < 2 ^ n)) ⌝ }
+    ensures { λ r. ⌜ r ≡ meets n 3 (outIn (now (labels .entry))) (markIn (now (labels .entry))) x ⌝ }
+{
+    let bad = count_from(n, labels, x, MARKED);
+    if bad != 2 {
+        return 3 <= bad;
+    }
+    2 <= count_from(n, labels, x, OUT)
+}
+
+// Whether this round marks node x.
+fn is_fresh(n: usize, labels: &[u8], x: usize) -> bool
+    requires { ⌜ (n ≤ 12) × ((length (now labels) ≡ 2 ^ n) × (x < 2 ^ n)) ⌝ }
+    ensures { λ r. ⌜ r ≡ fresh n 3 (now (labels .entry)) x ⌝ }
+{
+    if labels[x] != PLAIN {
+        return false;
+    }
+    meets_rule(n, labels, x)
+}
+
+// Whether node x has a neighbour without a mark: in the end, a safe one.
+fn plain_near(n: usize, labels: &[u8], x: usize) -> bool
+    requires { ⌜ (n ≤ 12) × ((length (now labels) ≡ 2 ^ n) × (x < 2 ^ n)) ⌝ }
+    ensures { λ r. ⌜ r ≡ some n (λ i. plainIn (now (labels .entry)) (flip i x)) ⌝ }
+{
+    let mut i = 0;
+    while i < n {
+        if labels[neighbour(x, i)] == PLAIN {
+            return true;
+        }
+        i = i + 1;
+    }
+    false
+}
+
+// Whether node x is unsafe and has a safe neighbour.
+fn is_ordinary(n: usize, labels: &[u8], x: usize) -> bool
+    requires { ⌜ (n ≤ 12) × ((length (now labels) ≡ 2 ^ n) × (x < 2 ^ n)) ⌝ }
+    ensures { λ r. ⌜ r ≡ ordinary n (now (labels .entry)) x ⌝ }
+{
+    if labels[x] != MARKED {
+        return false;
+    }
+    plain_near(n, labels, x)
+}
+
+fn start_byte(faults: &[u8], k: usize) -> u8
+    requires { ⌜ k / 8 < length (now faults) ⌝ }
+    ensures { λ r. ⌜ r ≡ started (nodeBit (now (faults .entry))) (λ _. 3) k ⌝ }
+{
+    if node_bit(faults, k) { OUT } else { PLAIN }
+}
+
+// The table before the first round.
+fn start(n: usize, faults: &[u8], labels: &mut [u8])
+    requires { ⌜ (length (now faults) ≡ tableLen n) × (length (now labels) ≡ 2 ^ n) ⌝ }
+    ensures { λ _. ⌜ now (labels .exit) ≡ tab (2 ^ n) (started (nodeBit (now (faults .entry))) (λ _. 3)) ⌝ }
+{
+    let mut k: usize = 0;
+    while k < labels.len() {
+        labels[k] = start_byte(faults, k);
+        k = k + 1;
+    }
+}
+
+// The marks of one round; answers how many.
+fn sweep(n: usize, labels: &mut [u8]) -> usize
+    requires { ⌜ (n ≤ 12) × (length (now labels) ≡ 2 ^ n) ⌝ }
+    ensures { λ r. ⌜ (r ≡ count (2 ^ n) (fresh n 3 (now (labels .entry)))) × (now (labels .exit) ≡ tab (2 ^ n) (oneWhere (fresh n 3 (now (labels .entry))) (now (labels .entry)))) ⌝ }
+{
+    let mut marked: usize = 0;
+    let mut x: usize = 0;
+    while x < labels.len() {
+        if is_fresh(n, labels, x) {
+            labels[x] = NEW;
+            marked = marked + 1;
+        }
+        x = x + 1;
+    }
+    marked
+}
+
+fn settled_byte(byte: u8) -> u8
+    ensures { λ r. ⌜ r ≡ cond (eqb byte 1) 2 byte ⌝ }
+{
+    if byte == NEW { MARKED } else { byte }
+}
+
+// The end of a round that marked something.
+fn settle(labels: &mut [u8])
+    ensures { λ _. ⌜ now (labels .exit) ≡ tab (length (now (labels .entry))) (settled (now (labels .entry))) ⌝ }
+{
+    let mut x: usize = 0;
+    while x < labels.len() {
+        labels[x] = settled_byte(labels[x]);
+        x = x + 1;
+    }
+}
+
+// The end of labelling: tells the ordinarily unsafe nodes from the strongly unsafe ones.
+fn finish(n: usize, labels: &mut [u8])
+    requires { ⌜ (n ≤ 12) × (length (now labels) ≡ 2 ^ n) ⌝ }
+    ensures { λ _. ⌜ now (labels .exit) ≡ tab (2 ^ n) (oneWhere (ordinary n (now (labels .entry))) (now (labels .entry))) ⌝ }
+{
+    let mut x: usize = 0;
+    while x < labels.len() {
+        if is_ordinary(n, labels, x) {
+            labels[x] = ORDINARY;
+        }
+        x = x + 1;
+    }
+}
+
+// Labels every node of an accepted table and answers the number of rounds that marked something new.
+fn label_nodes(n: usize, faults: &[u8], labels: &mut [u8]) -> usize
+    requires { ⌜ (n ≤ 12) × ((length (now faults) ≡ tableLen n) × (length (now labels) ≡ 2 ^ n)) ⌝ }
+    ensures { λ r. ⌜ (r ≡ roundsOf n (now (faults .entry))) × (now (labels .exit) ≡ labelsOf n (now (faults .entry))) ⌝ }
+{
+    start(n, faults, labels);
+    let mut rounds: usize = 0;
+    loop {
+        let marked = sweep(n, labels);
+        if marked == 0 {
+            break;
+        }
+        settle(labels);
+        rounds = rounds + 1;
+    }
+    finish(n, labels);
+    rounds
+}
+
+// Labels every node and answers the number of rounds that marked something new, or refuses and leaves the label table as it was.
+pub fn label(n: usize, faults: &[u8], labels: &mut [u8]) -> Labelled
+    ensures { λ r. ⌜ (r ≡ labelled n (now (faults .entry)) (length (now (labels .entry)))) × (now (labels .exit) ≡ labelsAfter n (now (faults .entry)) (now (labels .entry))) ⌝ }
+{
+    let refusal = label_refusal(n, faults, labels.len());
+    if refusal != 0 {
+        return Labelled::Refused(refusal);
+    }
+    let rounds = label_nodes(n, faults, labels);
+    Labelled::Rounds(rounds)
+}
