@@ -1,0 +1,45 @@
+-- `above_three`: the first x bytes joined are above 3 exactly where one of them is. The measure is what is left of the table.
+use mathlib.Core.Path.{_≡_, refl, ap, _∙_}
+use Prim.Native.Nat.{ℕ, _≤_, _-_}
+use native.Mathlib.Omega.{arith}
+use lib.Dec.{ltb}
+use lib.ListN.{length}
+use Rattle.cube.specs.Count.{least, some}
+use Rattle.cube.specs.Tables.{labelIn}
+use Rattle.route.proofs.Filled.{joined-more}
+use Rattle.route.proofs.walks.above_three.Statement.{statement}
+use Rattle.route.proofs.walks.above_three.Tie as tie
+
+abbrev Inv-loop : tie.InvT-loop
+Inv-loop labels any₀ x₀ any x = (x ≤ length labels) × (ltb 3 any ≡ some x (λ k. ltb 3 (labelIn labels k)))
+
+abbrev μ-loop : tie.MeasureT-loop
+μ-loop labels any₀ x₀ any x = length labels - x
+
+loop-holds : tie.Need-loop-holds Inv-loop μ-loop
+unfolding some least
+loop-holds c = (omega arith, refl)
+
+shared-slice-read-any : tie.Need-shared-slice-read-any Inv-loop μ-loop
+shared-slice-read-any c = omega arith
+
+add-x : tie.Need-add-x Inv-loop μ-loop
+add-x c = omega arith
+
+loop-less : tie.Need-loop-less Inv-loop μ-loop
+loop-less c = omega arith
+
+loop-again : tie.Need-loop-again Inv-loop μ-loop
+unfolding labelIn
+loop-again c =
+    let l = c .before .before .loop in
+    (omega arith, joined-more (labelIn (c .before .before .before .args .labels .now)) (l .any) (l .x) (l .inv .1))
+
+returns : tie.Need-returns Inv-loop μ-loop
+returns c =
+    let t = c .before .before .args .labels .now in
+    let e : c .before .loop .x ≡ length t = omega arith in
+    c .before .loop .inv .1 ∙ ap (λ (k : ℕ). some k (λ j. ltb 3 (labelIn t j))) e
+
+pub above-three-spec : {M : Type 1} → statement M
+above-three-spec = tie.close (tie.spec Inv-loop μ-loop loop-holds shared-slice-read-any add-x loop-less loop-again returns)

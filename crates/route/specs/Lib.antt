@@ -1,0 +1,3 @@
+pub mod Hop
+pub mod Walk
+pub mod Helpers

@@ -1,0 +1,192 @@
+// Routing: the decision at a node, the travelling message, and the walk.
+// `hop` and `walk` are the questions: they take any numbers and bytes, and test them. The other functions are theirs.
+ghost use Prim.Native.Nat.{_<_, _≤_, _^_};
+ghost use Rattle.cube.specs.Count.{least, some};
+ghost use Rattle.cube.specs.Cube.{flip};
+ghost use Rattle.cube.specs.Tables.{labelIn};
+ghost use Rattle.route.specs.Helpers.{across, chosen, gathered, placeRefusal, takes};
+ghost use Rattle.route.specs.Hop as spec;
+ghost use Rattle.route.specs.Walk.{moved};
+ghost use lib.Dec.{ltb};
+ghost use lib.ListN.{getD, length, replicate};
+ghost use mathlib.Core.Path.{_≡_};
+
+mod walks;
+
+use cube::distance;
+use cube::is_dimension;
+use cube::neighbour;
+use cube::nodes;
+pub use walks::walk;
+
+// The decision at a node.
+pub enum Decision {
+    Deliver,
+    Hop(usize),
+    Halted,
+}
+
+pub enum Hopped {
+    Decided(Decision),
+    Refused(u32),
+}
+
+// The travelling message: where it is, where it goes, and its hops so far.
+pub struct Message {
+    pub at: usize,
+    pub to: usize,
+    pub hops: usize,
+}
+
+pub enum Ending {
+    Delivered,
+    Halted,
+    Refused(u32),
+}
+
+pub struct Walked {
+    pub row: [u16; 17],
+    pub hops: usize,
+    pub ending: Ending,
+}
+
+// The refusals that need no label, 0 for none: of two nodes, and a label table of len bytes.
+fn place_refusal(n: usize, a: usize, b: usize, len: usize) -> u32
+    ensures { λ r. ⌜ r ≡ placeRefusal n a b len ⌝ }
+{
+    if !is_dimension(n) {
+        return 1;
+    }
+    let size = nodes(n);
+    if len != size {
+        return 2;
+    }
+    if (size <= a) | (size <= b) {
+        return 5;
+    }
+    0
+}
+
+// Reads the labels of c's neighbours, each once, into the first n places of near, and answers whether one is above 3. step is 2 ^ i.
+// The labels are joined by `|`: 3 is both low bits, so one of them is above 3 exactly where the whole is.
+fn gather(n: usize, labels: &[u8], c: usize, near: &mut [u8; 12]) -> bool
+    requires { ⌜ (n ≤ 12) × (c < 2 ^ n) × (length (now labels) ≡ 2 ^ n) × (now near ≡ replicate 12 0) ⌝ }
+    ensures { λ r. ⌜ now (near .exit) ≡ gathered n (labelIn (now (labels .entry))) c ⌝ }
+    ensures { λ r. ⌜ r ≡ some n (λ i. ltb 3 (labelIn (now (labels .entry)) (flip i c))) ⌝ }
+{
+    let mut any = 0u8;
+    let mut step: usize = 1;
+    let mut i = 0;
+    while i < n {
+        let y = labels[c ^ step];
+        near[i] = y;
+        any = any | y;
+        step = step + step;
+        i += 1;
+    }
+    3 < any
+}
+
+// The lowest dimension of a set whose neighbour's label is at most top; n where there is none. The bits of a number are the set's dimensions:
+// its trailing zeros give the lowest of them, and `rest & (rest - 1)` is the rest without it.
+fn lowest(n: usize, set: usize, near: &[u8; 12], top: u8) -> usize
+    requires { ⌜ (n ≤ 12) × (set < 2 ^ n) ⌝ }
+    ensures { λ r. ⌜ r ≡ least n (takes set (λ i. getD (now (near .entry)) i 0) top) ⌝ }
+{
+    let mut rest = set;
+    while rest != 0 {
+        let i = usize::trailing_zeros(rest) as usize;
+        if near[i] <= top {
+            return i;
+        }
+        rest = rest & (rest - 1);
+    }
+    n
+}
+
+// The third scan: a strongly unsafe node is entered from another, or near the destination.
+fn third(n: usize, c: usize, d: usize, own: u8, near: &[u8; 12]) -> usize
+    requires { ⌜ (n ≤ 12) × (c < 2 ^ n) × (d < 2 ^ n) ⌝ }
+    ensures { λ r. ⌜ r ≡ spec.lowest n c d own (λ i. getD (now (near .entry)) i 0) 3 ⌝ }
+{
+    if (own == 2) | (distance(c, d) <= 2) {
+        return lowest(n, c ^ d, near, 2);
+    }
+    n
+}
+
+// The dimension that the first of the five scans takes at c, whose label is own and whose neighbours' labels are near; n where none takes one.
+fn chosen(n: usize, c: usize, d: usize, own: u8, near: &[u8; 12]) -> usize
+    requires { ⌜ (n ≤ 12) × (c < 2 ^ n) × (d < 2 ^ n) ⌝ }
+    ensures { λ r. ⌜ r ≡ chosen n c d own (λ i. getD (now (near .entry)) i 0) ⌝ }
+{
+    let forward = c ^ d;
+    let i1 = lowest(n, forward, near, 0);
+    if i1 < n {
+        return i1;
+    }
+    let i2 = lowest(n, forward, near, 1);
+    if i2 < n {
+        return i2;
+    }
+    let i3 = third(n, c, d, own, near);
+    if i3 < n {
+        return i3;
+    }
+    let spare = forward ^ (nodes(n) - 1);
+    let i4 = lowest(n, spare, near, 0);
+    if i4 < n {
+        return i4;
+    }
+    lowest(n, spare, near, 1)
+}
+
+// The decision away from the destination, by the dimension chosen, n for none.
+fn across(n: usize, i: usize) -> Decision
+    ensures { λ r. ⌜ r ≡ across n i ⌝ }
+{
+    if i < n {
+        return Decision::Hop(i);
+    }
+    Decision::Halted
+}
+
+// The decision at c on the way to d. It reads c's label and each neighbour's once, and no other byte.
+pub fn hop(n: usize, c: usize, d: usize, labels: &[u8]) -> Hopped
+    ensures { λ r. ⌜ r ≡ spec.hopped n c d (now (labels .entry)) ⌝ }
+{
+    let k = place_refusal(n, c, d, labels.len());
+    if k != 0 {
+        return Hopped::Refused(k);
+    }
+    let own = labels[c];
+    let mut near = [0u8; 12];
+    let high = gather(n, labels, c, &mut near);
+    if (3 < own) | high {
+        return Hopped::Refused(4);
+    }
+    if own == 3 {
+        return Hopped::Refused(6);
+    }
+    if c == d {
+        return Hopped::Decided(Decision::Deliver);
+    }
+    Hopped::Decided(across(n, chosen(n, c, d, own, &near)))
+}
+
+impl Message {
+    // The message one hop on, across dimension i.
+    fn moved(self, i: usize) -> Self
+        requires { ⌜ (i < 64) × (self .hops < 64) ⌝ }
+        ensures { λ r. ⌜ r ≡ moved self i ⌝ }
+    {
+        let at = self.at;
+        let hops = self.hops;
+        let next = neighbour(at, i);
+        Message {
+            at: next,
+            to: self.to,
+            hops: hops + 1,
+        }
+    }
+}
