@@ -1,0 +1,2 @@
+pub mod Reader
+pub mod Reading
