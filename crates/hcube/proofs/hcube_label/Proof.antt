@@ -1,0 +1,60 @@
+-- `hcube_label` packs the answer of `label`, whose parts are small.
+use mathlib.Core.Path.{sym, ap, _∙_}
+use native.Mathlib.Omega.{arith}
+use lib.ListN.{length}
+use Rattle.hcube.specs.Answers.{labelNumber}
+use Rattle.hcube.proofs.Small.{label-small}
+use borrow.Author.Needs.{needs}
+use Rattle.hcube.proofs.hcube_label.Statement.{statement}
+use Rattle.hcube.proofs.hcube_label.Tie as tie
+
+label-requires : tie.Need-label-requires
+label-requires c κs = search needs
+
+enum-known-answer : tie.Need-enum-known-answer
+enum-known-answer c = search needs
+
+pack-requires : tie.Need-pack-requires
+pack-requires c κs =
+    let a = c .before .before .before .before .before .before .before .before .before .args in
+    let f = label-small (a .n) (a .faults .now) (length (a .labels .now)) in
+    (omega arith, (omega arith, rw (sym (c .before .before .before .before .before .label .ensures .0) ∙ c .before .answer .given .1) at (f .1)))
+
+enum-known-answer-2 : tie.Need-enum-known-answer-2
+enum-known-answer-2 c = search needs
+
+pack-requires-2 : tie.Need-pack-requires-2
+pack-requires-2 c κs =
+    let a = c .before .before .before .before .before .before .before .before .before .args in
+    let f = label-small (a .n) (a .faults .now) (length (a .labels .now)) in
+    (rw (sym (c .before .before .before .before .before .label .ensures .0) ∙ c .before .answer2 .given .1) at (f .0), (omega arith, omega arith))
+
+same-length : tie.Need-same-length
+same-length c = search needs
+
+returns : tie.Need-returns
+returns c =
+    let e = c .before .before .before .before .before .before .label .ensures in
+    (c .pack .ensures ∙ ap labelNumber (sym (c .before .before .answer .given .1) ∙ e .0), e .1)
+
+same-length-2 : tie.Need-same-length-2
+same-length-2 c = search needs
+
+returns-2 : tie.Need-returns-2
+returns-2 c =
+    let e = c .before .before .before .before .before .before .label .ensures in
+    (c .pack2 .ensures ∙ ap labelNumber (sym (c .before .before .answer2 .given .1) ∙ e .0), e .1)
+
+pub hcube-label-spec : {M : Type 1} → statement M
+hcube-label-spec =
+    tie.close
+    (tie.spec
+    label-requires
+    enum-known-answer
+    pack-requires
+    enum-known-answer-2
+    pack-requires-2
+    same-length
+    returns
+    same-length-2
+    returns-2)

@@ -1,0 +1,56 @@
+-- `hcube_read_notice` packs the answer of `read`, whose parts are small.
+use mathlib.Core.Path.{sym, ap, _∙_}
+use native.Mathlib.Omega.{arith}
+use Rattle.notice.proofs.Refusals.{parts, refused-few}
+use Rattle.hcube.specs.Answers.{noticeNumber}
+use borrow.Author.Needs.{needs}
+use Rattle.hcube.proofs.hcube_read_notice.Statement.{statement}
+use Rattle.hcube.proofs.hcube_read_notice.Tie as tie
+
+read-requires : tie.Need-read-requires
+read-requires c κs = search needs
+
+enum-known-answer : tie.Need-enum-known-answer
+enum-known-answer c = search needs
+
+pack-notice-requires : tie.Need-pack-notice-requires
+pack-notice-requires c κs =
+    let p = parts _ _ _ _ _ (sym (c .before .before .before .before .before .read .ensures .0) ∙ c .before .answer .given .1) in
+    (omega arith, (p .dimension, (p .count, p .short)))
+
+enum-known-answer-2 : tie.Need-enum-known-answer-2
+enum-known-answer-2 c = search needs
+
+pack-notice-requires-2 : tie.Need-pack-notice-requires-2
+pack-notice-requires-2 c κs =
+    (refused-few _ _ _ (sym (c .before .before .before .before .before .read .ensures .0) ∙ c .before .answer2 .given .1), (omega arith, (omega arith, omega arith)))
+
+same-length : tie.Need-same-length
+same-length c = search needs
+
+returns : tie.Need-returns
+returns c =
+    let e = c .before .before .before .before .before .before .read .ensures in
+    (c .pack-notice .ensures ∙ ap noticeNumber (sym (c .before .before .answer .given .1) ∙ e .0), e .1)
+
+same-length-2 : tie.Need-same-length-2
+same-length-2 c = search needs
+
+returns-2 : tie.Need-returns-2
+returns-2 c =
+    let e = c .before .before .before .before .before .before .read .ensures in
+    (c .pack-notice2 .ensures ∙ ap noticeNumber (sym (c .before .before .answer2 .given .1) ∙ e .0), e .1)
+
+pub hcube-read-notice-spec : {M : Type 1} → statement M
+hcube-read-notice-spec =
+    tie.close
+    (tie.spec
+    read-requires
+    enum-known-answer
+    pack-notice-requires
+    enum-known-answer-2
+    pack-notice-requires-2
+    same-length
+    returns
+    same-length-2
+    returns-2)

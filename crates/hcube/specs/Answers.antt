@@ -1,0 +1,51 @@
+-- What C is answered, and what the row's buffer then holds: document 01's number of the answer that the library's own function gives.
+use mathlib.Core.Bool.{Bool, true, false, cond, not, _&&_}
+use mathlib.Core.List.{List}
+use Prim.Native.Nat.{ℕ, _+_, _*_, _/_, _%_}
+use lib.Dec.{eqb}
+use lib.ListN.{getD}
+use Rattle.cube.specs.Answer.{packed}
+use Rattle.cube.specs.Tables.{isDimension, tab}
+use Rattle.labels.specs.Labelling as L
+use Rattle.labels.specs.declared.Labelled.{Labelled}
+use Rattle.notice.specs.Notice as N
+use Rattle.notice.specs.declared.Noticed.{Noticed}
+use Rattle.route.specs.Hop as H
+use Rattle.route.specs.Walk as W
+use Rattle.route.specs.declared.Ending.{Ending}
+use Rattle.route.specs.declared.Ending.the-variants as ending
+use Rattle.route.specs.declared.Hopped.{Hopped}
+use Rattle.route.specs.declared.Walked.{Walked}
+
+-- labelling: kind 0, the value is the round count
+abbrev pub labelNumber : Labelled → ℕ
+labelNumber a = packed (L.refusalOf a) 0 (L.valueOf a)
+
+-- hop: kind 0 deliver, 1 hop, with the dimension as the value, 2 halted
+abbrev pub hopNumber : Hopped → ℕ
+hopNumber a = packed (H.refusalOf a) (H.kindOf a) (H.valueOf a)
+
+-- walk: kind 0 delivered, 1 halted, the value is the hop count
+abbrev pub walkNumber : Walked → ℕ
+walkNumber w = packed (W.refusalOf (w .ending)) (W.kindOf (w .ending)) (w .hops)
+
+-- a notice: refusal * 2 ^ 48 + dimension * 2 ^ 32 + count * 2 ^ 16 + bytes taken
+abbrev pub noticeNumber : Noticed → ℕ
+noticeNumber a = N.refusalOf a * 281474976710656 + N.dimensionOf a * 4294967296 + N.countOf a * 65536 + N.takenOf a
+
+-- the walk with a row of m bytes: refused with 2 where m is not 34, directly after the label table
+unfoldable pub walkedFor : (n s d : ℕ) (labels : List ℕ) (m : ℕ) → Walked
+walkedFor n s d labels m = cond (isDimension n && not (eqb m 34)) (W.refused 2) (W.walked n s d labels)
+
+-- byte k of a row: two bytes a node, low byte first
+unfoldable pub rowByte : (row : List ℕ) (k : ℕ) → ℕ
+rowByte row k = cond (eqb (k % 2) 0) (getD row (k / 2) 0 % 256) (getD row (k / 2) 0 / 256 % 256)
+
+abbrev pub accepted : Ending → Bool
+accepted ending.Delivered = true
+accepted ending.Halted = true
+accepted (ending.Refused k) = false
+
+-- the row's buffer afterwards: all 34 bytes written, or every byte kept
+unfoldable pub rowAfter : Walked → (before : List ℕ) → List ℕ
+rowAfter w before = cond (accepted (w .ending)) (tab 34 (rowByte (w .row))) before

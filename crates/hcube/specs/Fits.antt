@@ -1,0 +1,24 @@
+-- What the functions inside the crate may assume of an answer: its parts are small enough to be packed, and a row that is written has its 34 bytes.
+-- proofs/Small.antt shows it of every answer.
+use mathlib.Core.Bool.{true}
+use mathlib.Core.Path.{_≡_}
+use Prim.Native.Nat.{ℕ, _<_}
+use Rattle.labels.specs.Labelling as L
+use Rattle.labels.specs.declared.Labelled.{Labelled}
+use Rattle.route.specs.Hop as H
+use Rattle.route.specs.Walk as W
+use Rattle.route.specs.declared.Hopped.{Hopped}
+use Rattle.route.specs.declared.Walked.{Walked}
+use Rattle.hcube.specs.Answers.{accepted}
+
+abbrev pub LabelFits : Labelled → Type 0
+LabelFits a = (L.refusalOf a < 256) × (L.valueOf a < 65536)
+
+abbrev pub HopFits : Hopped → Type 0
+HopFits a = (H.refusalOf a < 256) × (H.valueOf a < 65536)
+
+abbrev pub WalkFits : Walked → Type 0
+WalkFits w = (W.refusalOf (w .ending) < 256) × (w .hops < 65536)
+
+abbrev pub RowFits : Walked → (m : ℕ) → Type 0
+RowFits w m = accepted (w .ending) ≡ true → m ≡ 34

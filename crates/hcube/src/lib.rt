@@ -1,0 +1,163 @@
+// What C calls: plain numbers and byte slices in, one number out. include/hcube.h is the C side of it. C's numbers are widened and never
+// narrowed, so none is mistaken for a smaller one.
+ghost use Prim.Native.Nat.{_+_, _*_, _<_, _≤_};
+ghost use Rattle.cube.specs.Answer.{packed};
+ghost use Rattle.cube.specs.Tables.{tab};
+ghost use Rattle.hcube.specs.Answers.{accepted, hopNumber, labelNumber, noticeNumber, rowAfter, rowByte, walkNumber, walkedFor};
+ghost use Rattle.hcube.specs.Fits.{RowFits, WalkFits};
+ghost use Rattle.labels.specs.Labelling.{labelled, labelsAfter};
+ghost use Rattle.notice.specs.Notice.{noticed, tableAfter};
+ghost use Rattle.route.specs.Hop.{decisionKind, decisionValue, hopped};
+ghost use lib.ListN.{length};
+ghost use mathlib.Core.Path.{_≡_};
+use cube::is_dimension;
+use labels::Labelled;
+use notice::Noticed;
+use route::Decision;
+use route::Ending;
+use route::Hopped;
+use route::Walked;
+
+// One number for the refusal, the kind and the value.
+fn pack(refusal: u32, kind: u32, value: usize) -> u32
+    requires { ⌜ (refusal < 256) × ((kind < 256) × (value < 65536)) ⌝ }
+    ensures { λ r. ⌜ r ≡ packed refusal kind value ⌝ }
+{
+    refusal * 16777216 + kind * 65536 + value as u32
+}
+
+#[no_mangle]
+pub extern "C" fn hcube_label(n: u32, faults: &[u8], labels: &mut [u8]) -> u32
+    ensures answer { λ r. ⌜ r ≡ labelNumber (labelled n (now (faults .entry)) (length (now (labels .entry)))) ⌝ }
+    ensures labels { λ r. ⌜ now (labels .exit) ≡ labelsAfter n (now (faults .entry)) (now (labels .entry)) ⌝ }
+{
+    let answer = labels::label(n as usize, faults, labels);
+    match answer {
+        Labelled::Rounds(rounds) => pack(0, 0, rounds),
+        Labelled::Refused(k) => pack(k, 0, 0),
+    }
+}
+
+fn pack_decision(x: Decision) -> u32
+    requires { ⌜ decisionValue x < 65536 ⌝ }
+    ensures { λ r. ⌜ r ≡ packed 0 (decisionKind x) (decisionValue x) ⌝ }
+{
+    match x {
+        Decision::Deliver => pack(0, 0, 0),
+        Decision::Hop(i) => pack(0, 1, i),
+        Decision::Halted => pack(0, 2, 0),
+    }
+}
+
+#[no_mangle]
+pub extern "C" fn hcube_hop(n: u32, c: u32, d: u32, labels: &[u8]) -> u32
+    ensures { λ r. ⌜ r ≡ hopNumber (hopped n c d (now (labels .entry))) ⌝ }
+{
+    let answer = route::hop(n as usize, c as usize, d as usize, labels);
+    match answer {
+        Hopped::Refused(k) => pack(k, 0, 0),
+        Hopped::Decided(x) => pack_decision(x),
+    }
+}
+
+// Byte k of a row, two bytes a node, low byte first.
+fn row_byte(row: &[u16; 17], k: usize) -> u8
+    requires { ⌜ k < 34 ⌝ }
+    ensures { λ r. ⌜ r ≡ rowByte (now (row .entry)) k ⌝ }
+{
+    let node = row[k / 2];
+    if k % 2 == 0 {
+        return (node % 256) as u8;
+    }
+    (node / 256 % 256) as u8
+}
+
+fn put_row(row: &[u16; 17], out: &mut [u8])
+    requires { ⌜ length (now out) ≡ 34 ⌝ }
+    ensures { λ _. ⌜ now (out .exit) ≡ tab 34 (rowByte (now (row .entry))) ⌝ }
+{
+    let mut k: usize = 0;
+    while k < 34 {
+        out[k] = row_byte(row, k);
+        k += 1;
+    }
+}
+
+// The walk with a row of m bytes for C: any other length than 34 is refused with 2.
+fn walk_for(n: usize, s: usize, d: usize, labels: &[u8], m: usize) -> Walked
+    ensures { λ r. ⌜ r ≡ walkedFor n s d (now (labels .entry)) m ⌝ }
+{
+    if is_dimension(n) & (m != 34) {
+        return Walked {
+            row: [0u16; 17],
+            hops: 0,
+            ending: Ending::Refused(2),
+        };
+    }
+    route::walk(n, s, d, labels)
+}
+
+fn pack_walk(walked: Walked) -> u32
+    requires { ⌜ WalkFits walked ⌝ }
+    ensures { λ r. ⌜ r ≡ walkNumber walked ⌝ }
+{
+    let hops = walked.hops;
+    let ending = walked.ending;
+    match ending {
+        Ending::Delivered => pack(0, 0, hops),
+        Ending::Halted => pack(0, 1, hops),
+        Ending::Refused(k) => pack(k, 0, hops),
+    }
+}
+
+fn is_accepted(ending: Ending) -> bool
+    ensures { λ r. ⌜ r ≡ accepted ending ⌝ }
+{
+    match ending {
+        Ending::Delivered => true,
+        Ending::Halted => true,
+        Ending::Refused(_) => false,
+    }
+}
+
+// Writes the row of a walk that is not refused.
+fn write_row(walked: Walked, row: &mut [u8])
+    requires { ⌜ RowFits walked (length (now row)) ⌝ }
+    ensures { λ _. ⌜ now (row .exit) ≡ rowAfter walked (now (row .entry)) ⌝ }
+{
+    let nodes = walked.row;
+    let ending = walked.ending;
+    if is_accepted(ending) {
+        put_row(&nodes, row);
+    }
+}
+
+#[no_mangle]
+pub extern "C" fn hcube_walk(n: u32, s: u32, d: u32, labels: &[u8], row: &mut [u8]) -> u32
+    ensures answer { λ r. ⌜ r ≡ walkNumber (walkedFor n s d (now (labels .entry)) (length (now (row .entry)))) ⌝ }
+    ensures row { λ r. ⌜ now (row .exit) ≡ rowAfter (walkedFor n s d (now (labels .entry)) (length (now (row .entry)))) (now (row .entry)) ⌝ }
+{
+    let walked = walk_for(n as usize, s as usize, d as usize, labels, row.len());
+    write_row(walked, row);
+    pack_walk(walked)
+}
+
+// One number for the refusal of a notice, its dimension, its count and the bytes that it took.
+fn pack_notice(refusal: u32, n: usize, m: usize, taken: usize) -> u64
+    requires { ⌜ (refusal ≤ 12) × ((n ≤ 12) × ((m ≤ 4096) × (taken ≤ 4099))) ⌝ }
+    ensures { λ r. ⌜ r ≡ refusal * 281474976710656 + n * 4294967296 + m * 65536 + taken ⌝ }
+{
+    refusal as u64 * 281474976710656 + n as u64 * 4294967296 + m as u64 * 65536 + taken as u64
+}
+
+#[no_mangle]
+pub extern "C" fn hcube_read_notice(bytes: &[u8], faults: &mut [u8]) -> u64
+    ensures answer { λ r. ⌜ r ≡ noticeNumber (noticed (now (bytes .entry)) (now (faults .entry))) ⌝ }
+    ensures faults { λ r. ⌜ now (faults .exit) ≡ tableAfter (now (bytes .entry)) (now (faults .entry)) ⌝ }
+{
+    let answer = notice::read(bytes, faults);
+    match answer {
+        Noticed::Notice(n, m, taken) => pack_notice(0, n, m, taken),
+        Noticed::Refused(k) => pack_notice(k, 0, 0, 0),
+    }
+}

@@ -1,0 +1,175 @@
+/*
+ * hcube.h: fault-tolerant routing in a hypercube, as C calls it.
+ *
+ * A cube of dimension n, 1 to 12, has the nodes 0 to 2^n - 1. Nodes whose
+ * numbers differ in bit i alone are neighbours across dimension i.
+ *
+ * Fault table: one bit a node, node k in byte k / 8 at bit k % 8 (bit 0 is the
+ * lowest), HCUBE_FAULT_BYTES(n) bytes; for n = 1 and 2 the unused high bits
+ * are zero. Label table: one byte a node, HCUBE_NODES(n) bytes.
+ *
+ * What holds for every call:
+ * - A pointer is not null and its bytes may be read (where it is not const,
+ *   also written) for the whole length given beside it, also when that length
+ *   is a wrong one. Length 0 is allowed, with any pointer that is not null.
+ * - Lent buffers do not overlap, and nobody else changes them during the call.
+ *   Nothing of them is kept after the call.
+ * - A const buffer never changes, and no byte outside a buffer is written.
+ * - Refusals are tested in the order in which they are listed; the first that
+ *   applies is the answer, with zero in every other field. On a refusal no
+ *   byte of any buffer changes.
+ * - Every input has one answer. There is no state, no allocation, no lock.
+ */
+#ifndef HCUBE_H
+#define HCUBE_H
+
+#ifdef __KERNEL__
+#include <linux/types.h>
+#else
+#include <stddef.h>
+#include <stdint.h>
+#endif
+
+#ifdef __cplusplus
+extern "C" {
+#endif
+
+/* Sizes in bytes: of a label table, a fault table, a walk's row. */
+#define HCUBE_NODES(n) ((size_t)1 << (n))
+#define HCUBE_FAULT_BYTES(n) ((HCUBE_NODES(n) + 7) / 8)
+#define HCUBE_ROW_BYTES 34
+
+/* Labels. */
+#define HCUBE_SAFE 0
+#define HCUBE_ORDINARY 1 /* ordinarily unsafe: some neighbour is safe */
+#define HCUBE_STRONG 2   /* strongly unsafe: no neighbour is safe */
+#define HCUBE_FAULTY 3
+
+/* Refusals. 0 is none: the call was accepted. */
+#define HCUBE_ACCEPTED 0
+#define HCUBE_BAD_DIMENSION 1    /* dimension not 1 to 12 */
+#define HCUBE_BAD_LENGTH 2       /* a lent buffer is not exactly its length */
+#define HCUBE_UNUSED_BIT 3       /* an unused bit is set in the fault table */
+#define HCUBE_BAD_LABEL 4        /* a label byte above 3 */
+#define HCUBE_BAD_NODE 5         /* a node number is 2^n or more */
+#define HCUBE_FAULTY_SOURCE 6    /* source or current node has label 3 */
+#define HCUBE_FAULTY_TARGET 7    /* the walk's destination has label 3 */
+#define HCUBE_TOO_MANY_HOPS 8    /* the walk needs more than n + 4 hops */
+#define HCUBE_CUT_SHORT 9        /* bytes end before a number is complete */
+#define HCUBE_BAD_GROUP 10       /* second group zero or with its high bit */
+#define HCUBE_BAD_COUNT 11       /* count above 2^n */
+#define HCUBE_BAD_ADDRESS 12     /* an address is 2^n or more */
+
+/* Kinds of a hop's answer. */
+#define HCUBE_DELIVER 0
+#define HCUBE_HOP 1
+#define HCUBE_HALTED 2
+
+/* Kinds of a walk's answer. */
+#define HCUBE_WALK_DELIVERED 0
+#define HCUBE_WALK_HALTED 1
+
+/* Parts of the answer of hcube_label, hcube_hop and hcube_walk:
+ * refusal * 16777216 + kind * 65536 + value. */
+#define HCUBE_REFUSAL(answer) ((answer) >> 24)
+#define HCUBE_KIND(answer) (((answer) >> 16) & 0xff)
+#define HCUBE_VALUE(answer) ((answer) & 0xffff)
+
+/* Parts of the answer of hcube_read_notice:
+ * refusal * 2^48 + dimension * 2^32 + count * 2^16 + bytes taken. */
+#define HCUBE_NOTICE_REFUSAL(answer) ((answer) >> 48)
+#define HCUBE_NOTICE_DIMENSION(answer) (((answer) >> 32) & 0xffff)
+#define HCUBE_NOTICE_COUNT(answer) (((answer) >> 16) & 0xffff)
+#define HCUBE_NOTICE_TAKEN(answer) ((answer) & 0xffff)
+
+/*
+ * Labels every node of the cube whose faulty nodes `faults` gives.
+ *
+ * A working node is unsafe if it has two or more faulty neighbours, or three
+ * or more that are faulty or unsafe; this is applied in rounds, all nodes at
+ * once, until a round marks nothing new. An unsafe node is strongly unsafe if
+ * none of its neighbours is safe, otherwise ordinarily unsafe.
+ *
+ * Refusals, in order:
+ *   1  n is not 1 to 12
+ *   2  faults_len is not HCUBE_FAULT_BYTES(n), or labels_len not HCUBE_NODES(n)
+ *   3  n is 1 or 2 and a bit for a node of 2^n or more is set in `faults`
+ * Accepted: kind 0, value the number of rounds that marked something new. All
+ * 2^n bytes of `labels` are written; what they held before does not matter.
+ */
+uint32_t hcube_label(uint32_t n, const uint8_t *faults, size_t faults_len,
+                     uint8_t *labels, size_t labels_len);
+
+/*
+ * Decides one hop at node c of a message for node d. Of the bytes of `labels`
+ * only those of c and of its n neighbours are read. Nothing is written.
+ *
+ * Refusals, in order:
+ *   1  n is not 1 to 12
+ *   2  labels_len is not HCUBE_NODES(n)
+ *   5  c or d is 2^n or more
+ *   4  the label of c or of a neighbour of c is above 3
+ *   6  the label of c is 3
+ * Accepted: kind HCUBE_DELIVER (c is d) with value 0; HCUBE_HOP with the
+ * dimension to cross as value; or HCUBE_HALTED with value 0.
+ *
+ * With l the number of bits in which c and d differ, the dimension is the first
+ * hit of these scans, each from dimension 0 up (forward: c and d differ in it;
+ * spare: they do not):
+ *   1  forward, the neighbour is safe
+ *   2  forward, the neighbour is safe or ordinarily unsafe
+ *   3  forward, the neighbour is not faulty, and c is strongly unsafe or l <= 2
+ *   4  spare, the neighbour is safe
+ *   5  spare, the neighbour is safe or ordinarily unsafe
+ */
+uint32_t hcube_hop(uint32_t n, uint32_t c, uint32_t d,
+                   const uint8_t *labels, size_t labels_len);
+
+/*
+ * Walks from node s to node d, one hcube_hop after the other, over any table
+ * of label bytes 0 to 3.
+ *
+ * Refusals, in order:
+ *   1  n is not 1 to 12
+ *   2  labels_len is not HCUBE_NODES(n), or row_len not HCUBE_ROW_BYTES
+ *   5  s or d is 2^n or more
+ *   4  any byte of `labels` is above 3
+ *   6  the label of s is 3
+ *   7  the label of d is 3
+ *   8  after n + 4 hops the decision is another hop
+ * Accepted: kind HCUBE_WALK_DELIVERED or HCUBE_WALK_HALTED, value the number
+ * of hops. All 34 bytes of `row` are written: the nodes visited, s first, two
+ * bytes a node, low byte first, and zero in the places after the last.
+ */
+uint32_t hcube_walk(uint32_t n, uint32_t s, uint32_t d,
+                    const uint8_t *labels, size_t labels_len,
+                    uint8_t *row, size_t row_len);
+
+/*
+ * Reads the notice at the start of `bytes` into the fault table `faults`.
+ *
+ * A notice is a row of numbers: dimension; count of faulty nodes; the first
+ * faulty node; for each later one, in rising order, its distance from the one
+ * before, less one. A number has one or two groups of seven bits, lowest
+ * first; the high bit is set when another group follows. What stands after the
+ * notice is not read.
+ *
+ * Refusals, from left to right; at each number
+ *   9   `bytes` ends before the number is complete
+ *   10  its second group is zero or has its high bit set
+ * and then, by which number it is,
+ *   1   the dimension is not 1 to 12
+ *   2   after the dimension: faults_len is not HCUBE_FAULT_BYTES(dimension)
+ *   11  the count is above 2^dimension
+ *   12  an address is 2^dimension or more
+ * Accepted: dimension, count, and how many bytes the notice took. All of
+ * `faults` is overwritten.
+ */
+uint64_t hcube_read_notice(const uint8_t *bytes, size_t len,
+                           uint8_t *faults, size_t faults_len);
+
+#ifdef __cplusplus
+}
+#endif
+
+#endif
