@@ -1,0 +1,51 @@
+-- Each contract settles everything: two results that it allows are equal, and so is each lent buffer afterwards. What stands before each name is
+-- the `ensures` of that entry point, with r for the result and `after` for the buffer at exit.
+use mathlib.Core.List.{List}
+use mathlib.Core.Path.{_≡_}
+use Prim.Native.Nat.{ℕ, _+_}
+use lib.ListN.{drop, length}
+use Rattle.groups.specs.Number.{numberAt}
+use Rattle.groups.specs.declared.Number.{Number}
+use Rattle.hcube.specs.Answers.{hopNumber, labelNumber, noticeNumber, rowAfter, walkNumber, walkedFor}
+use Rattle.labels.specs.Labelling.{labelled, labelsAfter}
+use Rattle.labels.specs.declared.Labelled.{Labelled}
+use Rattle.notice.specs.Notice.{noticed, tableAfter, tailAt}
+use Rattle.notice.specs.declared.Noticed.{Noticed}
+use Rattle.reader.specs.Reader.{placeAfter}
+use Rattle.route.specs.Hop.{hopped}
+use Rattle.route.specs.Walk.{walked}
+use Rattle.route.specs.declared.Hopped.{Hopped}
+use Rattle.route.specs.declared.Walked.{Walked}
+
+-- at most one r has P; at most one r and after have P
+abbrev pub One : {A : Type 0} → (A → Type 0) → Type 0
+One {A} P = (r r′ : A) → P r → P r′ → r ≡ r′
+
+abbrev pub OneEach : {A B : Type 0} → (A → B → Type 0) → Type 0
+OneEach {A} {B} P = (r r′ : A) (after after′ : B) → P r after → P r′ after′ → (r ≡ r′) × (after ≡ after′)
+
+pub record Settled : Type 0 where
+  pub groups-number-at : (bytes : List ℕ) (at : ℕ) → One (λ (r : Number). r ≡ numberAt bytes at)
+  pub notice-read : (bytes faults : List ℕ) → OneEach (λ (r : Noticed) (after : List ℕ). (r ≡ noticed bytes faults) × (after ≡ tableAfter bytes faults))
+  -- the returned part: its bytes, and its place in the caller's memory
+  pub notice-tail :
+      (bytes : List ℕ) (block offset : ℕ)
+      → OneEach (λ (r : List ℕ) (place : ℕ × ℕ). (r ≡ drop (tailAt bytes) bytes) × (place ≡ (block, offset + tailAt bytes)))
+  pub labels-label :
+      (n : ℕ) (faults labels : List ℕ)
+      → OneEach (λ (r : Labelled) (after : List ℕ). (r ≡ labelled n faults (length labels)) × (after ≡ labelsAfter n faults labels))
+  pub route-hop : (n c d : ℕ) (labels : List ℕ) → One (λ (r : Hopped). r ≡ hopped n c d labels)
+  pub route-walk : (n s d : ℕ) (labels : List ℕ) → One (λ (r : Walked). r ≡ walked n s d labels)
+  -- the answer, and the place afterwards; the bytes stay the caller's own
+  pub reader-next : (bytes : List ℕ) (at : ℕ) → OneEach (λ (r : Number) (place : ℕ). (r ≡ numberAt bytes at) × (place ≡ placeAfter bytes at))
+  pub hcube-label :
+      (n : ℕ) (faults labels : List ℕ)
+      → OneEach (λ (r : ℕ) (after : List ℕ). (r ≡ labelNumber (labelled n faults (length labels))) × (after ≡ labelsAfter n faults labels))
+  pub hcube-hop : (n c d : ℕ) (labels : List ℕ) → One (λ (r : ℕ). r ≡ hopNumber (hopped n c d labels))
+  pub hcube-walk :
+      (n s d : ℕ) (labels row : List ℕ)
+      → OneEach (λ (r : ℕ) (after : List ℕ).
+      (r ≡ walkNumber (walkedFor n s d labels (length row))) × (after ≡ rowAfter (walkedFor n s d labels (length row)) row))
+  pub hcube-read-notice :
+      (bytes faults : List ℕ)
+      → OneEach (λ (r : ℕ) (after : List ℕ). (r ≡ noticeNumber (noticed bytes faults)) × (after ≡ tableAfter bytes faults))
