@@ -1,0 +1,234 @@
+/*
+ * bench.c: times of the archive as a ratio to the same algorithm in plain C,
+ * compiled by gcc and by clang; the faster of the two counts. The three are run
+ * in turn, and each time is the median of the repetitions.
+ *
+ *   bench REPETITIONS
+ */
+#define _POSIX_C_SOURCE 199309L
+#include <stdio.h>
+#include <stdlib.h>
+#include <string.h>
+#include <time.h>
+
+#include "../include/hcube.h"
+#include "../tests/cases.h"
+#include "plain.h"
+#include "worst.h"
+
+#define MOST_REPETITIONS 201
+#define PAIRS 512u
+
+static uint32_t n;
+static size_t nodes, fault_bytes;
+static uint8_t faults[512], labels[4096], scratch[4096], row[34];
+static uint32_t from[PAIRS], to[PAIRS];
+static unsigned repetitions, above;
+static double highest;
+static volatile uint32_t kept; /* so that no call is left out */
+
+/* ---- the three questions of the three sides */
+
+enum { ARCHIVE, GCC, CLANG, SIDES };
+
+static uint32_t label_once(int side)
+{
+    switch (side) {
+    case ARCHIVE: return hcube_label(n, faults, fault_bytes, scratch, nodes);
+    case GCC: return gcc_label(n, faults, fault_bytes, scratch, nodes);
+    default: return clang_label(n, faults, fault_bytes, scratch, nodes);
+    }
+}
+
+static uint32_t hop_all(int side)
+{
+    uint32_t sum = 0;
+    for (unsigned k = 0; k < PAIRS; k++)
+        sum = sum * 31 +
+              (side == ARCHIVE ? hcube_hop(n, from[k], to[k], labels, nodes)
+               : side == GCC   ? gcc_hop(n, from[k], to[k], labels, nodes)
+                               : clang_hop(n, from[k], to[k], labels, nodes));
+    return sum;
+}
+
+static uint32_t walk_all(int side)
+{
+    uint32_t sum = 0;
+    for (unsigned k = 0; k < PAIRS; k++)
+        sum = sum * 31 +
+              (side == ARCHIVE
+                   ? hcube_walk(n, from[k], to[k], labels, nodes, row, 34)
+               : side == GCC
+                   ? gcc_walk(n, from[k], to[k], labels, nodes, row, 34)
+                   : clang_walk(n, from[k], to[k], labels, nodes, row, 34));
+    return sum;
+}
+
+/* ---- times */
+
+static double now(void)
+{
+    struct timespec time;
+    clock_gettime(CLOCK_PROCESS_CPUTIME_ID, &time);
+    return (double)time.tv_sec * 1e9 + (double)time.tv_nsec;
+}
+
+static double time_of(uint32_t (*question)(int), int side, unsigned calls)
+{
+    double start = now();
+    for (unsigned k = 0; k < calls; k++)
+        kept += question(side);
+    return (now() - start) / calls;
+}
+
+static int by_size(const void *a, const void *b)
+{
+    double x = *(const double *)a, y = *(const double *)b;
+    return (x > y) - (x < y);
+}
+
+static double median(double *times)
+{
+    qsort(times, repetitions, sizeof *times, by_size);
+    return times[repetitions / 2];
+}
+
+/* Prints the archive's nanoseconds and their ratio to the faster plain C. */
+static void measure(uint32_t (*question)(int), unsigned per_call)
+{
+    static double times[SIDES][MOST_REPETITIONS];
+    double middle[SIDES], plain, ratio;
+    unsigned calls = 1 + (unsigned)(2e5 / (time_of(question, GCC, 2) + 1));
+    for (unsigned k = 0; k < repetitions; k++)
+        for (unsigned turn = 0; turn < SIDES; turn++) {
+            unsigned side = (turn + k) % SIDES;
+            times[side][k] = time_of(question, (int)side, calls);
+        }
+    for (unsigned side = 0; side < SIDES; side++)
+        middle[side] = median(times[side]);
+    plain = middle[GCC] < middle[CLANG] ? middle[GCC] : middle[CLANG];
+    ratio = middle[ARCHIVE] / plain;
+    printf(" %10.0f %5.2f %c", middle[ARCHIVE] / per_call, ratio,
+           plain == middle[GCC] ? 'g' : 'c');
+    above += ratio > 1.0;
+    if (ratio > highest)
+        highest = ratio;
+}
+
+/* ---- tables */
+
+static void set_dimension(uint32_t dimension)
+{
+    n = dimension;
+    nodes = HCUBE_NODES(n);
+    fault_bytes = HCUBE_FAULT_BYTES(n);
+    memset(faults, 0, sizeof faults);
+}
+
+static void add_faults(unsigned count)
+{
+    while (count) {
+        uint32_t k = random_below((uint32_t)nodes);
+        if (faults[k / 8] >> (k % 8) & 1)
+            continue;
+        faults[k / 8] |= (uint8_t)(1u << (k % 8));
+        count--;
+    }
+}
+
+static uint32_t working_node(void)
+{
+    uint32_t k;
+    do
+        k = random_below((uint32_t)nodes);
+    while (labels[k] == HCUBE_FAULTY);
+    return k;
+}
+
+/* The three sides answer alike, or the times say nothing. */
+static void expect_alike(uint32_t (*question)(int), const char *name)
+{
+    uint32_t answer = question(ARCHIVE);
+    if (answer == question(GCC) && answer == question(CLANG))
+        return;
+    printf("%s: the archive and plain C answer differently\n", name);
+    exit(1);
+}
+
+static void prepare(void)
+{
+    clang_label(n, faults, fault_bytes, labels, nodes);
+    for (unsigned k = 0; k < PAIRS; k++) {
+        from[k] = working_node();
+        to[k] = working_node();
+    }
+    expect_alike(label_once, "label");
+    expect_alike(hop_all, "hop");
+    expect_alike(walk_all, "walk");
+}
+
+/* Bytes of the label table that one hop reads: fewest and most. */
+static void print_reads(void)
+{
+    unsigned long fewest = ~0ul, most = 0;
+    for (unsigned k = 0; k < PAIRS; k++) {
+        label_reads = 0;
+        counted_hop(n, from[k], to[k], labels, nodes);
+        fewest = label_reads < fewest ? label_reads : fewest;
+        most = label_reads > most ? label_reads : most;
+    }
+    printf("   %lu to %lu", fewest, most);
+}
+
+static void print_row(const char *name)
+{
+    prepare();
+    printf("%2u %-12s %6u", n, name, label_once(ARCHIVE));
+    measure(label_once, 1);
+    measure(hop_all, PAIRS);
+    measure(walk_all, PAIRS);
+    print_reads();
+    printf("\n");
+    fflush(stdout);
+}
+
+static void print_table(void)
+{
+    static const unsigned counts[] = {0, 12, 41, 410};
+    char name[32];
+    for (unsigned k = 0; k < 4; k++) {
+        set_dimension(12);
+        add_faults(counts[k]);
+        snprintf(name, sizeof name, "%u faults", counts[k]);
+        print_row(name);
+    }
+    set_dimension(12);
+    memcpy(faults, worst_table, sizeof worst_table);
+    print_row("worst");
+}
+
+static void print_scaling(void)
+{
+    for (uint32_t dimension = 4; dimension <= 12; dimension += 2) {
+        set_dimension(dimension);
+        add_faults(1u << dimension >> 4);
+        print_row("1/16 faulty");
+    }
+}
+
+int main(int count, char **words)
+{
+    static const char head[] =
+        " n table        rounds   label, ns ratio     hop, ns ratio    walk, ns"
+        " ratio   bytes a hop\n";
+    repetitions = count > 1 ? (unsigned)atoi(words[1]) : 51;
+    if (repetitions < 1 || repetitions > MOST_REPETITIONS)
+        repetitions = 51;
+    random_seed(12);
+    printf("%s", head);
+    print_table();
+    printf("\nscaling\n%s", head);
+    print_scaling();
+    printf("\nhighest ratio %.2f; above 1.0: %u of 30\n", highest, above);
+    return 0;
+}

@@ -1,0 +1,208 @@
+/*
+ * plain.c: the library's algorithm in plain C, to measure the archive against.
+ * PREFIX is the prefix of the functions' names; COUNT_READS counts the bytes
+ * that are read of the label table.
+ */
+#include "plain.h"
+
+#include <string.h>
+
+#define JOIN2(a, b) a##b
+#define JOIN(a, b) JOIN2(a, b)
+#define NAME(name) JOIN(PREFIX, name)
+
+#ifdef COUNT_READS
+unsigned long label_reads;
+#define READ(table, k) (label_reads++, (table)[k])
+#else
+#define READ(table, k) ((table)[k])
+#endif
+
+enum { SAFE, ORDINARY, STRONG, FAULTY };
+enum { FRESH = ORDINARY, MARKED = STRONG }; /* while the rounds go on */
+enum { DELIVER, HOP, HALTED };
+
+static uint32_t refused(uint32_t refusal)
+{
+    return refusal << 24;
+}
+
+/* ---- labelling, in the lent buffer */
+
+/* How many neighbours of k have this label or a larger one. */
+static unsigned count_from(uint32_t n, uint32_t k, const uint8_t *labels,
+                           uint8_t least)
+{
+    unsigned found = 0;
+    for (uint32_t i = 0, bit = 1; i < n; i++, bit *= 2)
+        found += READ(labels, k ^ bit) >= least;
+    return found;
+}
+
+static int meets_rule(uint32_t n, uint32_t k, const uint8_t *labels)
+{
+    unsigned bad = count_from(n, k, labels, MARKED); /* or FAULTY */
+    if (bad != 2)
+        return bad >= 3;
+    return count_from(n, k, labels, FAULTY) >= 2;
+}
+
+static int sweep(uint32_t n, uint8_t *labels, size_t nodes)
+{
+    int something_new = 0;
+    for (uint32_t k = 0; k < nodes; k++)
+        if (READ(labels, k) == SAFE && meets_rule(n, k, labels)) {
+            labels[k] = FRESH;
+            something_new = 1;
+        }
+    return something_new;
+}
+
+static void settle(uint8_t *labels, size_t nodes)
+{
+    for (size_t k = 0; k < nodes; k++)
+        labels[k] = READ(labels, k) == FRESH ? MARKED : READ(labels, k);
+}
+
+static int has_safe_neighbour(uint32_t n, uint32_t k, const uint8_t *labels)
+{
+    for (uint32_t i = 0; i < n; i++)
+        if (READ(labels, k ^ 1u << i) == SAFE)
+            return 1;
+    return 0;
+}
+
+uint32_t NAME(label)(uint32_t n, const uint8_t *faults, size_t faults_len,
+                     uint8_t *labels, size_t labels_len)
+{
+    uint32_t rounds = 0;
+    if (n < 1 || n > 12)
+        return refused(1);
+    if (faults_len != ((1u << n) + 7) / 8 || labels_len != 1u << n)
+        return refused(2);
+    if (n < 3 && faults[0] >> (1u << n))
+        return refused(3);
+    for (size_t k = 0; k < labels_len; k++)
+        labels[k] = faults[k / 8] >> (k % 8) & 1 ? FAULTY : SAFE;
+    while (sweep(n, labels, labels_len)) {
+        settle(labels, labels_len);
+        rounds++;
+    }
+    for (uint32_t k = 0; k < labels_len; k++)
+        if (READ(labels, k) == MARKED && has_safe_neighbour(n, k, labels))
+            labels[k] = ORDINARY;
+    return rounds;
+}
+
+/* ---- one hop, from a copy of the labels around it */
+
+struct around {
+    uint8_t own;
+    uint8_t neighbour[12];
+};
+
+/* Reads the n + 1 labels; whether all are 3 at most. */
+static int gather(uint32_t n, uint32_t c, const uint8_t *labels,
+                  struct around *around)
+{
+    uint8_t bits = around->own = READ(labels, c);
+    for (uint32_t i = 0, step = 1; i < n; i++, step += step)
+        bits |= around->neighbour[i] = READ(labels, c ^ step);
+    return bits <= 3;
+}
+
+/* First dimension of the set whose neighbour has this label at most; else n. */
+static uint32_t scan(uint32_t n, uint32_t dimensions, uint8_t most,
+                     const struct around *around)
+{
+    for (; dimensions; dimensions &= dimensions - 1) {
+        uint32_t i = (uint32_t)__builtin_ctz(dimensions);
+        if (around->neighbour[i] <= most)
+            return i;
+    }
+    return n;
+}
+
+/* The dimension to hop across, forward ones being where c and d differ; or n. */
+static uint32_t chosen(uint32_t n, uint32_t forward,
+                       const struct around *around)
+{
+    uint32_t spare = forward ^ ((1u << n) - 1), i;
+    if ((i = scan(n, forward, SAFE, around)) < n)
+        return i;
+    if ((i = scan(n, forward, ORDINARY, around)) < n)
+        return i;
+    if (around->own == STRONG || __builtin_popcount(forward) <= 2)
+        if ((i = scan(n, forward, STRONG, around)) < n)
+            return i;
+    if ((i = scan(n, spare, SAFE, around)) < n)
+        return i;
+    return scan(n, spare, ORDINARY, around);
+}
+
+uint32_t NAME(hop)(uint32_t n, uint32_t c, uint32_t d, const uint8_t *labels,
+                   size_t labels_len)
+{
+    struct around around;
+    uint32_t i;
+    if (n < 1 || n > 12)
+        return refused(1);
+    if (labels_len != 1u << n)
+        return refused(2);
+    if (c >> n || d >> n)
+        return refused(5);
+    if (!gather(n, c, labels, &around))
+        return refused(4);
+    if (around.own == FAULTY)
+        return refused(6);
+    if (c == d)
+        return DELIVER << 16;
+    i = chosen(n, c ^ d, &around);
+    return i < n ? (HOP << 16) + i : HALTED << 16;
+}
+
+/* ---- walk */
+
+static int all_labels(const uint8_t *labels, size_t nodes)
+{
+    uint8_t bits = 0;
+    for (size_t k = 0; k < nodes; k++)
+        bits |= READ(labels, k);
+    return bits <= 3;
+}
+
+uint32_t NAME(walk)(uint32_t n, uint32_t s, uint32_t d, const uint8_t *labels,
+                    size_t labels_len, uint8_t *row, size_t row_len)
+{
+    uint16_t places[17] = {0};
+    uint32_t hops = 0, c = s, i;
+    struct around around;
+    if (n < 1 || n > 12)
+        return refused(1);
+    if (labels_len != 1u << n || row_len != 34)
+        return refused(2);
+    if (s >> n || d >> n)
+        return refused(5);
+    if (!all_labels(labels, labels_len))
+        return refused(4);
+    if (READ(labels, s) == FAULTY)
+        return refused(6);
+    if (READ(labels, d) == FAULTY)
+        return refused(7);
+    places[0] = (uint16_t)s;
+    while (c != d) {
+        gather(n, c, labels, &around);
+        i = chosen(n, c ^ d, &around);
+        if (i == n)
+            break;
+        if (hops == n + 4)
+            return refused(8);
+        c ^= 1u << i;
+        places[++hops] = (uint16_t)c;
+    }
+    for (unsigned k = 0; k < 17; k++) {
+        row[2 * k] = (uint8_t)places[k];
+        row[2 * k + 1] = (uint8_t)(places[k] >> 8);
+    }
+    return (c == d ? 0 : 0x10000) + hops;
+}

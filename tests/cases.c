@@ -1,0 +1,83 @@
+/* cases.c: random numbers, tables and notices for the tests. */
+#include "cases.h"
+
+#include <string.h>
+
+static uint64_t state = 1;
+
+void random_seed(uint64_t seed)
+{
+    state = seed;
+}
+
+/* splitmix64 */
+uint64_t random_bits(void)
+{
+    uint64_t z = state += 0x9e3779b97f4a7c15u;
+    z = (z ^ z >> 30) * 0xbf58476d1ce4e5b9u;
+    z = (z ^ z >> 27) * 0x94d049bb133111ebu;
+    return z ^ z >> 31;
+}
+
+uint32_t random_below(uint32_t bound)
+{
+    return (uint32_t)((random_bits() >> 32) * bound >> 32);
+}
+
+void random_bytes(uint8_t *bytes, size_t len)
+{
+    for (size_t k = 0; k < len; k++)
+        bytes[k] = (uint8_t)random_bits();
+}
+
+void random_faults(uint32_t n, unsigned per_mille, uint8_t *faults)
+{
+    memset(faults, 0, n <= 3 ? 1 : ((size_t)1 << n) / 8);
+    for (uint32_t k = 0; k < 1u << n; k++)
+        if (random_below(1000) < per_mille)
+            faults[k / 8] |= (uint8_t)(1u << (k % 8));
+}
+
+/* Around 1/n to 3/n a node's neighbours decide; there the rounds are many. */
+unsigned random_density(uint32_t n)
+{
+    switch (random_below(8)) {
+    case 0: return 0;
+    case 1: return 1000 / (1u << n) + 1;
+    case 2: return random_below(1001);
+    case 3: return 1000;
+    default: return 20 + random_below(2000 / n);
+    }
+}
+
+void random_labels(uint32_t n, unsigned most, uint8_t *labels)
+{
+    for (uint32_t k = 0; k < 1u << n; k++)
+        labels[k] = (uint8_t)random_below(most + 1);
+}
+
+size_t put_number(uint32_t value, uint8_t *bytes)
+{
+    bytes[0] = (uint8_t)(value & 127);
+    if (value < 128)
+        return 1;
+    bytes[0] |= 128;
+    bytes[1] = (uint8_t)(value >> 7);
+    return 2;
+}
+
+size_t put_notice(uint32_t n, const uint8_t *faults, uint8_t *bytes)
+{
+    uint32_t count = 0, due = 0;
+    size_t at;
+    for (uint32_t k = 0; k < 1u << n; k++)
+        count += faults[k / 8] >> (k % 8) & 1;
+    at = put_number(n, bytes);
+    at += put_number(count, bytes + at);
+    for (uint32_t k = 0; k < 1u << n; k++)
+        if (faults[k / 8] >> (k % 8) & 1) {
+            at += put_number(k - due, bytes + at);
+            due = k + 1;
+        }
+    return at;
+}

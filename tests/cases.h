@@ -1,0 +1,33 @@
+/*
+ * cases.h: what the tests' inputs are made of: random numbers with a fixed
+ * seed, fault tables, label tables, notices.
+ */
+#ifndef CASES_H
+#define CASES_H
+
+#include <stddef.h>
+#include <stdint.h>
+
+#define COUNT(array) (sizeof(array) / sizeof(array)[0])
+
+/* The next random number; the same row of numbers in every run. */
+uint64_t random_bits(void);
+void random_seed(uint64_t seed);
+/* Any bytes at all. */
+void random_bytes(uint8_t *bytes, size_t len);
+/* A random number below `bound`, which is not 0. */
+uint32_t random_below(uint32_t bound);
+
+/* A good fault table in which each node is faulty with chance per_mille/1000. */
+void random_faults(uint32_t n, unsigned per_mille, uint8_t *faults);
+/* A chance per mille: none, few, some, many or all in turn. */
+unsigned random_density(uint32_t n);
+/* Label bytes, each one a random byte of 0 to `most`. */
+void random_labels(uint32_t n, unsigned most, uint8_t *labels);
+
+/* Writes a number in groups; how many bytes it took. */
+size_t put_number(uint32_t value, uint8_t *bytes);
+/* Writes the notice of a good fault table; at most 4099 bytes. */
+size_t put_notice(uint32_t n, const uint8_t *faults, uint8_t *bytes);
+
+#endif

@@ -1,0 +1,22 @@
+/* groups.h: the groups of checks that tests/library.c runs. */
+#ifndef GROUPS_H
+#define GROUPS_H
+
+void check_worked_numbers(void);  /* worked.c */
+void check_small_cubes(void);     /* tables.c */
+void check_most_rounds(void);
+void check_random_tables(void);
+void check_random_labels(void);
+void check_hop_reads(void);
+void check_label_buffer(void);
+void check_long_walks(void);      /* long_walks.c */
+void check_damaged(void);         /* refusals.c */
+void check_lengths(void);
+void check_plain_numbers(void);
+void check_orders(void);          /* orders.c */
+void check_notices(void);         /* notices.c */
+void check_notice_orders(void);
+void check_cut_notices(void);
+void check_notice_bounds(void);
+
+#endif

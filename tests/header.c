@@ -1,0 +1,44 @@
+/*
+ * header.c: uses every name of hcube.h; compiled as C and as C++ by
+ * tests/header, and never run.
+ */
+#include "hcube.h"
+#include "hcube.h"
+
+/* A line that does not compile unless the condition holds. */
+#define HOLDS(name, condition) typedef char name[(condition) ? 1 : -1]
+
+HOLDS(answer_refusal, HCUBE_REFUSAL(0x08000000u) == HCUBE_TOO_MANY_HOPS);
+HOLDS(answer_kind, HCUBE_KIND(0x0002000bu) == HCUBE_HALTED);
+HOLDS(answer_value, HCUBE_VALUE(0x0001000bu) == 11);
+HOLDS(table_bytes_1, HCUBE_NODES(1) == 2 && HCUBE_FAULT_BYTES(1) == 1);
+HOLDS(table_bytes_3, HCUBE_NODES(3) == 8 && HCUBE_FAULT_BYTES(3) == 1);
+HOLDS(table_bytes_4, HCUBE_NODES(4) == 16 && HCUBE_FAULT_BYTES(4) == 2);
+HOLDS(table_bytes_12, HCUBE_NODES(12) == 4096 && HCUBE_FAULT_BYTES(12) == 512);
+HOLDS(labels, HCUBE_SAFE == 0 && HCUBE_ORDINARY == 1 && HCUBE_STRONG == 2 &&
+                  HCUBE_FAULTY == 3);
+HOLDS(kinds, HCUBE_DELIVER == 0 && HCUBE_HOP == 1 && HCUBE_HALTED == 2 &&
+                 HCUBE_WALK_DELIVERED == 0 && HCUBE_WALK_HALTED == 1);
+HOLDS(refusals_1, HCUBE_ACCEPTED == 0 && HCUBE_BAD_DIMENSION == 1 &&
+                      HCUBE_BAD_LENGTH == 2 && HCUBE_UNUSED_BIT == 3 &&
+                      HCUBE_BAD_LABEL == 4 && HCUBE_BAD_NODE == 5);
+HOLDS(refusals_6, HCUBE_FAULTY_SOURCE == 6 && HCUBE_FAULTY_TARGET == 7 &&
+                      HCUBE_TOO_MANY_HOPS == 8 && HCUBE_CUT_SHORT == 9);
+HOLDS(refusals_10, HCUBE_BAD_GROUP == 10 && HCUBE_BAD_COUNT == 11 &&
+                       HCUBE_BAD_ADDRESS == 12);
+
+uint64_t use_all(const uint8_t *bytes, uint8_t *faults, uint8_t *labels,
+                 uint8_t *row);
+
+uint64_t use_all(const uint8_t *bytes, uint8_t *faults, uint8_t *labels,
+                 uint8_t *row)
+{
+    uint64_t notice = hcube_read_notice(bytes, 12, faults, HCUBE_FAULT_BYTES(4));
+    uint32_t n = (uint32_t)HCUBE_NOTICE_DIMENSION(notice);
+    uint32_t all = hcube_label(n, faults, HCUBE_FAULT_BYTES(n), labels,
+                               HCUBE_NODES(n));
+    all += hcube_hop(n, 0, 1, labels, HCUBE_NODES(n));
+    all += hcube_walk(n, 0, 1, labels, HCUBE_NODES(n), row, HCUBE_ROW_BYTES);
+    return all + HCUBE_NOTICE_REFUSAL(notice) + HCUBE_NOTICE_COUNT(notice) +
+           HCUBE_NOTICE_TAKEN(notice);
+}

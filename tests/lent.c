@@ -1,0 +1,62 @@
+/* lent.c: buffers between closed pages and guard bytes. */
+#define _DEFAULT_SOURCE /* MAP_ANONYMOUS */
+#include "lent.h"
+
+#include <stdio.h>
+#include <stdlib.h>
+#include <string.h>
+#include <sys/mman.h>
+
+#define PAGE 65536u /* at least the page of any machine */
+#define GUARD 64u
+#define ROOM ((MOST_LENT + GUARD + PAGE - 1) / PAGE * PAGE)
+
+/* Which side a buffer stands at changes from call to call, in no short row. */
+static uint32_t turn;
+
+static void open_memory(struct lent *lent)
+{
+    uint8_t *all = mmap(NULL, ROOM + 2 * PAGE, PROT_NONE,
+                        MAP_PRIVATE | MAP_ANONYMOUS, -1, 0);
+    if (all == MAP_FAILED ||
+        mprotect(all + PAGE, ROOM, PROT_READ | PROT_WRITE)) {
+        perror("mmap");
+        exit(2);
+    }
+    lent->memory = all + PAGE;
+}
+
+static uint8_t guard_byte(size_t k)
+{
+    return (uint8_t)(0xa5 ^ k * 29);
+}
+
+static uint8_t *guard_of(const struct lent *lent)
+{
+    return lent->high ? lent->bytes - GUARD : lent->bytes + lent->len;
+}
+
+void lend(struct lent *lent, const uint8_t *content, size_t len)
+{
+    if (!lent->memory)
+        open_memory(lent);
+    lent->high = ++turn * 2654435769u >> 31;
+    lent->len = len;
+    lent->bytes = lent->high ? lent->memory + ROOM - len : lent->memory;
+    memcpy(lent->bytes, content, len);
+    for (size_t k = 0; k < GUARD; k++)
+        guard_of(lent)[k] = guard_byte(k);
+}
+
+static int guard_kept(const struct lent *lent)
+{
+    for (size_t k = 0; k < GUARD; k++)
+        if (guard_of(lent)[k] != guard_byte(k))
+            return 0;
+    return 1;
+}
+
+int lent_is(const struct lent *lent, const uint8_t *content)
+{
+    return guard_kept(lent) && !memcmp(lent->bytes, content, lent->len);
+}

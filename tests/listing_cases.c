@@ -1,0 +1,267 @@
+/*
+ * listing_cases.c: inputs for the listing program.
+ *
+ *   listing_cases make DIR   writes DIR/NAME.in and, by the reference,
+ *                            DIR/NAME.want for each input
+ *   listing_cases slow FILE  writes the file's bytes to standard output with
+ *                            pauses, as a slow pipe does
+ */
+#define _DEFAULT_SOURCE /* usleep */
+#include <stdio.h>
+#include <stdlib.h>
+#include <string.h>
+#include <unistd.h>
+
+#include "cases.h"
+#include "reference.h"
+
+#define ROOM 80000
+
+static uint8_t bytes[ROOM];
+static size_t len;
+static const char *folder;
+static unsigned made;
+
+static FILE *open_case(const char *name, const char *ending)
+{
+    char path[600];
+    FILE *file;
+    snprintf(path, sizeof path, "%s/%03u-%s.%s", folder, made, name, ending);
+    file = fopen(path, "wb");
+    if (!file) {
+        perror(path);
+        exit(2);
+    }
+    return file;
+}
+
+/* Writes the bytes at hand as a case. */
+static void make(const char *name)
+{
+    FILE *in = open_case(name, "in"), *want = open_case(name, "want");
+    fwrite(bytes, 1, len, in);
+    ref_listing(bytes, len, want);
+    if (fclose(in) || fclose(want))
+        exit(2);
+    made++;
+}
+
+static void make_text(const char *name, const char *text, size_t text_len)
+{
+    memcpy(bytes, text, text_len);
+    len = text_len;
+    make(name);
+}
+#define MAKE(name, text) make_text(name, text, sizeof text - 1)
+
+static void add_number(uint32_t value)
+{
+    len += put_number(value, bytes + len);
+}
+
+/* Starts with the notice of a random table, each node faulty with this chance. */
+static void start_notice(uint32_t n, unsigned per_mille)
+{
+    uint8_t faults[MOST_FAULT_BYTES];
+    random_faults(n, per_mille, faults);
+    len = put_notice(n, faults, bytes);
+}
+
+static void add_pairs(uint32_t n, unsigned count)
+{
+    while (count--) {
+        add_number(random_below(1u << n));
+        add_number(random_below(1u << n));
+    }
+}
+
+/* ---- groups of cases */
+
+static void good_inputs(void)
+{
+    MAKE("sample", "\x04\x04\x02\x01\x03\x06\x0d\x00\x06\x00\x02\x00");
+    for (uint32_t n = 1; n <= 12; n++) {
+        start_notice(n, 0);
+        make("no-pairs");
+        start_notice(n, 1000);
+        add_pairs(n, 5);
+        make("all-faulty");
+        for (unsigned k = 0; k < 5; k++) {
+            start_notice(n, random_density(n));
+            add_pairs(n, 1 + random_below(60));
+            make("pairs");
+        }
+    }
+}
+
+/* The worked cubes of document 01 with every pair. */
+static void worked_cubes(void)
+{
+    static const struct {
+        uint32_t n;
+        size_t len;
+        const char *notice;
+    } cubes[] = {{4, 6, "\x04\x04\x02\x01\x03\x06"}, {3, 5, "\x03\x03\x01\x00\x01"},
+                 {1, 3, "\x01\x01\x00"},             {2, 3, "\x02\x01\x01"},
+                 {2, 4, "\x02\x02\x01\x00"}};
+    for (size_t k = 0; k < COUNT(cubes); k++) {
+        memcpy(bytes, cubes[k].notice, cubes[k].len);
+        len = cubes[k].len;
+        for (uint32_t s = 0; s < 1u << cubes[k].n; s++)
+            for (uint32_t d = 0; d < 1u << cubes[k].n; d++) {
+                add_number(s);
+                add_number(d);
+            }
+        make("worked");
+    }
+}
+
+static void refused_notices(void)
+{
+    MAKE("empty", "");
+    MAKE("notice", "\x00");
+    MAKE("notice", "\x0d\x00");
+    MAKE("notice", "\x84");
+    MAKE("notice", "\x84\x00");
+    MAKE("notice", "\x84\x02\x00");
+    MAKE("notice", "\x81\x81");
+    MAKE("notice", "\x8d\x80");
+    MAKE("notice", "\x04");
+    MAKE("notice", "\x04\x91");
+    MAKE("notice", "\x04\x91\x00");
+    MAKE("notice", "\x04\x11");
+    MAKE("notice", "\x04\xff\x7f\x00");
+    MAKE("notice", "\x04\x01");
+    MAKE("notice", "\x04\x01\x90");
+    MAKE("notice", "\x04\x01\x10\x00\x01");
+    MAKE("notice", "\x04\x02\x0f\x00\x00\x01");
+    MAKE("notice", "\x04\x02\x01\xff\x7f");
+    MAKE("notice", "\x04\x02\x01\x81\x80\x01");
+    MAKE("notice", "\x0c\x80\x20");
+    MAKE("notice", "\x0c\x81\x20\x00");
+    for (unsigned k = 0; k < 12; k++) {
+        start_notice(1 + k, 500);
+        len = random_below((uint32_t)len);
+        make("cut-notice");
+    }
+}
+
+static void bad_pairs(void)
+{
+    for (unsigned k = 0; k < 24; k++) {
+        uint32_t n = 1 + k % 12;
+        start_notice(n, 100);
+        add_pairs(n, k / 2);
+        if (k % 2)
+            add_number(random_below(1u << n));
+        switch (k % 8) {
+        case 0: case 1: bytes[len++] = 0x81; break;
+        case 2: case 3: bytes[len++] = 0x81; bytes[len++] = 0; break;
+        case 4: case 5: bytes[len++] = 0x80; bytes[len++] = 0xff; break;
+        case 6: bytes[len++] = 1; break;
+        default: break;
+        }
+        if (k >= 16 && k % 8 != 1) {
+            bytes[len++] = 0;
+            bytes[len++] = 1;
+        }
+        make("bad-pair");
+    }
+}
+
+/* Nodes of 2^n and more, up to the greatest number that two groups hold. */
+static void far_pairs(void)
+{
+    for (uint32_t n = 1; n <= 12; n++) {
+        start_notice(n, 300);
+        for (unsigned k = 0; k < 6; k++) {
+            add_number(k % 2 ? random_below(1u << n) : (1u << n) + k * 3);
+            add_number(k % 3 ? random_below(16384) : 1u << n);
+        }
+        add_number(16383);
+        add_number(0);
+        make("far-pair");
+    }
+}
+
+/* Around 16,384 bytes, with a good notice and with a bad one. */
+static void long_inputs(void)
+{
+    static const size_t lengths[] = {16383, 16384, 16385, 16386, 32768, 65536,
+                                     65540, ROOM};
+    for (size_t k = 0; k < COUNT(lengths); k++) {
+        start_notice(5, 150);
+        while (len < lengths[k])
+            bytes[len++] = (uint8_t)random_below(32);
+        make("long");
+        bytes[0] = 0;
+        make("long-refused");
+    }
+    start_notice(12, 12);
+    while (len < 16380)
+        add_pairs(12, 1);
+    len = 16384;
+    make("long-pairs");
+    start_notice(12, 1000);
+    while (len < 16384)
+        bytes[len++] = 0;
+    make("long-zeros");
+}
+
+static void random_inputs(void)
+{
+    for (unsigned k = 0; k < 60; k++) {
+        len = 1 + random_below(k < 30 ? 8 : 400);
+        random_bytes(bytes, len);
+        if (k % 3)
+            bytes[0] = (uint8_t)(1 + random_below(12));
+        if (k % 3 == 2)
+            bytes[1] = (uint8_t)random_below(4);
+        make("random");
+    }
+}
+
+static int make_all(const char *where)
+{
+    folder = where;
+    random_seed(7);
+    good_inputs();
+    worked_cubes();
+    refused_notices();
+    bad_pairs();
+    far_pairs();
+    long_inputs();
+    random_inputs();
+    return 0;
+}
+
+/* Short files byte by byte, long ones in parts; the end comes late too. */
+static int write_slowly(const char *path)
+{
+    FILE *file = fopen(path, "rb");
+    size_t part, at = 0;
+    if (!file)
+        return 2;
+    len = fread(bytes, 1, ROOM, file);
+    fclose(file);
+    part = len <= 64 ? 1 : len / 40;
+    while (at < len) {
+        size_t now = len - at < part ? len - at : part;
+        if (write(1, bytes + at, now) != (ssize_t)now)
+            return 0; /* the reader has had enough */
+        at += now;
+        usleep(3000);
+    }
+    usleep(30000);
+    return 0;
+}
+
+int main(int count, char **words)
+{
+    if (count == 3 && !strcmp(words[1], "make"))
+        return make_all(words[2]);
+    if (count == 3 && !strcmp(words[1], "slow"))
+        return write_slowly(words[2]);
+    fprintf(stderr, "usage: listing_cases make DIR, or listing_cases slow FILE\n");
+    return 2;
+}

@@ -1,0 +1,183 @@
+/*
+ * notices.c: the notice reader against the reference: good notices, each order
+ * of two refusals, cut and damaged ones, and the bounds of count and address.
+ */
+#include <string.h>
+
+#include "cases.h"
+#include "check.h"
+#include "groups.h"
+#include "lent.h"
+#include "reference.h"
+
+static uint8_t bytes[MOST_LENT], faults[MOST_LENT], read[MOST_LENT];
+
+/* A notice of a random table, which is left in `faults`; its length. */
+static size_t random_notice(uint32_t n)
+{
+    random_faults(n, random_density(n), faults);
+    return put_notice(n, faults, bytes);
+}
+
+/* ---- good ones, alone and with more bytes behind them */
+
+static void good_notice(uint32_t n)
+{
+    size_t len = random_notice(n), table = ref_fault_bytes(n);
+    size_t after = random_below(4) ? random_below(40) : 0;
+    uint64_t answer;
+    random_bytes(bytes + len, after);
+    random_bytes(read, table);
+    answer = check_notice(bytes, len + after, read, table);
+    expect(answer >> 32 == n && (answer & 0xffff) == len,
+           "n = %u: taken %u of %u", n, (unsigned)(answer & 0xffff),
+           (unsigned)len);
+    expect(!memcmp(read, faults, table), "n = %u: another table", n);
+}
+
+/* Junk, or a good notice in which one byte is another. */
+static void bad_notice(uint32_t n)
+{
+    size_t len = random_notice(n), table = ref_fault_bytes(n);
+    if (random_below(3) == 0) {
+        len = random_below(12);
+        random_bytes(bytes, len);
+        if (random_below(2))
+            bytes[0] = (uint8_t)n;
+    } else {
+        bytes[random_below((uint32_t)len)] = (uint8_t)random_bits();
+    }
+    if (random_below(20) == 0)
+        table = random_below(600);
+    check_notice(bytes, len, read, table);
+}
+
+void check_notices(void)
+{
+    begin_group("notices with bytes behind them");
+    for (unsigned k = 0; k < 6000; k++)
+        good_notice(1 + k % 12);
+    random_bytes(bytes, MOST_LENT);
+    memcpy(bytes, "\x03\x01\x07", 3);
+    expect(check_notice(bytes, MOST_LENT, read, 1) == 0x300010003u, "long input");
+    end_group();
+    begin_group("damaged notices");
+    for (unsigned k = 0; k < 24000; k++)
+        bad_notice(1 + k % 12);
+    end_group();
+}
+
+/* ---- each order of two refusals, left to right */
+
+static const struct {
+    unsigned first, second;
+    size_t table, len;
+    const char *bytes;
+} notice_orders[] = {
+    {9, 1, 2, 1, "\x8d"},              {9, 1, 2, 1, "\x80"},
+    {9, 2, 3, 1, "\x84"},              {9, 2, 0, 0, ""},
+    {10, 1, 2, 2, "\x8d\x00"},         {10, 1, 2, 2, "\x80\x81"},
+    {10, 2, 3, 2, "\x84\x00"},         {1, 2, 0, 2, "\x00\x00"},
+    {1, 2, 3, 2, "\x0d\x00"},          {1, 9, 1, 1, "\x00"},
+    {1, 9, 512, 1, "\x0d"},            {1, 10, 1, 3, "\x0d\x81\x00"},
+    {1, 11, 1, 2, "\x00\x02"},         {1, 12, 1, 3, "\x00\x01\x01"},
+    {2, 9, 1, 1, "\x04"},              {2, 9, 3, 1, "\x04"},
+    {2, 9, 0, 1, "\x01"},              {2, 10, 1, 3, "\x04\x81\x00"},
+    {2, 11, 3, 2, "\x04\x11"},         {2, 12, 1, 3, "\x04\x01\x10"},
+    {9, 11, 2, 2, "\x04\x91"},         {10, 11, 2, 3, "\x04\x91\x00"},
+    {10, 11, 2, 3, "\x04\xff\xff"},    {11, 9, 2, 2, "\x04\x11"},
+    {11, 10, 2, 4, "\x04\x11\x81\x00"}, {11, 12, 2, 3, "\x04\x11\x10"},
+    {9, 12, 2, 3, "\x04\x01\x90"},     {10, 12, 2, 4, "\x04\x01\x90\x00"},
+    {12, 9, 2, 3, "\x04\x02\x10"},     {12, 10, 2, 5, "\x04\x02\x10\x81\x00"},
+    {10, 9, 2, 4, "\x04\x02\x81\x00"}, {12, 9, 2, 4, "\x04\x03\x0f\x00"},
+    {10, 12, 2, 6, "\x04\x02\x01\x81\x80\x10"},
+};
+
+void check_notice_orders(void)
+{
+    begin_group("each order of two refusals, notice");
+    for (size_t k = 0; k < COUNT(notice_orders); k++) {
+        uint64_t answer;
+        memcpy(bytes, notice_orders[k].bytes, notice_orders[k].len);
+        random_bytes(read, 512);
+        answer = check_notice(bytes, notice_orders[k].len, read,
+                              notice_orders[k].table);
+        expect(answer == (uint64_t)notice_orders[k].first << 48,
+               "row %u: %016llx, where %u is before %u", (unsigned)k,
+               (unsigned long long)answer, notice_orders[k].first,
+               notice_orders[k].second);
+    }
+    end_group();
+}
+
+/* ---- cut at each byte */
+
+void check_cut_notices(void)
+{
+    begin_group("notices cut at each byte");
+    for (unsigned k = 0; k < 120; k++) {
+        uint32_t n = 1 + k % 12;
+        size_t len = random_notice(n), table = ref_fault_bytes(n);
+        for (size_t cut = 0; cut < len; cut++)
+            expect(check_notice(bytes, cut, read, table) == (uint64_t)9 << 48,
+                   "n = %u: %u bytes of %u", n, (unsigned)cut, (unsigned)len);
+        expect(check_notice(bytes, len, read, table) >> 48 == 0, "n = %u", n);
+    }
+    end_group();
+}
+
+/* ---- bounds */
+
+/* A notice of these numbers; the reader's refusal. */
+static uint64_t refusal_of(uint32_t n, uint32_t count, uint32_t first,
+                           const uint8_t *rest, size_t rest_len)
+{
+    size_t at = put_number(n, bytes);
+    at += put_number(count, bytes + at);
+    at += put_number(first, bytes + at);
+    memcpy(bytes + at, rest, rest_len);
+    return check_notice(bytes, at + rest_len, read, ref_fault_bytes(n)) >> 48;
+}
+
+/* Every node faulty: the first address 0 and then nothing but zeros. */
+static void every_node(uint32_t n)
+{
+    size_t table = ref_fault_bytes(n);
+    size_t at = put_number(n, bytes);
+    uint64_t nodes = (uint64_t)1 << n;
+    at += put_number(1u << n, bytes + at);
+    memset(bytes + at, 0, 1u << n);
+    memset(read, 0, table);
+    expect(check_notice(bytes, at + (1u << n), read, table) ==
+               ((uint64_t)n << 32) + (nodes << 16) + at + nodes,
+           "n = %u: every node", n);
+    expect(read[table - 1] == (n < 3 ? (1u << nodes) - 1 : 255), "last byte");
+    bytes[at + (1u << n) - 1] = 1;
+    expect(check_notice(bytes, at + (1u << n), read, table) >> 48 == 12,
+           "n = %u: the last address is one too far", n);
+}
+
+void check_notice_bounds(void)
+{
+    static const uint8_t zero[1] = {0}, most[2] = {0xff, 0x7f};
+    begin_group("bounds of count and address");
+    for (uint32_t n = 1; n <= 12; n++) {
+        uint32_t nodes = 1u << n;
+        every_node(n);
+        random_bytes(read, 512);
+        expect(refusal_of(n, nodes + 1, 0, zero, 0) == 11, "count 2^n + 1");
+        expect(refusal_of(n, 16383, 0, zero, 0) == 11, "count 16383");
+        expect(refusal_of(n, 1, nodes - 1, zero, 0) == 0, "address 2^n - 1");
+        expect(refusal_of(n, 1, nodes, zero, 0) == 12, "address 2^n");
+        expect(refusal_of(n, 1, 16383, zero, 0) == 12, "address 16383");
+        expect(refusal_of(n, 2, nodes - 2, zero, 1) == 0, "second 2^n - 1");
+        expect(refusal_of(n, 2, nodes - 1, zero, 1) == 12, "second 2^n");
+        expect(refusal_of(n, 2, nodes - 1, most, 2) == 12, "second far away");
+    }
+    for (uint32_t n = 0; n < 16384; n += n < 300 ? 1 : 128) {
+        size_t at = put_number(n, bytes);
+        bytes[at] = 0;
+        check_notice(bytes, at + 1, read, n <= 12 ? ref_fault_bytes(n) : 1);
+    }
+    end_group();
+}

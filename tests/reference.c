@@ -1,0 +1,228 @@
+/*
+ * reference.c: document 01 in the most direct C: one array of marks for each
+ * side of a round, every scan a loop over the label table itself.
+ */
+#include "reference.h"
+
+#include <string.h>
+
+enum { SAFE, ORDINARY, STRONG, FAULTY };
+
+static uint32_t nodes_of(uint32_t n)
+{
+    return (uint32_t)1 << n;
+}
+
+size_t ref_fault_bytes(uint32_t n)
+{
+    return n <= 3 ? 1 : nodes_of(n) / 8;
+}
+
+static uint32_t packed(uint32_t refusal, uint32_t kind, uint32_t value)
+{
+    return refusal * 16777216u + kind * 65536u + value;
+}
+
+/* ---- labels */
+
+static int is_faulty(const uint8_t *faults, uint32_t k)
+{
+    return faults[k / 8] >> (k % 8) & 1;
+}
+
+static int meets_rule(uint32_t n, const uint8_t *faults, const uint8_t *marked,
+                      uint32_t k)
+{
+    unsigned faulty = 0, unsafe = 0;
+    for (uint32_t i = 0; i < n; i++) {
+        uint32_t neighbour = k ^ (1u << i);
+        if (is_faulty(faults, neighbour))
+            faulty++;
+        else if (marked[neighbour])
+            unsafe++;
+    }
+    return faulty >= 2 || faulty + unsafe >= 3;
+}
+
+/* One round: marks of the next round from those of this one. */
+static int next_round(uint32_t n, const uint8_t *faults, const uint8_t *marked,
+                      uint8_t *next)
+{
+    int something_new = 0;
+    for (uint32_t k = 0; k < nodes_of(n); k++) {
+        next[k] = marked[k];
+        if (is_faulty(faults, k) || marked[k])
+            continue;
+        if (meets_rule(n, faults, marked, k)) {
+            next[k] = 1;
+            something_new = 1;
+        }
+    }
+    return something_new;
+}
+
+static int has_safe_neighbour(uint32_t n, const uint8_t *faults,
+                              const uint8_t *marked, uint32_t k)
+{
+    for (uint32_t i = 0; i < n; i++) {
+        uint32_t neighbour = k ^ (1u << i);
+        if (!is_faulty(faults, neighbour) && !marked[neighbour])
+            return 1;
+    }
+    return 0;
+}
+
+unsigned ref_rounds(uint32_t n, const uint8_t *faults, uint8_t *labels)
+{
+    uint8_t marked[MOST_NODES], next[MOST_NODES];
+    unsigned rounds = 0;
+    memset(marked, 0, sizeof marked);
+    while (next_round(n, faults, marked, next)) {
+        memcpy(marked, next, nodes_of(n));
+        rounds++;
+    }
+    for (uint32_t k = 0; k < nodes_of(n); k++) {
+        if (is_faulty(faults, k))
+            labels[k] = FAULTY;
+        else if (!marked[k])
+            labels[k] = SAFE;
+        else if (has_safe_neighbour(n, faults, marked, k))
+            labels[k] = ORDINARY;
+        else
+            labels[k] = STRONG;
+    }
+    return rounds;
+}
+
+uint32_t ref_label(uint32_t n, const uint8_t *faults, size_t faults_len,
+                   uint8_t *labels, size_t labels_len)
+{
+    if (n < 1 || n > 12)
+        return packed(1, 0, 0);
+    if (faults_len != ref_fault_bytes(n))
+        return packed(2, 0, 0);
+    if (labels_len != nodes_of(n))
+        return packed(2, 0, 0);
+    if (n == 1 && faults[0] > 3)
+        return packed(3, 0, 0);
+    if (n == 2 && faults[0] > 15)
+        return packed(3, 0, 0);
+    return packed(0, 0, ref_rounds(n, faults, labels));
+}
+
+/* ---- one hop */
+
+static unsigned distance(uint32_t n, uint32_t c, uint32_t d)
+{
+    unsigned differing = 0;
+    for (uint32_t i = 0; i < n; i++)
+        if ((c >> i & 1) != (d >> i & 1))
+            differing++;
+    return differing;
+}
+
+static int scan_takes(unsigned scan, int forward, uint8_t neighbour,
+                      uint8_t own, unsigned l)
+{
+    switch (scan) {
+    case 1: return forward && neighbour == SAFE;
+    case 2: return forward && (neighbour == SAFE || neighbour == ORDINARY);
+    case 3: return forward && neighbour != FAULTY && (own == STRONG || l <= 2);
+    case 4: return !forward && neighbour == SAFE;
+    default: return !forward && (neighbour == SAFE || neighbour == ORDINARY);
+    }
+}
+
+unsigned ref_scan(uint32_t n, uint32_t c, uint32_t d, const uint8_t *labels,
+                  uint32_t *dimension)
+{
+    unsigned l = distance(n, c, d);
+    if (l == 0)
+        return 0;
+    for (unsigned scan = 1; scan <= 5; scan++)
+        for (uint32_t i = 0; i < n; i++) {
+            int forward = (c >> i & 1) != (d >> i & 1);
+            if (scan_takes(scan, forward, labels[c ^ (1u << i)], labels[c], l)) {
+                *dimension = i;
+                return scan;
+            }
+        }
+    return 0;
+}
+
+uint32_t ref_hop(uint32_t n, uint32_t c, uint32_t d,
+                 const uint8_t *labels, size_t labels_len)
+{
+    uint32_t dimension = 0;
+    if (n < 1 || n > 12)
+        return packed(1, 0, 0);
+    if (labels_len != nodes_of(n))
+        return packed(2, 0, 0);
+    if (c >= nodes_of(n) || d >= nodes_of(n))
+        return packed(5, 0, 0);
+    if (labels[c] > 3)
+        return packed(4, 0, 0);
+    for (uint32_t i = 0; i < n; i++)
+        if (labels[c ^ (1u << i)] > 3)
+            return packed(4, 0, 0);
+    if (labels[c] == FAULTY)
+        return packed(6, 0, 0);
+    if (c == d)
+        return packed(0, 0, 0);
+    if (ref_scan(n, c, d, labels, &dimension) == 0)
+        return packed(0, 2, 0);
+    return packed(0, 1, dimension);
+}
+
+/* ---- walk */
+
+/* Walks on a good table. Places and count to the caller; the kind, or 8. */
+static unsigned walk_good(uint32_t n, uint32_t s, uint32_t d,
+                          const uint8_t *labels, uint32_t *places,
+                          unsigned *hops)
+{
+    uint32_t current = s, dimension = 0;
+    *hops = 0;
+    places[0] = s;
+    while (current != d) {
+        if (ref_scan(n, current, d, labels, &dimension) == 0)
+            return 1;
+        if (*hops == n + 4)
+            return 8;
+        current ^= 1u << dimension;
+        *hops += 1;
+        places[*hops] = current;
+    }
+    return 0;
+}
+
+uint32_t ref_walk(uint32_t n, uint32_t s, uint32_t d,
+                  const uint8_t *labels, size_t labels_len,
+                  uint8_t *row, size_t row_len)
+{
+    uint32_t places[ROW_PLACES] = {0};
+    unsigned hops, ending;
+    if (n < 1 || n > 12)
+        return packed(1, 0, 0);
+    if (labels_len != nodes_of(n))
+        return packed(2, 0, 0);
+    if (row_len != 34)
+        return packed(2, 0, 0);
+    if (s >= nodes_of(n) || d >= nodes_of(n))
+        return packed(5, 0, 0);
+    for (uint32_t k = 0; k < nodes_of(n); k++)
+        if (labels[k] > 3)
+            return packed(4, 0, 0);
+    if (labels[s] == FAULTY)
+        return packed(6, 0, 0);
+    if (labels[d] == FAULTY)
+        return packed(7, 0, 0);
+    ending = walk_good(n, s, d, labels, places, &hops);
+    if (ending == 8)
+        return packed(8, 0, 0);
+    for (unsigned k = 0; k < ROW_PLACES; k++) {
+        row[2 * k] = (uint8_t)(places[k] % 256);
+        row[2 * k + 1] = (uint8_t)(places[k] / 256);
+    }
+    return packed(0, ending, hops);
+}

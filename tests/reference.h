@@ -1,0 +1,47 @@
+/*
+ * reference.h: the rules of document 01 once more, in plain C, to hold the
+ * library and the listing program against. The first four functions have the
+ * same interface as the library's.
+ */
+#ifndef REFERENCE_H
+#define REFERENCE_H
+
+#include <stddef.h>
+#include <stdint.h>
+#include <stdio.h>
+
+#define MOST_NODES 4096
+#define MOST_FAULT_BYTES 512
+#define ROW_PLACES 17
+#define MOST_INPUT 16384
+
+uint32_t ref_label(uint32_t n, const uint8_t *faults, size_t faults_len,
+                   uint8_t *labels, size_t labels_len);
+uint32_t ref_hop(uint32_t n, uint32_t c, uint32_t d,
+                 const uint8_t *labels, size_t labels_len);
+uint32_t ref_walk(uint32_t n, uint32_t s, uint32_t d,
+                  const uint8_t *labels, size_t labels_len,
+                  uint8_t *row, size_t row_len);
+uint64_t ref_read_notice(const uint8_t *bytes, size_t len,
+                         uint8_t *faults, size_t faults_len);
+
+/* Reads the number at *place and moves the place behind it. 0, or the refusal
+ * with the place as it stood. */
+unsigned ref_number(const uint8_t *bytes, size_t len, size_t *place,
+                    uint32_t *value);
+
+/* What the listing program prints for this input. */
+void ref_listing(const uint8_t *bytes, size_t len, FILE *out);
+
+/* The scan, 1 to 5, that decides at c for d; 0 if none hits or c is d. The
+ * dimension goes to *dimension. All inputs are in range. */
+unsigned ref_scan(uint32_t n, uint32_t c, uint32_t d, const uint8_t *labels,
+                  uint32_t *dimension);
+
+/* Rounds and final labels of a good fault table. */
+unsigned ref_rounds(uint32_t n, const uint8_t *faults, uint8_t *labels);
+
+/* Length of a fault table. */
+size_t ref_fault_bytes(uint32_t n);
+
+#endif

@@ -1,0 +1,140 @@
+/*
+ * reference_notice.c: the notice and the listing program's output, by document
+ * 01, in the most direct C.
+ */
+#include "reference.h"
+
+#include <string.h>
+
+unsigned ref_number(const uint8_t *bytes, size_t len, size_t *place,
+                    uint32_t *value)
+{
+    size_t at = *place;
+    if (at >= len)
+        return 9;
+    if (bytes[at] < 128) {
+        *value = bytes[at];
+        *place = at + 1;
+        return 0;
+    }
+    if (len - at < 2)
+        return 9;
+    if (bytes[at + 1] == 0 || bytes[at + 1] >= 128)
+        return 10;
+    *value = (bytes[at] - 128u) + 128u * bytes[at + 1];
+    *place = at + 2;
+    return 0;
+}
+
+/* Reads the addresses into a table of 2^n bytes, 1 for each faulty node. */
+static unsigned read_addresses(const uint8_t *bytes, size_t len, size_t *place,
+                               uint32_t n, uint32_t count, uint8_t *faulty)
+{
+    uint32_t address = 0, value, refusal;
+    for (uint32_t k = 0; k < count; k++) {
+        refusal = ref_number(bytes, len, place, &value);
+        if (refusal)
+            return refusal;
+        address = k == 0 ? value : address + value + 1;
+        if (address >= (uint32_t)1 << n)
+            return 12;
+        faulty[address] = 1;
+    }
+    return 0;
+}
+
+uint64_t ref_read_notice(const uint8_t *bytes, size_t len,
+                         uint8_t *faults, size_t faults_len)
+{
+    uint8_t faulty[MOST_NODES] = {0};
+    size_t place = 0;
+    uint32_t n = 0, count = 0;
+    uint64_t refusal = ref_number(bytes, len, &place, &n);
+    if (refusal)
+        return refusal << 48;
+    if (n < 1 || n > 12)
+        return (uint64_t)1 << 48;
+    if (faults_len != ref_fault_bytes(n))
+        return (uint64_t)2 << 48;
+    refusal = ref_number(bytes, len, &place, &count);
+    if (refusal)
+        return refusal << 48;
+    if (count > (uint32_t)1 << n)
+        return (uint64_t)11 << 48;
+    refusal = read_addresses(bytes, len, &place, n, count, faulty);
+    if (refusal)
+        return refusal << 48;
+    memset(faults, 0, faults_len);
+    for (uint32_t k = 0; k < (uint32_t)1 << n; k++)
+        if (faulty[k])
+            faults[k / 8] |= (uint8_t)(1u << (k % 8));
+    return ((uint64_t)n << 32) + ((uint64_t)count << 16) + place;
+}
+
+/* ---- the listing program */
+
+static void print_first_line(uint32_t n, const uint8_t *labels, unsigned rounds,
+                             FILE *out)
+{
+    unsigned count[4] = {0, 0, 0, 0};
+    for (uint32_t k = 0; k < 1u << n; k++)
+        count[labels[k]]++;
+    fprintf(out, "cube %u faulty %u safe %u ordinary %u strong %u rounds %u\n",
+            (unsigned)n, count[3], count[0], count[1], count[2], rounds);
+}
+
+static void print_pair(uint32_t n, uint32_t s, uint32_t d, const uint8_t *labels,
+                       FILE *out)
+{
+    uint8_t row[34];
+    uint32_t answer = ref_walk(n, s, d, labels, (size_t)1 << n, row, 34);
+    uint32_t refusal = answer >> 24, hops = answer & 0xffff;
+    fprintf(out, "%u %u ", (unsigned)s, (unsigned)d);
+    if (refusal) {
+        fprintf(out, "refused %u\n", (unsigned)refusal);
+        return;
+    }
+    fprintf(out, "%s %u", answer >> 16 & 255 ? "halted" : "delivered",
+            (unsigned)hops);
+    for (uint32_t k = 0; k <= hops; k++)
+        fprintf(out, " %u", row[2 * k] + 256u * row[2 * k + 1]);
+    fprintf(out, "\n");
+}
+
+static void print_pairs(const uint8_t *bytes, size_t len, size_t place,
+                        uint32_t n, const uint8_t *labels, FILE *out)
+{
+    while (place < len) {
+        uint32_t s = 0, d = 0;
+        unsigned refusal = ref_number(bytes, len, &place, &s);
+        if (!refusal)
+            refusal = ref_number(bytes, len, &place, &d);
+        if (refusal) {
+            fprintf(out, "input refused %u\n", refusal);
+            return;
+        }
+        print_pair(n, s, d, labels, out);
+    }
+}
+
+void ref_listing(const uint8_t *bytes, size_t len, FILE *out)
+{
+    uint8_t faults[MOST_FAULT_BYTES], labels[MOST_NODES];
+    uint32_t n = 0;
+    size_t place = 0;
+    uint64_t notice;
+    if (len > MOST_INPUT) {
+        fprintf(out, "input too long\n");
+        return;
+    }
+    /* the dimension alone first: the fault table is lent at its length */
+    if (ref_number(bytes, len, &place, &n) || n < 1 || n > 12)
+        n = 1;
+    notice = ref_read_notice(bytes, len, faults, ref_fault_bytes(n));
+    if (notice >> 48) {
+        fprintf(out, "notice refused %u\n", (unsigned)(notice >> 48));
+        return;
+    }
+    print_first_line(n, labels, ref_rounds(n, faults, labels), out);
+    print_pairs(bytes, len, notice & 0xffff, n, labels, out);
+}

@@ -1,0 +1,178 @@
+/*
+ * tables.c: library against reference over fault tables and label tables, all
+ * of them in small cubes and random ones up to dimension 12.
+ */
+#include <string.h>
+
+#include "cases.h"
+#include "check.h"
+#include "groups.h"
+#include "reference.h"
+
+#define RANDOM_TABLES 24000
+#define RANDOM_LABEL_TABLES 12000
+
+static uint8_t faults[MOST_FAULT_BYTES], labels[MOST_NODES];
+
+/* Labels the fault table at hand into a buffer that holds anything. */
+static uint32_t label_table(uint32_t n)
+{
+    random_bytes(labels, (size_t)1 << n);
+    return check_label(n, faults, ref_fault_bytes(n), labels, (size_t)1 << n);
+}
+
+static void hop_and_walk(uint32_t n, uint32_t s, uint32_t d)
+{
+    uint8_t row[34];
+    random_bytes(row, sizeof row);
+    check_hop(n, s, d, labels, (size_t)1 << n);
+    check_walk(n, s, d, labels, (size_t)1 << n, row, sizeof row);
+}
+
+static void all_pairs(uint32_t n)
+{
+    for (uint32_t s = 0; s < 1u << n; s++)
+        for (uint32_t d = 0; d < 1u << n; d++)
+            hop_and_walk(n, s, d);
+}
+
+static void some_pairs(uint32_t n, unsigned count)
+{
+    while (count--)
+        hop_and_walk(n, random_below(1u << n), random_below(1u << n));
+}
+
+/* Every fault table up to n = 3 with every pair, and every byte that is none
+ * since an unused bit is set; every label table of bytes 0 to 3 up to n = 2
+ * with every pair. */
+void check_small_cubes(void)
+{
+    begin_group("all fault tables to n = 3, all pairs");
+    for (uint32_t n = 1; n <= 3; n++)
+        for (unsigned table = 0; table < 256; table++) {
+            faults[0] = (uint8_t)table;
+            if (label_table(n) >> 24 == 0)
+                all_pairs(n);
+        }
+    end_group();
+    begin_group("all label tables to n = 2, all pairs");
+    for (uint32_t n = 1; n <= 2; n++)
+        for (unsigned table = 0; table < 1u << (2u << n); table++) {
+            for (unsigned k = 0; k < 1u << n; k++)
+                labels[k] = table >> 2 * k & 3;
+            all_pairs(n);
+        }
+    end_group();
+}
+
+/* The most rounds there are, for n = 1 to 5, and a table that takes them
+ * (found by tests/most_rounds.c). */
+static const struct {
+    uint32_t rounds;
+    uint8_t table[4];
+} most[6] = {{0, {0}},          {0, {0x00}},
+             {1, {0x06}},       {2, {0x16}},
+             {4, {0x58, 0x03}}, {9, {0xa8, 0x10, 0x20, 0x05}}};
+
+static uint32_t most_of_all_tables(uint32_t n)
+{
+    uint32_t found = 0;
+    for (uint32_t table = 0; table < 1u << (1u << n); table++) {
+        uint32_t rounds;
+        faults[0] = (uint8_t)table;
+        faults[1] = (uint8_t)(table >> 8);
+        rounds = label_table(n);
+        if (rounds > found)
+            found = rounds;
+    }
+    return found;
+}
+
+void check_most_rounds(void)
+{
+    begin_group("most rounds, all fault tables of n = 4");
+    for (uint32_t n = 1; n <= 5; n++) {
+        memcpy(faults, most[n].table, sizeof most[n].table);
+        expect(label_table(n) == most[n].rounds, "n = %u: not %u rounds", n,
+               most[n].rounds);
+        if (n <= 4)
+            expect(most_of_all_tables(n) == most[n].rounds,
+                   "n = %u: %u is not the most", n, most[n].rounds);
+    }
+    end_group();
+}
+
+void check_random_tables(void)
+{
+    begin_group("24,000 random fault tables to n = 12");
+    for (unsigned k = 0; k < RANDOM_TABLES; k++) {
+        uint32_t n = 1 + k % 12;
+        random_faults(n, random_density(n), faults);
+        label_table(n);
+        some_pairs(n, 8);
+    }
+    end_group();
+}
+
+/* Label bytes of no fault table: mostly safe, mostly not, or evenly mixed. */
+static void mixed_labels(uint32_t n)
+{
+    unsigned safe = random_below(100);
+    random_labels(n, 3, labels);
+    for (uint32_t k = 0; k < 1u << n; k++)
+        if (random_below(100) < safe)
+            labels[k] = random_below(100) < 50 ? 0 : 3;
+}
+
+void check_random_labels(void)
+{
+    begin_group("12,000 random label tables to n = 12");
+    for (unsigned k = 0; k < RANDOM_LABEL_TABLES; k++) {
+        uint32_t n = 1 + k % 12;
+        mixed_labels(n);
+        some_pairs(n, n <= 4 ? 40 : 12);
+    }
+    end_group();
+}
+
+/* A hop goes by c's label and its neighbours' alone, whatever else is there. */
+void check_hop_reads(void)
+{
+    static uint8_t other[MOST_NODES];
+    begin_group("hop by n + 1 labels");
+    for (unsigned k = 0; k < 6000; k++) {
+        uint32_t n = 1 + k % 12, c = random_below(1u << n);
+        uint32_t d = random_below(1u << n), answer;
+        random_labels(n, random_below(10) ? 3 : 4, labels);
+        answer = check_hop(n, c, d, labels, (size_t)1 << n);
+        random_bytes(other, (size_t)1 << n);
+        other[c] = labels[c];
+        for (uint32_t i = 0; i < n; i++)
+            other[c ^ 1u << i] = labels[c ^ 1u << i];
+        expect(check_hop(n, c, d, other, (size_t)1 << n) == answer,
+               "n = %u, at %u for %u: by another byte", n, c, d);
+    }
+    end_group();
+}
+
+/* What the label buffer held before does not show. */
+void check_label_buffer(void)
+{
+    static uint8_t first[MOST_NODES];
+    begin_group("labels whatever the buffer held");
+    for (unsigned k = 0; k < 600; k++) {
+        uint32_t n = 1 + k % 12, answer;
+        random_faults(n, random_density(n), faults);
+        memset(first, 0, sizeof first);
+        answer = check_label(n, faults, ref_fault_bytes(n), first, (size_t)1 << n);
+        for (unsigned fill = 1; fill <= 6; fill++) {
+            memset(labels, fill < 6 ? (int)fill : 255, sizeof labels);
+            expect(check_label(n, faults, ref_fault_bytes(n), labels,
+                               (size_t)1 << n) == answer,
+                   "n = %u: another answer over %u", n, fill);
+            expect(!memcmp(labels, first, (size_t)1 << n),
+                   "n = %u: other labels over %u", n, fill);
+        }
+    }
+    end_group();
+}

@@ -1,0 +1,146 @@
+/*
+ * worked.c: the numbers that document 01 gives ("Numbers on both sides"), each
+ * as a literal, asked of the library.
+ */
+#include <string.h>
+
+#include "check.h"
+#include "groups.h"
+
+#define REFUSED(k) ((uint32_t)(k) << 24)
+#define HALTED(hops) (0x10000u + (hops))
+
+/* Labels of the table at hand; its dimension. */
+static uint8_t labels[64];
+static uint32_t n;
+
+/* Labels a table of one or two bytes and expects these rounds. */
+static void label(uint32_t dimension, unsigned faults, uint32_t rounds)
+{
+    uint8_t table[2];
+    uint32_t answer;
+    n = dimension;
+    table[0] = (uint8_t)faults;
+    table[1] = (uint8_t)(faults >> 8);
+    memset(labels, 0xee, sizeof labels);
+    answer = check_label(n, table, n == 4 ? 2 : 1, labels, (size_t)1 << n);
+    expect(answer == rounds, "labels of %04x: answer %08x", faults, answer);
+}
+
+static void labels_are(const char *digits)
+{
+    for (size_t k = 0; digits[k]; k++)
+        expect(labels[k] == digits[k] - '0', "label of %u is %u", (unsigned)k,
+               labels[k]);
+}
+
+/* Walks and expects this answer and these places; unused places are zero. */
+static void walk(uint32_t s, uint32_t d, uint32_t answer, const char *places)
+{
+    uint8_t row[34], want[34];
+    uint32_t got;
+    memset(row, 0xee, sizeof row);
+    memset(want, answer >> 24 ? 0xee : 0, sizeof want);
+    for (size_t k = 0; places[k]; k++)
+        want[2 * k] = (uint8_t)(places[k] >= 'a' ? places[k] - 'a' + 10
+                                                 : places[k] - '0');
+    got = check_walk(n, s, d, labels, (size_t)1 << n, row, sizeof row);
+    expect(got == answer, "walk %u to %u: %08x", s, d, got);
+    expect(!memcmp(row, want, sizeof row), "walk %u to %u: row", s, d);
+}
+
+static void hop(uint32_t c, uint32_t d, uint32_t answer)
+{
+    uint32_t got = check_hop(n, c, d, labels, (size_t)1 << n);
+    expect(got == answer, "hop at %u for %u: %08x", c, d, got);
+}
+
+/* n = 4, faulty 2, 4, 8, 15: figure 1 of document 001. */
+static void figure_1(void)
+{
+    label(4, 0x8114, 2);
+    labels_are("1030301030101023");
+    walk(13, 0, 3, "d910");
+    walk(6, 0, 4, "67510");
+    walk(14, 0, 5, "ecd910");
+    walk(0, 14, 5, "01376e");
+    walk(10, 10, 0, "a");
+    walk(2, 0, REFUSED(6), "");
+    walk(0, 2, REFUSED(7), "");
+    hop(13, 0, 0x10002);
+    hop(6, 0, 0x10000);
+    hop(10, 10, 0);
+    hop(2, 0, REFUSED(6));
+}
+
+static void no_node_safe(void)
+{
+    label(3, 0x16, 2);
+    labels_are("23323222");
+    walk(0, 7, HALTED(0), "0");
+    walk(7, 0, HALTED(1), "76");
+    walk(7, 3, 1, "73");
+    hop(0, 7, 0x20000);
+}
+
+static void small_cubes(void)
+{
+    label(1, 0x01, 0);
+    labels_are("30");
+    label(2, 0x02, 0);
+    labels_are("0300");
+    walk(0, 3, 2, "023");
+    label(2, 0x06, 1);
+    labels_are("2332");
+    walk(0, 3, HALTED(0), "0");
+}
+
+/* Between 0 and 4 for ever: refused with 8. */
+static void swinging(void)
+{
+    static const uint8_t table[8] = {0, 3, 3, 0, 0, 3, 3, 0};
+    n = 3;
+    memcpy(labels, table, sizeof table);
+    walk(0, 3, REFUSED(8), "");
+    hop(0, 3, 0x10002);
+    hop(4, 3, 0x10002);
+}
+
+static void none_and_all(void)
+{
+    for (uint32_t dimension = 1; dimension <= 4; dimension++) {
+        label(dimension, 0, 0);
+        for (uint32_t k = 0; k < 1u << n; k++)
+            expect(labels[k] == 0, "no faults: %u is not safe", k);
+        label(dimension, (1u << (1u << dimension)) - 1, 0);
+        for (uint32_t s = 0; s < 1u << n; s++)
+            for (uint32_t d = 0; d < 1u << n; d++)
+                walk(s, d, REFUSED(6), "");
+    }
+}
+
+/* 200 is C8 01, as the only faulty node of n = 8. */
+static void groups(void)
+{
+    static const uint8_t good[] = {8, 1, 0xc8, 1};
+    static const uint8_t zero[] = {0x81, 0}, high[] = {0x81, 0x81};
+    uint8_t faults[32];
+    memset(faults, 0xee, sizeof faults);
+    expect(check_notice(good, 4, faults, 32) == 0x800010004u, "C8 01 is 200");
+    expect(faults[25] == 1, "node 200 is faulty");
+    expect(check_notice(zero, 2, faults, 32) >> 48 == 10, "81 00");
+    expect(check_notice(high, 2, faults, 32) >> 48 == 10, "81 81");
+    expect(check_notice(zero, 1, faults, 32) >> 48 == 9, "81");
+}
+
+void check_worked_numbers(void)
+{
+    begin_group("worked numbers");
+    figure_1();
+    no_node_safe();
+    small_cubes();
+    swinging();
+    none_and_all();
+    groups();
+    end_group();
+}
