@@ -1,6 +1,6 @@
 -- Each hop on a good table makes progress. ONE RANK serves: the distance l where it is 0 or 1, else l and twice the label. Where some node is
--- safe, a hop of any scan lowers it: forward it gains in l what it may lose in the label only from a worse label; across a spare dimension
--- it loses one in l and gains two in the label. Where the destination is safe, or no node is, every hop is forward and l itself falls.
+-- safe, a hop of any scan lowers it: scans 1 to 3 lead one nearer and, but for the last two hops, never to a worse label; scans 4 and 5 lead one
+-- farther and to a better label, which counts double. Where the destination is safe, or no node is, every hop is forward and l itself falls.
 use mathlib.Core.Path.{_≡_, refl, ap, _∙_}
 use mathlib.Core.Logic.{_⊎_, inl, inr, ⊎-elim, _≢_}
 use mathlib.Core.Bool.{true, false, cond}
@@ -31,11 +31,18 @@ module _ (lab : ℕ → ℕ) (d x : ℕ) where
   unfolding rank
   rank-far h = rw (lt-leb (dist x d) 1 h)
 
-  pub rank-le : rank lab d x ≤ dist x d + 2 * lab x
-  rank-le = ⊎-elim (λ (t : leb (dist x d) 1 ≡ true). omega (arith, rank-near (leb-true (dist x d) 1 t))) (λ (t : leb (dist x d) 1 ≡ false). omega (arith, rank-far (leb-false (dist x d) 1 t))) (either (leb (dist x d) 1))
+  rank-within : (dist x d ≤ rank lab d x) × (rank lab d x ≤ dist x d + 2 * lab x)
+  rank-within =
+      ⊎-elim
+      (λ (t : leb (dist x d) 1 ≡ true). let e = rank-near (leb-true (dist x d) 1 t) in (omega arith, omega arith))
+      (λ (t : leb (dist x d) 1 ≡ false). let e = rank-far (leb-false (dist x d) 1 t) in (omega arith, omega arith))
+      (either (leb (dist x d) 1))
 
   rank-ge : dist x d ≤ rank lab d x
-  rank-ge = ⊎-elim (λ (t : leb (dist x d) 1 ≡ true). omega (arith, rank-near (leb-true (dist x d) 1 t))) (λ (t : leb (dist x d) 1 ≡ false). omega (arith, rank-far (leb-false (dist x d) 1 t))) (either (leb (dist x d) 1))
+  rank-ge = rank-within .0
+
+  pub rank-le : rank lab d x ≤ dist x d + 2 * lab x
+  rank-le = rank-within .1
 
 -- the next thing that a walk does: it keeps P, and μ falls
 pub data Next (n : ℕ) (lab : ℕ → ℕ) (d : ℕ) (P : ℕ → Type 0) (μ : ℕ → ℕ) (Stuck : ℕ → Type 0) (c : ℕ) : Type 0 where

@@ -36,7 +36,7 @@ pub record Settled : Type 0 where
       → OneEach (λ (r : Labelled) (after : List ℕ). (r ≡ labelled n faults (length labels)) × (after ≡ labelsAfter n faults labels))
   pub route-hop : (n c d : ℕ) (labels : List ℕ) → One (λ (r : Hopped). r ≡ hopped n c d labels)
   pub route-walk : (n s d : ℕ) (labels : List ℕ) → One (λ (r : Walked). r ≡ walked n s d labels)
-  -- the answer, and the place afterwards; the bytes stay the caller's own
+  -- the answer, and the place afterwards; the bytes stay the caller's own. The contract of `next_at` is the same
   pub reader-next : (bytes : List ℕ) (at : ℕ) → OneEach (λ (r : Number) (place : ℕ). (r ≡ numberAt bytes at) × (place ≡ placeAfter bytes at))
   pub hcube-label :
       (n : ℕ) (faults labels : List ℕ)
