@@ -30,8 +30,11 @@ abbrev pub walkNumber : Walked → ℕ
 walkNumber w = packed (W.refusalOf (w .ending)) (W.kindOf (w .ending)) (w .hops)
 
 -- a notice: refusal * 2 ^ 48 + dimension * 2 ^ 32 + count * 2 ^ 16 + bytes taken
+abbrev pub packedNotice : (refusal dimension count taken : ℕ) → ℕ
+packedNotice refusal dimension count taken = refusal * 281474976710656 + dimension * 4294967296 + count * 65536 + taken
+
 abbrev pub noticeNumber : Noticed → ℕ
-noticeNumber a = N.refusalOf a * 281474976710656 + N.dimensionOf a * 4294967296 + N.countOf a * 65536 + N.takenOf a
+noticeNumber a = packedNotice (N.refusalOf a) (N.dimensionOf a) (N.countOf a) (N.takenOf a)
 
 -- the walk with a row of m bytes: refused with 2 where m is not 34, directly after the label table
 unfoldable pub walkedFor : (n s d : ℕ) (labels : List ℕ) (m : ℕ) → Walked

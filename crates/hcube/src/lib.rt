@@ -1,9 +1,9 @@
 // What C calls: plain numbers and byte slices in, one number out. include/hcube.h is the C side of it. C's numbers are widened and never
 // narrowed, so none is mistaken for a smaller one.
-ghost use Prim.Native.Nat.{_+_, _*_, _<_, _≤_};
+ghost use Prim.Native.Nat.{_<_, _≤_};
 ghost use Rattle.cube.specs.Answer.{packed};
 ghost use Rattle.cube.specs.Tables.{tab};
-ghost use Rattle.hcube.specs.Answers.{accepted, hopNumber, labelNumber, noticeNumber, rowAfter, rowByte, walkNumber, walkedFor};
+ghost use Rattle.hcube.specs.Answers.{accepted, hopNumber, labelNumber, noticeNumber, packedNotice, rowAfter, rowByte, walkNumber, walkedFor};
 ghost use Rattle.hcube.specs.Fits.{RowFits, WalkFits};
 ghost use Rattle.labels.specs.Labelling.{labelled, labelsAfter};
 ghost use Rattle.notice.specs.Notice.{noticed, tableAfter};
@@ -26,6 +26,7 @@ fn pack(refusal: u32, kind: u32, value: usize) -> u32
     refusal * 16777216 + kind * 65536 + value as u32
 }
 
+// Labels every node: the round count, or the refusal, which leaves the labels as they were.
 #[no_mangle]
 pub extern "C" fn hcube_label(n: u32, faults: &[u8], labels: &mut [u8]) -> u32
     ensures answer { λ r. ⌜ r ≡ labelNumber (labelled n (now (faults .entry)) (length (now (labels .entry)))) ⌝ }
@@ -38,6 +39,7 @@ pub extern "C" fn hcube_label(n: u32, faults: &[u8], labels: &mut [u8]) -> u32
     }
 }
 
+// A decision by its kind and value.
 fn pack_decision(x: Decision) -> u32
     requires { ⌜ decisionValue x < 65536 ⌝ }
     ensures { λ r. ⌜ r ≡ packed 0 (decisionKind x) (decisionValue x) ⌝ }
@@ -49,6 +51,7 @@ fn pack_decision(x: Decision) -> u32
     }
 }
 
+// Decides one hop at c for d.
 #[no_mangle]
 pub extern "C" fn hcube_hop(n: u32, c: u32, d: u32, labels: &[u8]) -> u32
     ensures { λ r. ⌜ r ≡ hopNumber (hopped n c d (now (labels .entry))) ⌝ }
@@ -72,6 +75,7 @@ fn row_byte(row: &[u16; 17], k: usize) -> u8
     (node / 256 % 256) as u8
 }
 
+// All 34 bytes of a row.
 fn put_row(row: &[u16; 17], out: &mut [u8])
     requires { ⌜ length (now out) ≡ 34 ⌝ }
     ensures { λ _. ⌜ now (out .exit) ≡ tab 34 (rowByte (now (row .entry))) ⌝ }
@@ -97,6 +101,7 @@ fn walk_for(n: usize, s: usize, d: usize, labels: &[u8], m: usize) -> Walked
     route::walk(n, s, d, labels)
 }
 
+// A walk by how it ended and its hop count, which is 0 where it is refused.
 fn pack_walk(walked: Walked) -> u32
     requires { ⌜ WalkFits walked ⌝ }
     ensures { λ r. ⌜ r ≡ walkNumber walked ⌝ }
@@ -110,6 +115,7 @@ fn pack_walk(walked: Walked) -> u32
     }
 }
 
+// Whether a walk that ended so has a row to write.
 fn is_accepted(ending: Ending) -> bool
     ensures { λ r. ⌜ r ≡ accepted ending ⌝ }
 {
@@ -132,6 +138,7 @@ fn write_row(walked: Walked, row: &mut [u8])
     }
 }
 
+// Walks from s to d: the row of nodes goes to the lent buffer, and none of it where the walk is refused.
 #[no_mangle]
 pub extern "C" fn hcube_walk(n: u32, s: u32, d: u32, labels: &[u8], row: &mut [u8]) -> u32
     ensures answer { λ r. ⌜ r ≡ walkNumber (walkedFor n s d (now (labels .entry)) (length (now (row .entry)))) ⌝ }
@@ -145,11 +152,12 @@ pub extern "C" fn hcube_walk(n: u32, s: u32, d: u32, labels: &[u8], row: &mut [u
 // One number for the refusal of a notice, its dimension, its count and the bytes that it took.
 fn pack_notice(refusal: u32, n: usize, m: usize, taken: usize) -> u64
     requires { ⌜ (refusal ≤ 12) × ((n ≤ 12) × ((m ≤ 4096) × (taken ≤ 4099))) ⌝ }
-    ensures { λ r. ⌜ r ≡ refusal * 281474976710656 + n * 4294967296 + m * 65536 + taken ⌝ }
+    ensures { λ r. ⌜ r ≡ packedNotice refusal n m taken ⌝ }
 {
     refusal as u64 * 281474976710656 + n as u64 * 4294967296 + m as u64 * 65536 + taken as u64
 }
 
+// Reads the notice at the front of the bytes into the fault table, or refuses and leaves the table as it was.
 #[no_mangle]
 pub extern "C" fn hcube_read_notice(bytes: &[u8], faults: &mut [u8]) -> u64
     ensures answer { λ r. ⌜ r ≡ noticeNumber (noticed (now (bytes .entry)) (now (faults .entry))) ⌝ }
