@@ -1,9 +1,10 @@
--- Each contract settles everything: two results that it allows are equal, and so is each lent buffer afterwards. What stands before each name is
--- the `ensures` of that entry point, with r for the result and `after` for the buffer at exit.
+-- Each contract settles everything: two results that it allows are equal, and so is each lent buffer afterwards. What stands under `One` or `OneEach`
+-- is the `ensures` of that entry point, with r for the result and `after` for what was lent, at exit.
 use mathlib.Core.List.{List}
 use mathlib.Core.Path.{_≡_}
 use Prim.Native.Nat.{ℕ, _+_}
 use lib.ListN.{drop, length}
+use denote.Ref.{RefT, now}
 use Rattle.groups.specs.Number.{numberAt}
 use Rattle.groups.specs.declared.Number.{Number}
 use Rattle.hcube.specs.Answers.{hopNumber, labelNumber, noticeNumber, rowAfter, walkNumber, walkedFor}
@@ -27,7 +28,8 @@ OneEach {A} {B} P = (r r′ : A) (after after′ : B) → P r after → P r′ a
 pub record Settled : Type 0 where
   pub groups-number-at : (bytes : List ℕ) (at : ℕ) → One (λ (r : Number). r ≡ numberAt bytes at)
   pub notice-read : (bytes faults : List ℕ) → OneEach (λ (r : Noticed) (after : List ℕ). (r ≡ noticed bytes faults) × (after ≡ tableAfter bytes faults))
-  -- the returned part: its bytes, and its place in the caller's memory
+  -- the returned part: its bytes, and its place in the caller's memory. (The ghost name that the logic gives a reference is not settled: no
+  -- program can see it.)
   pub notice-tail :
       (bytes : List ℕ) (block offset : ℕ)
       → OneEach (λ (r : List ℕ) (place : ℕ × ℕ). (r ≡ drop (tailAt bytes) bytes) × (place ≡ (block, offset + tailAt bytes)))
@@ -36,8 +38,13 @@ pub record Settled : Type 0 where
       → OneEach (λ (r : Labelled) (after : List ℕ). (r ≡ labelled n faults (length labels)) × (after ≡ labelsAfter n faults labels))
   pub route-hop : (n c d : ℕ) (labels : List ℕ) → One (λ (r : Hopped). r ≡ hopped n c d labels)
   pub route-walk : (n s d : ℕ) (labels : List ℕ) → One (λ (r : Walked). r ≡ walked n s d labels)
-  -- the answer, and the place afterwards; the bytes stay the caller's own. The contract of `next_at` is the same
-  pub reader-next : (bytes : List ℕ) (at : ℕ) → OneEach (λ (r : Number) (place : ℕ). (r ≡ numberAt bytes at) × (place ≡ placeAfter bytes at))
+  -- the reader's bytes are the caller's own reference, not only equal bytes
+  pub reader-new : (bytes : RefT (List ℕ)) → OneEach (λ (r : RefT (List ℕ)) (at : ℕ). (r ≡ bytes) × (at ≡ 0))
+  -- the answer, and the reader afterwards: the same bytes, and the place
+  pub reader-next :
+      (bytes : RefT (List ℕ)) (at : ℕ)
+      → OneEach (λ (r : Number) (after : RefT (List ℕ) × ℕ). (r ≡ numberAt (now bytes) at) × (after ≡ (bytes, placeAfter (now bytes) at)))
+  pub reader-next-at : (bytes : List ℕ) (at : ℕ) → OneEach (λ (r : Number) (place : ℕ). (r ≡ numberAt bytes at) × (place ≡ placeAfter bytes at))
   pub hcube-label :
       (n : ℕ) (faults labels : List ℕ)
       → OneEach (λ (r : ℕ) (after : List ℕ). (r ≡ labelNumber (labelled n faults (length labels))) × (after ≡ labelsAfter n faults labels))
