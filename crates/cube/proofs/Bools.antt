@@ -1,7 +1,20 @@
--- Tests joined by `&&`, `||` and `not`, and a choice by a test: what holds of both outcomes holds of the choice.
-use mathlib.Core.Path.{_≡_, refl}
-use mathlib.Core.Logic.{_⊎_, inl, inr}
-use mathlib.Core.Bool.{Bool, true, false, cond, not, _&&_, _||_}
+-- Tests: either way of one, tests joined by `&&`, `||`, `not` and `xor`, and a choice by a test: what holds of both outcomes holds of the choice.
+use mathlib.Core.Path.{_≡_, refl, sym}
+use mathlib.Core.Logic.{_⊎_, inl, inr, ⊎-elim}
+use mathlib.Core.Bool.{Bool, true, false, Bool·beq, cond, not, xor, _&&_, _||_}
+use Prim.Native.Nat.{ℕ}
+use native.Mathlib.Omega.{arith}
+
+-- a test either way, with its equation
+pub either : (b : Bool) → (b ≡ true) ⊎ (b ≡ false)
+either true = inl refl
+either false = inr refl
+
+pub clash : {b : Bool} → b ≡ true → b ≡ false → ⊥
+clash p q = let z : _≡_ {A = ℕ} 0 1 = cc in omega arith
+
+pub is-false : {b : Bool} → (b ≡ true → ⊥) → b ≡ false
+is-false {b} f = ⊎-elim (λ t. absurd (f t)) (λ t. t) (either b)
 
 pub and-true : (a b : Bool) → (a && b) ≡ true → (a ≡ true) × (b ≡ true)
 and-true true b e = (refl, e)
@@ -26,6 +39,30 @@ or-left b p = rw p
 pub or-right : (a : Bool) {b : Bool} → b ≡ true → (a || b) ≡ true
 or-right true q = refl
 or-right false q = q
+
+pub xor-not : (b : Bool) → xor b true ≡ not b
+unfolding xor
+xor-not true = refl
+xor-not false = refl
+
+-- two tests that come out alike
+pub beq-true : (a b : Bool) → Bool·beq a b ≡ true → a ≡ b
+beq-true true true e = refl
+beq-true true false e = sym e
+beq-true false true e = e
+beq-true false false e = refl
+
+pub beq-same : (b : Bool) → Bool·beq b b ≡ true
+beq-same true = refl
+beq-same false = refl
+
+pub beq-yes : (b : Bool) → Bool·beq b true ≡ b
+beq-yes true = refl
+beq-yes false = refl
+
+pub beq-no : (b : Bool) → Bool·beq b false ≡ not b
+beq-no true = refl
+beq-no false = refl
 
 pub by-cases : {A : Type 0} (P : A → Type 0) (b : Bool) {x y : A} → (b ≡ true → P x) → (b ≡ false → P y) → P (cond b x y)
 by-cases P true f g = f refl

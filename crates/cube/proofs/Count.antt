@@ -1,5 +1,5 @@
 -- Laws of counting and searching: what `count`, `least` and `some` say, and how a loop that goes up by one learns them.
-use mathlib.Core.Path.{_≡_, refl, sym, _∙_, subst}
+use mathlib.Core.Path.{_≡_, refl, sym, ap, _∙_, subst}
 use mathlib.Core.Logic.{_⊎_, inl, inr, ⊎-elim, _≢_}
 use mathlib.Core.Bool.{Bool, true, false, _||_, not}
 use Prim.Native.Nat.{ℕ, zero, suc, _+_, _≤_, _<_}
@@ -8,15 +8,8 @@ use native.Mathlib.Nat.{eq-or-lt-of-le, le-of-suc-le-suc}
 use native.Mathlib.Numerals.{add-one}
 use lib.Dec.{ltb}
 use borrow.Author.Tests.{ltb-true, ltb-false, lt-ltb, le-ltb}
-use Rattle.cube.specs.Count.{count, least, some}
-
--- a test either way, with its equation
-pub either : (b : Bool) → (b ≡ true) ⊎ (b ≡ false)
-either true = inl refl
-either false = inr refl
-
-pub clash : {b : Bool} → b ≡ true → b ≡ false → ⊥
-clash p q = let z : _≡_ {A = ℕ} 0 1 = cc in omega arith
+use Rattle.cube.specs.Count.{count, larger, largest, least, some}
+use Rattle.cube.proofs.Bools.{either, clash, or-left, or-right}
 
 pub below-suc : {i n : ℕ} → i < suc n → (i ≡ n) ⊎ (i < n)
 below-suc h = eq-or-lt-of-le (le-of-suc-le-suc h)
@@ -88,7 +81,8 @@ count-more (suc n) j p q h a b f = go (count-more n j p q) (below-suc h)
     same d ih (inl e) = omega (arith, count-yes n p e, count-yes n q (sym (f n (omega arith) d) ∙ e))
     same d ih (inr e) = omega (arith, count-no n p e, count-no n q (sym (f n (omega arith) d) ∙ e))
 
-    go : (j < n → p j ≡ false → q j ≡ true → ((i : ℕ) → i < n → i ≢ j → p i ≡ q i) → count n q ≡ suc (count n p)) → (j ≡ n) ⊎ (j < n) → count (suc n) q ≡ suc (count (suc n) p)
+    go : (j < n → p j ≡ false → q j ≡ true → ((i : ℕ) → i < n → i ≢ j → p i ≡ q i) → count n q ≡ suc (count n p)) → (j ≡ n) ⊎ (j < n)
+        → count (suc n) q ≡ suc (count (suc n) p)
     go ih (inl e) =
         omega (
           arith,
@@ -104,7 +98,8 @@ unfolding count
 count-sum zero p q f = omega arith
 count-sum (suc n) p q f = go (count-sum n p q (λ i h. f i (omega arith))) (either (p n)) (either (q n))
   where
-    go : count n (λ i. p i || q i) ≡ count n p + count n q → (p n ≡ true) ⊎ (p n ≡ false) → (q n ≡ true) ⊎ (q n ≡ false) → count (suc n) (λ i. p i || q i) ≡ count (suc n) p + count (suc n) q
+    go : count n (λ i. p i || q i) ≡ count n p + count n q → (p n ≡ true) ⊎ (p n ≡ false) → (q n ≡ true) ⊎ (q n ≡ false)
+        → count (suc n) (λ i. p i || q i) ≡ count (suc n) p + count (suc n) q
     go ih (inl a) (inl b) = absurd (clash b (f n (omega arith) a))
     go ih (inl a) (inr b) = rw (a, b) (omega arith)
     go ih (inr a) (inl b) = rw (a, b) (omega arith)
@@ -233,3 +228,43 @@ none-some n p e i h = the-least n p .before i (omega (arith, ltb-false (least n 
 pub some-same : (n : ℕ) (p q : ℕ → Bool) → ((i : ℕ) → i < n → p i ≡ q i) → some n p ≡ some n q
 unfolding some
 some-same n p q f = rw (least-same n p q f)
+
+-- one place more
+pub some-suc : (n : ℕ) (p : ℕ → Bool) → some (suc n) p ≡ (some n p || p n)
+some-suc n p = go (either (some n p)) (either (p n))
+  where
+    go : (some n p ≡ true) ⊎ (some n p ≡ false) → (p n ≡ true) ⊎ (p n ≡ false) → some (suc n) p ≡ (some n p || p n)
+    go (inl a) _ = let r = some-found n p a in some-hit (suc n) p (r .0) (omega arith) (r .2) ∙ sym (or-left (p n) a)
+    go (inr a) (inl b) = some-hit (suc n) p n (omega arith) b ∙ sym (or-right (some n p) b)
+    go (inr a) (inr b) =
+        some-none (suc n) p (λ j h. ⊎-elim (λ (k : j ≡ n). rw k b) (λ (k : j < n). none-some n p a j k) (below-suc h)) ∙ rw (a, b)
+
+-- ---- the largest
+
+-- the larger of two is above top exactly where one of them is
+larger-above : (top a b : ℕ) → ltb top (larger a b) ≡ (ltb top a || ltb top b)
+larger-above top a b = go (either (ltb a b)) (either (ltb top a)) (either (ltb top b))
+  where
+    go : (ltb a b ≡ true) ⊎ (ltb a b ≡ false) → (ltb top a ≡ true) ⊎ (ltb top a ≡ false) → (ltb top b ≡ true) ⊎ (ltb top b ≡ false)
+        → ltb top (larger a b) ≡ (ltb top a || ltb top b)
+    go (inl p) (inl q) _ = rw (p, q) (lt-ltb top b (omega (arith, ltb-true a b p, ltb-true top a q)))
+    go (inl p) (inr q) _ = rw (p, q)
+    go (inr p) (inl q) _ = rw (p, q)
+    go (inr p) (inr q) (inl r) = absurd (omega (arith, ltb-false a b p, ltb-false top a q, ltb-true top b r))
+    go (inr p) (inr q) (inr r) = rw (p, q, r)
+
+-- the largest is above top exactly where some number is: so one compare says it of all of them
+pub largest-above : (top n : ℕ) (f : ℕ → ℕ) → ltb top (largest n f) ≡ some n (λ i. ltb top (f i))
+unfolding largest some least
+largest-above top zero f = le-ltb top zero (omega arith)
+largest-above top (suc n) f =
+    larger-above top (largest n f) (f n) ∙ ap (λ (b : Bool). b || ltb top (f n)) (largest-above top n f) ∙ sym (some-suc n (λ i. ltb top (f i)))
+
+-- of none it is 0; and the largest of a loop, one place on
+pub largest-none : (f : ℕ → ℕ) → 0 ≡ largest 0 f
+unfolding largest
+largest-none f = refl
+
+pub largest-next : (f : ℕ → ℕ) (m r i : ℕ) → m ≡ largest i f → r ≡ larger m (f i) → r ≡ largest (i + 1) f
+unfolding largest
+largest-next f m r i e h = h ∙ rw (add-one, e)

@@ -14,7 +14,8 @@ use lib.Bits.{bitXor, xor-shr, xor-mod, xor-lt, xor-comm, xor-self}
 use lib.Count.{ones, ones-step}
 use Rattle.cube.specs.Count.{count}
 use Rattle.cube.specs.Cube.{bit, flip, apart, dist}
-use Rattle.cube.proofs.Count.{either, count-zero, count-same, count-more, count-pos, count-none, pigeon}
+use Rattle.cube.proofs.Bools.{is-false}
+use Rattle.cube.proofs.Count.{count-zero, count-same, count-more, count-pos, count-none, pigeon}
 
 two : (m : ℕ) → m < 2 → (m ≡ 0) ⊎ (m ≡ 1)
 two zero h = inl refl
@@ -132,7 +133,11 @@ pub flip-flip : (n i x : ℕ) → i < n → x < 2 ^ n → flip i (flip i x) ≡ 
 flip-flip n i x h hx = bits-same n (flip i (flip i x)) x (flip-lt n i (flip i x) h (flip-lt n i x h hx)) hx go
   where
     go : (j : ℕ) → j < n → bit j (flip i (flip i x)) ≡ bit j x
-    go j l = elim (ℕ-discrete j i) [ yes e ↦ rw (e, bit-flip-same, bit-flip-same) (xor-true (bit i x)) | no d ↦ bit-flip-other j i (flip i x) d ∙ bit-flip-other j i x d ]
+    go j l =
+        elim (ℕ-discrete j i) [
+          | yes e ↦ rw (e, bit-flip-same, bit-flip-same) (xor-true (bit i x))
+          | no d ↦ bit-flip-other j i (flip i x) d ∙ bit-flip-other j i x d
+        ]
 
 apart-bits : (i x y : ℕ) → apart i x y ≡ xor (bit i x) (bit i y)
 unfolding apart
@@ -193,7 +198,7 @@ pub dist-zero : (n x y : ℕ) → x < 2 ^ n → y < 2 ^ n → dist x y ≡ 0 →
 dist-zero n x y hx hy e = none-apart n x y hx hy go
   where
     go : (i : ℕ) → i < n → apart i x y ≡ false
-    go i h = ⊎-elim (λ (t : apart i x y ≡ true). absurd (omega (arith, dist-count n x y hx hy, count-pos n (λ j. apart j x y) i h t))) (λ t. t) (either (apart i x y))
+    go i h = is-false (λ t. omega (arith, dist-count n x y hx hy, count-pos n (λ j. apart j x y) i h t))
 
 -- a hop across a dimension in which x and y differ brings them one nearer; across any other, one farther
 pub dist-fall : (n i x y : ℕ) → x < 2 ^ n → y < 2 ^ n → i < n → apart i x y ≡ true → dist x y ≡ suc (dist (flip i x) y)
@@ -216,7 +221,10 @@ dist-rise n i x y hx hy h e =
 
 -- nodes that are apart differ in some dimension
 pub some-apart : (n x y : ℕ) → x < 2 ^ n → y < 2 ^ n → 0 < dist x y → (i : ℕ) × (i < n) × (apart i x y ≡ true)
-some-apart n x y hx hy h = let r = pigeon n (λ _. false) (λ j. apart j x y) (omega (arith, dist-count n x y hx hy, count-none n (λ _. false) (λ _ _. refl))) in (r .0, r .1, r .2)
+some-apart n x y hx hy h =
+    let none = count-none n (λ _. false) (λ _ _. refl) in
+    let r = pigeon n (λ _. false) (λ j. apart j x y) (omega (arith, dist-count n x y hx hy)) in
+    (r .0, r .1, r .2)
 
 -- nodes at distance 1 are neighbours
 pub neighbour : (n x y : ℕ) → x < 2 ^ n → y < 2 ^ n → dist x y ≡ 1 → (i : ℕ) × (i < n) × (apart i x y ≡ true) × (x ≡ flip i y)

@@ -14,8 +14,8 @@ use borrow.Author.Tests.{le-leb, lt-leb, eq-eqb, ne-eqb, leb-true, leb-false}
 use Rattle.cube.specs.Count.{some}
 use Rattle.cube.specs.Cube.{bit}
 use Rattle.cube.specs.Tables.{isDimension, tableLen, nodeBit, unusedSet}
-use Rattle.cube.proofs.Bools.{and-true}
-use Rattle.cube.proofs.Count.{either, clash, some-none, some-found, none-some}
+use Rattle.cube.proofs.Bools.{either, clash, and-true}
+use Rattle.cube.proofs.Count.{some-none, some-found, none-some}
 use Rattle.cube.proofs.Cube.{bit-none, bit-shift, bits-same}
 
 -- ---- the dimension
@@ -23,6 +23,10 @@ use Rattle.cube.proofs.Cube.{bit-none, bit-shift, bits-same}
 pub dimension-is : (n : ℕ) → isDimension n ≡ true → (1 ≤ n) × (n ≤ 12)
 unfolding isDimension
 dimension-is n e = let r = and-true (leb 1 n) (leb n 12) e in (leb-true 1 n (r .0), leb-true n 12 (r .1))
+
+-- a cube of at most 12 dimensions has at most 4096 nodes
+pub nodes-few : (n : ℕ) → n ≤ 12 → 2 ^ n ≤ 4096
+nodes-few n h = pow-mono h
 
 -- ---- the length
 
@@ -59,9 +63,6 @@ pub node-room : (n k m : ℕ) → m ≡ tableLen n → k < 2 ^ n → k / 8 < m
 node-room n k m e h = omega (arith, table-room n)
 
 -- ---- the unused bits
-
-pub nodes-few : (n : ℕ) → n < 3 → 2 ^ n < 8
-nodes-few n h = pow-lt {i = n} {j = 3} h
 
 pub unused-none : (n : ℕ) (t : List ℕ) → 3 ≤ n → length t ≡ tableLen n → unusedSet n t ≡ false
 unfolding unusedSet
@@ -107,5 +108,6 @@ module _ (n : ℕ) (t : List ℕ) (small : n < 3) (sized : length t ≡ tableLen
           ap not (ne-eqb (getD t 0 0 / 2 ^ (2 ^ n)) 0 (λ z. clash set (clear-above (2 ^ n) (getD t 0 0) z (r .0) (leb-true (2 ^ n) (r .0) (q .0))))) ∙ sym a
       go (inr a) =
           let none = none-some (8 * length t) (λ k. leb (2 ^ n) k && nodeBit t k) a in
-          let f : (i : ℕ) → 2 ^ n ≤ i → i < 8 → bit i (getD t 0 0) ≡ false = λ i h l. sym (bit-here i l) ∙ (rw (le-leb (2 ^ n) i h) at (none i (omega (arith, one-byte)))) in
+          let f : (i : ℕ) → 2 ^ n ≤ i → i < 8 → bit i (getD t 0 0) ≡ false =
+          λ i h l. sym (bit-here i l) ∙ (rw (le-leb (2 ^ n) i h) at (none i (omega (arith, one-byte)))) in
           ap not (eq-eqb (getD t 0 0 / 2 ^ (2 ^ n)) 0 (above-clear (2 ^ n) (getD t 0 0) low fits f)) ∙ sym a

@@ -13,6 +13,14 @@ unfoldable pub least : ℕ → (ℕ → Bool) → ℕ
 least zero p = zero
 least (suc n) p = let m : ℕ = least n p in cond (ltb m n) m (cond (p n) n (suc n))
 
+-- the larger of two numbers, and the largest of f 0, f 1, .., n in all: 0 where there is none
+abbrev pub larger : ℕ → ℕ → ℕ
+larger a b = cond (ltb a b) b a
+
+unfoldable pub largest : ℕ → (ℕ → ℕ) → ℕ
+largest zero f = zero
+largest (suc n) f = larger (largest n f) (f n)
+
 -- some i below n has p
 unfoldable pub some : ℕ → (ℕ → Bool) → Bool
 some n p = ltb (least n p) n

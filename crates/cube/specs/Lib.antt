@@ -1,4 +1,5 @@
 pub mod Count
 pub mod Cube
 pub mod Tables
-pub mod Answer
+pub mod Refusal
+pub mod Laws

@@ -1,7 +1,7 @@
 // The cube: nodes as numbers, the neighbour across a dimension, the Hamming distance, and the bits of a fault table.
 // Nothing here refuses: the crates above test what they are handed before they ask.
 ghost use Prim.Native.Nat.{_/_, _^_, _<_, _≤_};
-ghost use Rattle.cube.specs.Cube.{apart, dist, flip};
+ghost use Rattle.cube.specs.Cube.{dist, flip};
 ghost use Rattle.cube.specs.Tables.{isDimension, nodeBit, tableLen, unusedSet};
 ghost use lib.ListN.{length};
 ghost use mathlib.Core.Path.{_≡_};
@@ -20,14 +20,6 @@ pub fn neighbour(x: usize, i: usize) -> usize
     ensures { λ r. ⌜ r ≡ flip i x ⌝ }
 {
     x ^ (1 << i)
-}
-
-// Whether dimension i leads from c towards d: the two differ in it.
-pub fn forward(c: usize, d: usize, i: usize) -> bool
-    requires { ⌜ i < 64 ⌝ }
-    ensures { λ r. ⌜ r ≡ apart i c d ⌝ }
-{
-    ((c ^ d) >> i) % 2 == 1
 }
 
 // The Hamming distance of two nodes.

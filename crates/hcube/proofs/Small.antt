@@ -1,19 +1,20 @@
 -- Every part of an answer is small, so that the packed number does not wrap: a refusal is at most 12, a dimension below 12, a hop count at most 16.
 use mathlib.Core.Path.{_≡_, refl}
 use mathlib.Core.Logic.{_⊎_, inl, inr}
-use mathlib.Core.Bool.{Bool, true, false, cond, not, _||_, _&&_}
-use mathlib.Core.List.{List}
-use Prim.Native.Nat.{ℕ, _+_, _^_, _≤_, _<_}
+use mathlib.Core.Bool.{true, false, not, _&&_}
+use mathlib.Core.List.{List, _++_}
+use Prim.Native.Nat.{ℕ, _+_, _≤_, _<_}
 use native.Mathlib.Omega.{arith}
-use lib.Dec.{eqb, leb, ltb}
+use lib.Dec.{eqb}
 use lib.ListN.{length}
 use borrow.Author.Tests.{eqb-true, not-false}
-use Rattle.cube.specs.Count.{some}
 use Rattle.cube.specs.Cube.{flip}
+use Rattle.cube.specs.Refusal.{first}
 use Rattle.cube.specs.Tables.{isDimension, labelIn, tab}
-use Rattle.cube.proofs.Bools.{by-cases}
-use Rattle.cube.proofs.Count.{either, the-least}
-use Rattle.cube.proofs.Tables.{dimension-is}
+use Rattle.cube.proofs.Bools.{either, by-cases}
+use Rattle.cube.proofs.Refusal.{first-le}
+use Rattle.cube.proofs.Count.{the-least}
+use Rattle.labels.specs.Cabinet.{Cabinet}
 use Rattle.labels.specs.Labelling as L
 use Rattle.labels.proofs.Refusal.{accepted as label-accepted, refusal-le, rounds-few}
 use Rattle.route.specs.Hop as H
@@ -22,41 +23,28 @@ use Rattle.route.specs.declared.Decision.{Decision}
 use Rattle.route.specs.declared.Decision.the-variants.{Deliver, Hop, Halted}
 use Rattle.route.specs.declared.Walked.{Walked}
 use Rattle.route.proofs.Local.{hop-dim}
-use Rattle.route.proofs.Refusals.{start-good}
+use Rattle.route.proofs.Refusals.{hop-good, start-good}
 use Rattle.hcube.specs.Answers.{accepted, rowAfter, rowByte, walkedFor}
 use Rattle.hcube.specs.Fits.{HopFits, LabelFits, RowFits, WalkFits}
-
--- a refusal that is tested first and not given
-passed : (b : Bool) (r : ℕ) → cond b 1 r ≡ 0 → b ≡ false
-passed true r e = absurd (omega arith)
-passed false r e = refl
-
-dimension-small : (n r : ℕ) → cond (not (isDimension n)) 1 r ≡ 0 → n ≤ 12
-dimension-small n r e = dimension-is n (not-false (isDimension n) (passed (not (isDimension n)) r e)) .1
 
 abbrev Few : ℕ → Type 0
 Few x = x ≤ 12
 
 -- ---- labelling
 
-pub label-small : (n : ℕ) (faults : List ℕ) (m : ℕ) → LabelFits (L.labelled n faults m)
+pub label-small : (K : Cabinet) (m : ℕ) → LabelFits (L.labelled K m)
 unfolding L.labelled
-label-small n faults m =
-    by-cases LabelFits (eqb (L.labelRefusal n faults m) 0)
-    (λ e. (omega arith, omega (arith, rounds-few n faults m (label-accepted n faults m (eqb-true (L.labelRefusal n faults m) 0 e) .0))))
-    (λ _. (omega (arith, refusal-le n faults m), omega arith))
+label-small K m =
+    by-cases LabelFits (eqb (L.labelRefusal K m) 0)
+    (λ e. (omega arith, omega (arith, rounds-few K m (label-accepted K m (eqb-true (L.labelRefusal K m) 0 e) .0))))
+    (λ _. (omega (arith, refusal-le K m), omega arith))
 
 -- ---- the hop
 
 module _ (n c d : ℕ) (l : List ℕ) where
   hop-refusal : Few (H.hopRefusal n c d l)
   unfolding H.hopRefusal
-  hop-refusal =
-      by-cases Few (not (isDimension n)) (λ _. omega arith)
-      (λ _. by-cases Few (not (eqb (length l) (2 ^ n))) (λ _. omega arith)
-      (λ _. by-cases Few (leb (2 ^ n) c || leb (2 ^ n) d) (λ _. omega arith)
-      (λ _. by-cases Few (ltb 3 (labelIn l c) || some n (λ i. ltb 3 (labelIn l (flip i c)))) (λ _. omega arith)
-      (λ _. by-cases Few (eqb (labelIn l c) 3) (λ _. omega arith) (λ _. omega arith)))))
+  hop-refusal = first-le 12 (H.placeTests n c d (length l) ++ H.nearTests n (labelIn l c) (λ i. labelIn l (flip i c))) refl
 
   decision-small : (x : Decision) → n ≤ 12 → H.hop n (labelIn l) c d ≡ x → H.decisionValue x < 65536
   decision-small Deliver h e = omega arith
@@ -64,10 +52,10 @@ module _ (n c d : ℕ) (l : List ℕ) where
   decision-small Halted h e = omega arith
 
   pub hop-small : HopFits (H.hopped n c d l)
-  unfolding H.hopped H.hopRefusal
+  unfolding H.hopped
   hop-small =
       by-cases HopFits (eqb (H.hopRefusal n c d l) 0)
-      (λ e. (omega arith, decision-small (H.hop n (labelIn l) c d) (dimension-small n _ (eqb-true (H.hopRefusal n c d l) 0 e)) refl))
+      (λ e. (omega arith, decision-small (H.hop n (labelIn l) c d) (hop-good n c d l (eqb-true (H.hopRefusal n c d l) 0 e) .small) refl))
       (λ _. (omega (arith, hop-refusal), omega arith))
 
 -- ---- the walk
@@ -75,13 +63,7 @@ module _ (n c d : ℕ) (l : List ℕ) where
 module _ (n s d : ℕ) (l : List ℕ) where
   start-refusal : Few (W.startRefusal n s d l)
   unfolding W.startRefusal
-  start-refusal =
-      by-cases Few (not (isDimension n)) (λ _. omega arith)
-      (λ _. by-cases Few (not (eqb (length l) (2 ^ n))) (λ _. omega arith)
-      (λ _. by-cases Few (leb (2 ^ n) s || leb (2 ^ n) d) (λ _. omega arith)
-      (λ _. by-cases Few (some (2 ^ n) (λ x. ltb 3 (labelIn l x))) (λ _. omega arith)
-      (λ _. by-cases Few (eqb (labelIn l s) 3) (λ _. omega arith)
-      (λ _. by-cases Few (eqb (labelIn l d) 3) (λ _. omega arith) (λ _. omega arith))))))
+  start-refusal = first-le 12 (H.placeTests n s d (length l) ++ W.tableTests n s d l) refl
 
   hops-few : n ≤ 12 → W.hops n (labelIn l) d s < 65536
   unfolding W.hops
@@ -112,7 +94,7 @@ module _ (n s d : ℕ) (l : List ℕ) where
   refused-row k m e = let z : _≡_ {A = ℕ} 0 1 = cc in absurd (omega arith)
 
   pub row-fits : (m : ℕ) → RowFits (walkedFor n s d l m) m
-  unfolding walkedFor W.walked W.startRefusal
+  unfolding walkedFor W.walked W.startRefusal first
   row-fits m = by-cases (λ w. RowFits w m) (isDimension n && not (eqb m 34)) (λ _. refused-row 2 m) (λ e. known (either (isDimension n)) e)
     where
       known : (isDimension n ≡ true) ⊎ (isDimension n ≡ false) → (isDimension n && not (eqb m 34)) ≡ false → RowFits (W.walked n s d l) m

@@ -5,6 +5,7 @@ ghost use Rattle.cube.specs.Answer.{packed};
 ghost use Rattle.cube.specs.Tables.{tab};
 ghost use Rattle.hcube.specs.Answers.{accepted, hopNumber, labelNumber, noticeNumber, packedNotice, rowAfter, rowByte, walkNumber, walkedFor};
 ghost use Rattle.hcube.specs.Fits.{RowFits, WalkFits};
+ghost use Rattle.labels.specs.Cabinet.{cabinet};
 ghost use Rattle.labels.specs.Labelling.{labelled, labelsAfter};
 ghost use Rattle.notice.specs.Notice.{noticed, tableAfter};
 ghost use Rattle.route.specs.Hop.{decisionKind, decisionValue, hopped};
@@ -29,8 +30,8 @@ fn pack(refusal: u32, kind: u32, value: usize) -> u32
 // Labels every node: the round count, or the refusal, which leaves the labels as they were.
 #[no_mangle]
 pub extern "C" fn hcube_label(n: u32, faults: &[u8], labels: &mut [u8]) -> u32
-    ensures answer { λ r. ⌜ r ≡ labelNumber (labelled n (now (faults .entry)) (length (now (labels .entry)))) ⌝ }
-    ensures labels { λ r. ⌜ now (labels .exit) ≡ labelsAfter n (now (faults .entry)) (now (labels .entry)) ⌝ }
+    ensures answer { λ r. ⌜ r ≡ labelNumber (labelled (cabinet n (now (faults .entry))) (length (now (labels .entry)))) ⌝ }
+    ensures labels { λ r. ⌜ now (labels .exit) ≡ labelsAfter (cabinet n (now (faults .entry))) (now (labels .entry)) ⌝ }
 {
     let answer = labels::label(n as usize, faults, labels);
     match answer {

@@ -7,7 +7,8 @@ use Prim.Native.Nat.{ℕ, _^_, _≤_, _<_}
 use native.Mathlib.Omega.{arith}
 use Rattle.cube.specs.Count.{some}
 use Rattle.cube.specs.Cube.{flip}
-use Rattle.cube.proofs.Count.{either, clash, some-found, none-some}
+use Rattle.cube.proofs.Bools.{either, clash}
+use Rattle.cube.proofs.Count.{some-found, none-some}
 use Rattle.labels.specs.Rule.{labelOf}
 
 module _ (n : ℕ) (F : ℕ → Bool) (out : ℕ → ℕ) (S : ℕ → Bool) where

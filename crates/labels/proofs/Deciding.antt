@@ -10,7 +10,8 @@ use lib.Dec.{leb, eqb}
 use borrow.Author.Tests.{leb-true, leb-false, le-leb, lt-leb, eqb-true, eqb-false}
 use Rattle.cube.specs.Cube.{flip}
 use Rattle.cube.specs.Tables.{labelIn}
-use Rattle.cube.proofs.Count.{either, count-le, count-same}
+use Rattle.cube.proofs.Bools.{either}
+use Rattle.cube.proofs.Count.{count-le, count-same}
 use Rattle.labels.specs.Passes.{outIn, markIn, countFrom}
 use Rattle.labels.specs.Rule.{meets}
 

@@ -11,11 +11,13 @@ use borrow.Author.Tests.{leb-true}
 use Rattle.cube.specs.Count.{count}
 use Rattle.cube.specs.Cube.{flip}
 use Rattle.cube.specs.Tables.{labelIn, nodeBit}
-use Rattle.cube.proofs.Count.{clash, count-le, count-same}
+use Rattle.cube.proofs.Bools.{clash}
+use Rattle.cube.proofs.Count.{count-le, count-same}
 use Rattle.cube.proofs.Cube.{flip-lt}
 use Rattle.cube.proofs.Front.{length-tab, getD-tab}
 use Rattle.labels.specs.Closed.{Closed}
 use Rattle.labels.specs.Good.{Good}
+use Rattle.labels.specs.Cabinet.{Cabinet, broken, outByte, rule}
 use Rattle.labels.specs.Labelling.{labelsOf}
 use Rattle.labels.specs.Rule.{labelOf, label, safe}
 use Rattle.labels.proofs.Bytes.{bytes-le, zero-safe, safe-zero, byte-out, ordinary-near, strong-none}
@@ -74,20 +76,20 @@ good-same n lab lab′ same G =
 
 -- ---- the bytes that labelling writes for a fault table
 
-module _ (n : ℕ) (faults : List ℕ) where
-  pub labels-length : length (labelsOf n faults) ≡ 2 ^ n
+module _ (K : Cabinet) where
+  pub labels-length : length (labelsOf K) ≡ 2 ^ K .n
   unfolding labelsOf
-  labels-length = length-tab (2 ^ n) (label n 3 (nodeBit faults) (λ _. 3))
+  labels-length = length-tab (2 ^ K .n) (label (K .n) (rule K) (broken K) (outByte K))
 
-  pub label-in : (x : ℕ) → x < 2 ^ n → labelIn (labelsOf n faults) x ≡ label n 3 (nodeBit faults) (λ _. 3) x
+  pub label-in : (x : ℕ) → x < 2 ^ K .n → labelIn (labelsOf K) x ≡ label (K .n) (rule K) (broken K) (outByte K) x
   unfolding labelIn labelsOf
-  label-in x h = getD-tab (2 ^ n) (label n 3 (nodeBit faults) (λ _. 3)) x h
+  label-in x h = getD-tab (2 ^ K .n) (label (K .n) (rule K) (broken K) (outByte K)) x h
 
-  pub label-bytes : (x : ℕ) → x < 2 ^ n → labelIn (labelsOf n faults) x ≤ 3
+  pub label-bytes : (x : ℕ) → x < 2 ^ K .n → labelIn (labelsOf K) x ≤ 3
   unfolding label
-  label-bytes x h = omega (arith, label-in x h, bytes-le n (nodeBit faults) (λ _. 3) (safe n 3 (nodeBit faults)) 3 (omega arith) x (omega arith))
+  label-bytes x h = omega (arith, label-in x h, bytes-le (K .n) (broken K) (outByte K) (safe (K .n) (rule K) (broken K)) 3 (omega arith) x (omega arith))
 
-  pub table-good : Good n (labelIn (labelsOf n faults))
+  pub table-good : Good (K .n) (labelIn (labelsOf K))
   table-good =
-      good-same n (label n 3 (nodeBit faults) (λ _. 3)) (labelIn (labelsOf n faults)) (λ x h. sym (label-in x h))
-      (labels-good n 3 (nodeBit faults) (λ _. 3) (λ x e. omega arith) (omega arith))
+      good-same (K .n) (label (K .n) (rule K) (broken K) (outByte K)) (labelIn (labelsOf K)) (λ x h. sym (label-in x h))
+      (labels-good (K .n) (rule K) (broken K) (outByte K) (λ x e. omega arith) (omega arith))

@@ -9,8 +9,8 @@ use lib.Dec.{leb}
 use borrow.Author.Tests.{leb-true, leb-false, not-true}
 use Rattle.cube.specs.Count.{count}
 use Rattle.cube.specs.Cube.{flip}
-use Rattle.cube.proofs.Bools.{or-true, or-false}
-use Rattle.cube.proofs.Count.{clash, count-le}
+use Rattle.cube.proofs.Bools.{clash, or-true, or-false}
+use Rattle.cube.proofs.Count.{count-le}
 use Rattle.cube.proofs.Cube.{flip-lt}
 use Rattle.labels.specs.Closed.{Closed}
 use Rattle.labels.specs.Rule.{meets, newly, marked, rounds, safe}

@@ -10,8 +10,8 @@ use lib.Pow.{pow-mono}
 use borrow.Author.Tests.{ltb-true, ltb-false, eqb-true, eqb-false, eq-eqb, not-true}
 use Rattle.cube.specs.Count.{count}
 use Rattle.cube.specs.Cube.{flip}
-use Rattle.cube.proofs.Bools.{and-true, or-true}
-use Rattle.cube.proofs.Count.{either, clash, count-bound, count-le, count-same, count-sum, count-none, none-counted, find, the-least, least-is}
+use Rattle.cube.proofs.Bools.{either, clash, and-true, or-true}
+use Rattle.cube.proofs.Count.{count-bound, count-le, count-same, count-sum, count-none, none-counted, find, the-least, least-is}
 use Rattle.labels.specs.Rule.{meets, newly, marked, quiet, working, rounds}
 
 pub is-false : {b : Bool} → (b ≡ true → ⊥) → b ≡ false

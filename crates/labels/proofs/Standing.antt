@@ -12,7 +12,8 @@ use borrow.Author.Tests.{ne-eqb, le-leb}
 use Rattle.cube.specs.Count.{count}
 use Rattle.cube.specs.Cube.{flip}
 use Rattle.cube.specs.Tables.{tab, labelIn}
-use Rattle.cube.proofs.Count.{either, clash, count-same}
+use Rattle.cube.proofs.Bools.{either, clash}
+use Rattle.cube.proofs.Count.{count-same}
 use Rattle.cube.proofs.Cube.{flip-lt}
 use Rattle.cube.proofs.Front.{length-tab, getD-tab, tab-cong}
 use Rattle.labels.specs.Passes.{outIn, markIn, plainIn, fresh, started}

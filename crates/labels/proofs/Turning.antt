@@ -13,8 +13,8 @@ use borrow.Author.Tests.{eq-eqb, ne-eqb}
 use Rattle.cube.specs.Count.{count, some}
 use Rattle.cube.specs.Cube.{flip}
 use Rattle.cube.specs.Tables.{tab, labelIn}
-use Rattle.cube.proofs.Bools.{or-left, or-right}
-use Rattle.cube.proofs.Count.{either, below-suc, none-counted, some-same}
+use Rattle.cube.proofs.Bools.{either, or-left, or-right}
+use Rattle.cube.proofs.Count.{below-suc, none-counted, some-same}
 use Rattle.cube.proofs.Cube.{flip-lt}
 use Rattle.cube.proofs.Front.{length-tab, getD-tab, tab-cong}
 use Rattle.labels.specs.Passes.{plainIn, fresh, ordinary, oneWhere, settled}

@@ -1,36 +1,43 @@
 -- What labelling answers and leaves, for any lent tables. `faults` is the lent fault table, `before` the label table as it was lent.
 use mathlib.Core.Bool.{cond, not}
-use mathlib.Core.List.{List}
+use mathlib.Core.List.{List, [], _∷_}
 use Prim.Native.Nat.{ℕ, _^_}
 use lib.Dec.{eqb}
 use lib.ListN.{length}
-use Rattle.cube.specs.Tables.{isDimension, nodeBit, tab, tableLen, unusedSet}
+use Rattle.cube.specs.Refusal.{Test, first, _⇒_}
+use Rattle.cube.specs.Tables.{isDimension, tab, tableLen, unusedSet}
+use Rattle.labels.specs.Cabinet.{Cabinet, broken, outByte, rule}
 use Rattle.labels.specs.Rule.{label, rounds}
 use Rattle.labels.specs.declared.Labelled.{Labelled}
 use Rattle.labels.specs.declared.Labelled.the-variants.{Rounds, Refused}
 
--- the refusal number, 0 for none; m is the length of the label table
-unfoldable pub labelRefusal : (n : ℕ) (faults : List ℕ) (m : ℕ) → ℕ
-labelRefusal n faults m =
-    cond (not (isDimension n)) 1
-    (cond (not (eqb (length faults) (tableLen n))) 2
-    (cond (not (eqb m (2 ^ n))) 2
-    (cond (unusedSet n faults) 3 0)))
+-- the refusals in order; m is the length of the label table
+abbrev pub labelTests : (K : Cabinet) (m : ℕ) → List Test
+labelTests K m =
+    not (isDimension (K .n)) ⇒ 1
+    ∷ not (eqb (length (K .faults)) (tableLen (K .n))) ⇒ 2
+    ∷ not (eqb m (2 ^ K .n)) ⇒ 2
+    ∷ unusedSet (K .n) (K .faults) ⇒ 3
+    ∷ []
 
--- document 01's rounds and labels of a fault table: rule 3, and byte 3 for a faulty node
-unfoldable pub roundsOf : (n : ℕ) (faults : List ℕ) → ℕ
-roundsOf n faults = rounds n 3 (nodeBit faults)
+-- the refusal number, 0 for none
+unfoldable pub labelRefusal : (K : Cabinet) (m : ℕ) → ℕ
+labelRefusal K m = first (labelTests K m)
 
-unfoldable pub labelsOf : (n : ℕ) (faults : List ℕ) → List ℕ
-labelsOf n faults = tab (2 ^ n) (label n 3 (nodeBit faults) (λ _. 3))
+-- the rounds and the labels
+unfoldable pub roundsOf : Cabinet → ℕ
+roundsOf K = rounds (K .n) (rule K) (broken K)
+
+unfoldable pub labelsOf : Cabinet → List ℕ
+labelsOf K = tab (2 ^ K .n) (label (K .n) (rule K) (broken K) (outByte K))
 
 -- the answer: the round count, or the refusal
-unfoldable pub labelled : (n : ℕ) (faults : List ℕ) (m : ℕ) → Labelled
-labelled n faults m = cond (eqb (labelRefusal n faults m) 0) (Rounds (roundsOf n faults)) (Refused (labelRefusal n faults m))
+unfoldable pub labelled : (K : Cabinet) (m : ℕ) → Labelled
+labelled K m = cond (eqb (labelRefusal K m) 0) (Rounds (roundsOf K)) (Refused (labelRefusal K m))
 
 -- the label table afterwards: every byte written, or every byte kept
-unfoldable pub labelsAfter : (n : ℕ) (faults before : List ℕ) → List ℕ
-labelsAfter n faults before = cond (eqb (labelRefusal n faults (length before)) 0) (labelsOf n faults) before
+unfoldable pub labelsAfter : (K : Cabinet) (before : List ℕ) → List ℕ
+labelsAfter K before = cond (eqb (labelRefusal K (length before)) 0) (labelsOf K) before
 
 -- document 01's numbers for the cases; the kind is 0
 abbrev pub refusalOf : Labelled → ℕ

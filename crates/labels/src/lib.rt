@@ -5,6 +5,7 @@ ghost use Prim.Native.Nat.{_/_, _<_, _≤_, _^_};
 ghost use Rattle.cube.specs.Count.{count, some};
 ghost use Rattle.cube.specs.Cube.{flip};
 ghost use Rattle.cube.specs.Tables.{nodeBit, tab, tableLen};
+ghost use Rattle.labels.specs.Cabinet.{cabinet};
 ghost use Rattle.labels.specs.Labelling.{labelRefusal, labelled, labelsAfter, labelsOf, roundsOf};
 ghost use Rattle.labels.specs.Passes.{countFrom, fresh, markIn, oneWhere, ordinary, outIn, plainIn, settled, started};
 ghost use Rattle.labels.specs.Rule.{meets};
@@ -35,7 +36,7 @@ pub enum Labelled {
 }
 
 fn label_refusal(n: usize, faults: &[u8], m: usize) -> u32
-    ensures { λ r. ⌜ r ≡ labelRefusal n (now (faults .entry)) m ⌝ }
+    ensures { λ r. ⌜ r ≡ labelRefusal (cabinet n (now (faults .entry))) m ⌝ }
 {
     if !is_dimension(n) {
         return 1;
@@ -196,7 +197,7 @@ fn finish(n: usize, labels: &mut [u8])
 // Labels every node of an accepted table and answers the number of rounds that marked something new.
 fn label_nodes(n: usize, faults: &[u8], labels: &mut [u8]) -> usize
     requires { ⌜ (n ≤ 12) × ((length (now faults) ≡ tableLen n) × (length (now labels) ≡ 2 ^ n)) ⌝ }
-    ensures { λ r. ⌜ (r ≡ roundsOf n (now (faults .entry))) × (now (labels .exit) ≡ labelsOf n (now (faults .entry))) ⌝ }
+    ensures { λ r. ⌜ (r ≡ roundsOf (cabinet n (now (faults .entry)))) × (now (labels .exit) ≡ labelsOf (cabinet n (now (faults .entry)))) ⌝ }
 {
     start(n, faults, labels);
     let mut rounds: usize = 0;
@@ -214,7 +215,7 @@ fn label_nodes(n: usize, faults: &[u8], labels: &mut [u8]) -> usize
 
 // Labels every node and answers the number of rounds that marked something new, or refuses and leaves the label table as it was.
 pub fn label(n: usize, faults: &[u8], labels: &mut [u8]) -> Labelled
-    ensures { λ r. ⌜ (r ≡ labelled n (now (faults .entry)) (length (now (labels .entry)))) × (now (labels .exit) ≡ labelsAfter n (now (faults .entry)) (now (labels .entry))) ⌝ }
+    ensures { λ r. ⌜ (r ≡ labelled (cabinet n (now (faults .entry))) (length (now (labels .entry)))) × (now (labels .exit) ≡ labelsAfter (cabinet n (now (faults .entry))) (now (labels .entry))) ⌝ }
 {
     let refusal = label_refusal(n, faults, labels.len());
     if refusal != 0 {

@@ -8,7 +8,7 @@ use lib.Dec.{leb}
 use lib.Pow.{pow-mono}
 use borrow.Author.Tests.{leb-true, leb-false}
 use Rattle.cube.specs.Tables.{tableLen}
-use Rattle.cube.proofs.Count.{either}
+use Rattle.cube.proofs.Bools.{either}
 use Rattle.cube.proofs.Tables.{len-small, table-full}
 
 pub nodes-few : (n : ℕ) → n ≤ 12 → 2 ^ n ≤ 4096

@@ -11,7 +11,7 @@ use lib.ListN.{length, take, drop, replicate, length-replicate}
 use lib.Pow.{pow-mono}
 use borrow.Author.Tests.{leb-true, leb-false, eq-eqb, ne-eqb}
 use Rattle.cube.specs.Tables.{tableLen}
-use Rattle.cube.proofs.Count.{either}
+use Rattle.cube.proofs.Bools.{either}
 use Rattle.cube.proofs.Tables.{dimension-is, len-small, table-full, table-room}
 use Rattle.groups.specs.declared.Number.{Number}
 use Rattle.groups.specs.declared.Number.the-variants as number

@@ -14,7 +14,7 @@ use lib.Seq.{getD-set-same, getD-set-other}
 use borrow.Author.Tests.{ltb-true, ltb-false, eq-eqb, ne-eqb}
 use Rattle.cube.specs.Cube.{bit, flip}
 use Rattle.cube.specs.Tables.{nodeBit}
-use Rattle.cube.proofs.Count.{either}
+use Rattle.cube.proofs.Bools.{either}
 use Rattle.cube.proofs.Cube.{bit-none, bit-flip-same, bit-flip-other}
 use Rattle.notice.specs.Row.{rising, named, withBit, withBits}
 use Rattle.notice.proofs.Rising.{rises}

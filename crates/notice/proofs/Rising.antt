@@ -9,8 +9,8 @@ use lib.Dec.{eqb, leb, ltb}
 use lib.ListN.{length}
 use borrow.Author.Tests.{leb-true, ltb-true, le-leb, lt-ltb, eqb-true, eq-eqb, ne-eqb}
 use Rattle.cube.specs.Count.{count}
-use Rattle.cube.proofs.Bools.{and-true, and-both, or-true, or-left}
-use Rattle.cube.proofs.Count.{either, count-none, count-more}
+use Rattle.cube.proofs.Bools.{either, and-true, and-both, or-true, or-left}
+use Rattle.cube.proofs.Count.{count-none, count-more}
 use Rattle.notice.specs.Row.{rising, named}
 
 pub rises : (base size a : ℕ) (l : List ℕ) → rising base size (a ∷ l) ≡ true → (base ≤ a) × (a < size) × (rising (a + 1) size l ≡ true)

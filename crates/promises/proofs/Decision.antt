@@ -2,16 +2,16 @@
 -- dimension; and what each scan asks of a dimension is read off its definition.
 use mathlib.Core.Path.{_≡_, refl, sym}
 use mathlib.Core.Logic.{_⊎_, inl, inr, ⊎-elim, ⊎-map}
-use mathlib.Core.Bool.{Bool, true, false, _||_, Bool·beq}
-use Prim.Native.Nat.{ℕ, _≤_, _<_}
+use mathlib.Core.Bool.{Bool, true, false, _&&_, _||_, Bool·beq}
+use Prim.Native.Nat.{ℕ, zero, suc, _≤_, _<_}
 use native.Mathlib.Omega.{arith}
 use lib.Dec.{leb, ltb, eqb}
 use borrow.Author.Tests.{ltb-true, ltb-false, leb-true, leb-false, eqb-true, eqb-false, eq-eqb, le-leb}
 use Rattle.cube.specs.Count.{least}
 use Rattle.cube.specs.Cube.{flip, apart, dist}
-use Rattle.cube.proofs.Bools.{and-true, or-true, or-left, or-right}
-use Rattle.cube.proofs.Count.{either, Least, the-least}
-use Rattle.route.specs.Hop.{leads, hits, lowest, scan, answer, decide, hop}
+use Rattle.cube.proofs.Bools.{clash, either, and-true, or-true, or-left, or-right}
+use Rattle.cube.proofs.Count.{Least, the-least}
+use Rattle.route.specs.Hop.{Scan, scanAt, leads, hits, lowest, scan, answer, decide, hop}
 use Rattle.promises.specs.Picked.{takes, Misses, Picked, arrived, took, stopped}
 
 beq-true : (a b : Bool) → Bool·beq a b ≡ true → a ≡ b
@@ -67,65 +67,39 @@ module _ (n : ℕ) (lab : ℕ → ℕ) (c d : ℕ) where
           took first (low first) (far a) l m (rw (a, b)) (taken first m) (lower first) (λ t h. missed t (the-first .before t h))
       go (inr a) (inr b) = stopped (far a) (rw (a, b)) (λ t h. missed t (the-first .before t (omega (arith, ltb-false first 6 b))))
 
-  leads-says : (side : Bool) (t i : ℕ) → leads c d near side t i ≡ true → (apart i c d ≡ side) × (lab (flip i c) ≤ t)
-  unfolding leads
-  leads-says side t i e =
-      let r = and-true (Bool·beq (apart i c d) side) (leb (lab (flip i c)) t) e in
-      (beq-true (apart i c d) side (r .0), leb-true (lab (flip i c)) t (r .1))
+  -- ---- what a dimension that scan s takes has, and what one that it does not take lacks: the scan's row says it
 
-  leads-not : (side : Bool) (t i : ℕ) → leads c d near side t i ≡ false → apart i c d ≡ side → t < lab (flip i c)
-  unfolding leads
-  leads-not side t i e a = leb-false (lab (flip i c)) t (rw (a, beq-self side) at e)
+  abbrev pub Row : ℕ → Scan
+  Row = scanAt (dist c d) (lab c)
 
-  -- ---- what a dimension that scan s takes has, and what one that it does not take lacks
+  pub hit : (s i : ℕ) → takes lab c d s i ≡ true → (Row s .allowed ≡ true) × (apart i c d ≡ Row s .side) × (lab (flip i c) ≤ Row s .top)
+  unfolding hits leads
+  hit s i e =
+      let a = and-true (Row s .allowed) (Bool·beq (apart i c d) (Row s .side) && leb (lab (flip i c)) (Row s .top)) e in
+      let b = and-true (Bool·beq (apart i c d) (Row s .side)) (leb (lab (flip i c)) (Row s .top)) (a .1) in
+      (a .0, beq-true (apart i c d) (Row s .side) (b .0), leb-true (lab (flip i c)) (Row s .top) (b .1))
 
-  pub hit1 : (i : ℕ) → takes lab c d 1 i ≡ true → (apart i c d ≡ true) × (lab (flip i c) ≤ 0)
-  unfolding hits
-  hit1 = leads-says true 0
+  pub miss : (s i : ℕ) → takes lab c d s i ≡ false → Row s .allowed ≡ true → apart i c d ≡ Row s .side → Row s .top < lab (flip i c)
+  unfolding hits leads
+  miss s i e o a = leb-false (lab (flip i c)) (Row s .top) (rw (o, a, beq-self (Row s .side)) at e)
 
-  pub hit2 : (i : ℕ) → takes lab c d 2 i ≡ true → (apart i c d ≡ true) × (lab (flip i c) ≤ 1)
-  unfolding hits
-  hit2 = leads-says true 1
+  -- there is no scan 0; the third is allowed at a strongly unsafe node, and near the destination
+  pub no-zero : (i : ℕ) → takes lab c d 0 i ≡ true → ⊥
+  no-zero i e = clash (hit 0 i e .0) refl
 
-  pub hit3 : (i : ℕ) → takes lab c d 3 i ≡ true → (apart i c d ≡ true) × (lab (flip i c) ≤ 2) × ((lab c ≡ 2) ⊎ (dist c d ≤ 2))
-  unfolding hits ⊎-map
-  hit3 i e =
-      let r = and-true (eqb (lab c) 2 || leb (dist c d) 2) (leads c d near true 2 i) e in
-      let s = leads-says true 2 i (r .1) in
-      (s .0, s .1, ⊎-map (eqb-true (lab c) 2) (leb-true (dist c d) 2) (or-true (eqb (lab c) 2) (leb (dist c d) 2) (r .0)))
+  pub allowed3 : (lab c ≡ 2) ⊎ (dist c d ≤ 2) → Row 3 .allowed ≡ true
+  allowed3 = ⊎-elim (λ (p : lab c ≡ 2). or-left (leb (dist c d) 2) (eq-eqb (lab c) 2 p)) (λ (p : dist c d ≤ 2). or-right (eqb (lab c) 2) (le-leb (dist c d) 2 p))
 
-  pub hit4 : (i : ℕ) → takes lab c d 4 i ≡ true → (apart i c d ≡ false) × (lab (flip i c) ≤ 0)
-  unfolding hits
-  hit4 = leads-says false 0
+  pub why3 : Row 3 .allowed ≡ true → (lab c ≡ 2) ⊎ (dist c d ≤ 2)
+  unfolding ⊎-map
+  why3 e = ⊎-map (eqb-true (lab c) 2) (leb-true (dist c d) 2) (or-true (eqb (lab c) 2) (leb (dist c d) 2) e)
 
-  pub hit5 : (i : ℕ) → takes lab c d 5 i ≡ true → (apart i c d ≡ false) × (lab (flip i c) ≤ 1)
-  unfolding hits
-  hit5 = leads-says false 1
-
-  pub miss1 : (i : ℕ) → takes lab c d 1 i ≡ false → apart i c d ≡ true → 0 < lab (flip i c)
-  unfolding hits
-  miss1 = leads-not true 0
-
-  pub miss2 : (i : ℕ) → takes lab c d 2 i ≡ false → apart i c d ≡ true → 1 < lab (flip i c)
-  unfolding hits
-  miss2 = leads-not true 1
-
-  pub miss3 : (i : ℕ) → takes lab c d 3 i ≡ false → apart i c d ≡ true → (lab c ≡ 2) ⊎ (dist c d ≤ 2) → 2 < lab (flip i c)
-  unfolding hits
-  miss3 i e a g = leads-not true 2 i (rw guard at e) a
-    where
-      guard : (eqb (lab c) 2 || leb (dist c d) 2) ≡ true
-      guard = ⊎-elim (λ (p : lab c ≡ 2). or-left (leb (dist c d) 2) (eq-eqb (lab c) 2 p)) (λ (p : dist c d ≤ 2). or-right (eqb (lab c) 2) (le-leb (dist c d) 2 p)) g
-
-  pub miss4 : (i : ℕ) → takes lab c d 4 i ≡ false → apart i c d ≡ false → 0 < lab (flip i c)
-  unfolding hits
-  miss4 = leads-not false 0
-
-  pub miss5 : (i : ℕ) → takes lab c d 5 i ≡ false → apart i c d ≡ false → 1 < lab (flip i c)
-  unfolding hits
-  miss5 = leads-not false 1
-
-  -- there is no scan 0
-  pub hit0 : (i : ℕ) → takes lab c d 0 i ≡ true → ⊥
-  unfolding hits
-  hit0 i e = let z : _≡_ {A = ℕ} 0 1 = cc in omega arith
+-- what holds of each scan by its number
+pub each-scan : (P : ℕ → Type 0) → P 0 → P 1 → P 2 → P 3 → P 4 → P 5 → (s : ℕ) → s < 6 → P s
+each-scan P p0 p1 p2 p3 p4 p5 zero h = p0
+each-scan P p0 p1 p2 p3 p4 p5 (suc zero) h = p1
+each-scan P p0 p1 p2 p3 p4 p5 (suc (suc zero)) h = p2
+each-scan P p0 p1 p2 p3 p4 p5 (suc (suc (suc zero))) h = p3
+each-scan P p0 p1 p2 p3 p4 p5 (suc (suc (suc (suc zero)))) h = p4
+each-scan P p0 p1 p2 p3 p4 p5 (suc (suc (suc (suc (suc zero))))) h = p5
+each-scan P p0 p1 p2 p3 p4 p5 (suc (suc (suc (suc (suc (suc s)))))) h = absurd (omega arith)

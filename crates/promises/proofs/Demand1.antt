@@ -10,6 +10,7 @@ use borrow.Author.Tests.{ne-eqb}
 use Rattle.cube.specs.Tables.{isDimension, labelIn}
 use Rattle.cube.proofs.Bools.{by-cases}
 use Rattle.hcube.specs.Answers.{rowAfter, walkNumber, walkedFor}
+use Rattle.labels.specs.Cabinet.{Cabinet}
 use Rattle.labels.specs.Labelling.{labelRefusal, labelled, labelsAfter}
 use Rattle.labels.proofs.Refusal.{of-refused}
 use Rattle.labels.specs.declared.Labelled.the-variants as labelled
@@ -22,11 +23,11 @@ use Rattle.route.specs.declared.Ending.the-variants as ending
 use Rattle.route.specs.declared.Walked.{Walked}
 use Rattle.promises.specs.Demand1.{Demand1}
 
-labels-kept : (n : ℕ) (faults before : List ℕ) (k : ℕ) → labelled n faults (length before) ≡ labelled.Refused k → labelsAfter n faults before ≡ before
+labels-kept : (K : Cabinet) (before : List ℕ) (k : ℕ) → labelled K (length before) ≡ labelled.Refused k → labelsAfter K before ≡ before
 unfolding labelsAfter
-labels-kept n faults before k e =
-    let r = of-refused n faults (length before) k e in
-    rw (ne-eqb (labelRefusal n faults (length before)) 0 (λ z. r .1 (r .0 ∙ z)))
+labels-kept K before k e =
+    let r = of-refused K (length before) k e in
+    rw (ne-eqb (labelRefusal K (length before)) 0 (λ z. r .1 (r .0 ∙ z)))
 
 -- ---- a walk that is refused has hop count 0 and a row of zeros
 
@@ -80,7 +81,7 @@ demand1 =
       walk-number = λ n s d labels m k. walk-number (walkedFor n s d labels m) k (walk-blank n s d labels m);
       walk-zeros = λ n s d labels m k i e. walk-blank n s d labels m k e .zeros i;
       notice-number = λ k. omega arith;
-      label-answered = λ n faults m e. rw e;
-      labels-written = λ n faults before e. rw e;
+      label-answered = λ K m e. rw e;
+      labels-written = λ K before e. rw e;
       hop-answered = λ n c d labels e. rw e;
     }

@@ -8,9 +8,10 @@ use native.Mathlib.Omega.{arith}
 use lib.Dec.{eqb}
 use borrow.Author.Tests.{eq-eqb, eqb-true}
 use Rattle.cube.specs.Cube.{flip}
-use Rattle.cube.specs.Tables.{nodeBit}
-use Rattle.cube.proofs.Count.{either, clash, count-same}
+use Rattle.cube.proofs.Bools.{either, clash}
+use Rattle.cube.proofs.Count.{count-same}
 use Rattle.cube.proofs.Cube.{flip-lt}
+use Rattle.labels.specs.Cabinet.{Cabinet, broken}
 use Rattle.labels.specs.Closed.{Closed}
 use Rattle.labels.specs.Labelling.{roundsOf}
 use Rattle.labels.specs.Rule.{label, safe}
@@ -21,9 +22,12 @@ use Rattle.labels.proofs.Rounds.{rounds-first, rounds-le, rest}
 use Rattle.promises.specs.Demand2.{Demand2}
 use Rattle.promises.specs.Demand3.{bytes}
 
-module _ (n : ℕ) (faults : List ℕ) where
+module _ (K : Cabinet) where
+  abbrev n : ℕ
+  n = K .n
+
   abbrev F : ℕ → Bool
-  F = nodeBit faults
+  F = broken K
 
   abbrev S : ℕ → Bool
   S = safe n 3 F
@@ -34,32 +38,32 @@ module _ (n : ℕ) (faults : List ℕ) where
   three : (x : ℕ) → F x ≡ true → 3 ≤ 3
   three x e = omega arith
 
-  zero-is : (x : ℕ) → x < 2 ^ n → bytes n faults x ≡ 0 → S x ≡ true
+  zero-is : (x : ℕ) → x < 2 ^ n → bytes K x ≡ 0 → S x ≡ true
   unfolding label
-  zero-is x h e = zero-safe n F (λ _. 3) S (C .works) three x (sym (label-in n faults x h) ∙ e)
+  zero-is x h e = zero-safe n F (λ _. 3) S (C .works) three x (sym (label-in K x h) ∙ e)
 
-  is-zero : (x : ℕ) → x < 2 ^ n → S x ≡ true → bytes n faults x ≡ 0
+  is-zero : (x : ℕ) → x < 2 ^ n → S x ≡ true → bytes K x ≡ 0
   unfolding label
-  is-zero x h e = label-in n faults x h ∙ safe-zero n F (λ _. 3) S (C .works) three x h e
+  is-zero x h e = label-in K x h ∙ safe-zero n F (λ _. 3) S (C .works) three x h e
 
-  zero-same : (x : ℕ) → x < 2 ^ n → eqb (bytes n faults x) 0 ≡ S x
+  zero-same : (x : ℕ) → x < 2 ^ n → eqb (bytes K x) 0 ≡ S x
   zero-same x h =
-      ⊎-elim (λ (t : S x ≡ true). eq-eqb (bytes n faults x) 0 (is-zero x h t) ∙ sym t)
-      (λ (t : S x ≡ false). ⊎-elim (λ (u : eqb (bytes n faults x) 0 ≡ true). absurd (clash (zero-is x h (eqb-true (bytes n faults x) 0 u)) t)) (λ (u : eqb (bytes n faults x) 0 ≡ false). u ∙ sym t) (either (eqb (bytes n faults x) 0)))
+      ⊎-elim (λ (t : S x ≡ true). eq-eqb (bytes K x) 0 (is-zero x h t) ∙ sym t)
+      (λ (t : S x ≡ false). ⊎-elim (λ (u : eqb (bytes K x) 0 ≡ true). absurd (clash (zero-is x h (eqb-true (bytes K x) 0 u)) t)) (λ (u : eqb (bytes K x) 0 ≡ false). u ∙ sym t) (either (eqb (bytes K x) 0)))
       (either (S x))
 
-  pub faulty : (x : ℕ) → x < 2 ^ n → F x ≡ true → bytes n faults x ≡ 3
+  pub faulty : (x : ℕ) → x < 2 ^ n → F x ≡ true → bytes K x ≡ 3
   unfolding label
-  faulty x h e = label-in n faults x h ∙ out-byte n F (λ _. 3) S x e
+  faulty x h e = label-in K x h ∙ out-byte n F (λ _. 3) S x e
 
-  pub works : (x : ℕ) → x < 2 ^ n → F x ≡ false → bytes n faults x ≤ 2
+  pub works : (x : ℕ) → x < 2 ^ n → F x ≡ false → bytes K x ≤ 2
   unfolding label
   works x h e = omega (arith, below)
     where
-      below : ¬ (3 ≤ bytes n faults x)
-      below l = clash (byte-out n F (λ _. 3) S (C .works) three x (omega (arith, label-in n faults x h))) e
+      below : ¬ (3 ≤ bytes K x)
+      below l = clash (byte-out n F (λ _. 3) S (C .works) three x (omega (arith, label-in K x h))) e
 
-  pub demand2 : Demand2 n faults
+  pub demand2 : Demand2 K
   unfolding roundsOf
   demand2 =
       record {
@@ -69,14 +73,14 @@ module _ (n : ℕ) (faults : List ℕ) where
           few-outside = λ x h e. omega (
             arith,
             C .few-outside x h (sym (zero-same x h) ∙ e),
-            count-same n (λ i. not (eqb (bytes n faults (flip i x)) 0)) (λ i. not (S (flip i x))) (λ i l. ap not (zero-same (flip i x) (flip-lt n i x l h))),
+            count-same n (λ i. not (eqb (bytes K (flip i x)) 0)) (λ i. not (S (flip i x))) (λ i l. ap not (zero-same (flip i x) (flip-lt n i x l h))),
           );
         };
         largest = λ H K x h e. is-zero x h (largest.largest n 3 F H K x h e);
         faulty = faulty;
         works = works;
-        ordinary = table-good n faults .ordinary;
-        strong = table-good n faults .strong;
+        ordinary = table-good K .ordinary;
+        strong = table-good K .strong;
         loud = rounds-first n 3 F;
         still = rest n 3 F;
         ceiling = rounds-le n 3 F;

@@ -10,11 +10,14 @@ use lib.Dec.{eqb, leb, ltb}
 use lib.ListN.{length, List·getD-eq-default}
 use borrow.Author.Tests.{eq-eqb, ne-eqb, eqb-true, eqb-false, le-leb, lt-leb, le-ltb, ltb-true, ltb-false}
 use Rattle.cube.specs.Cube.{apart, dist, flip}
+use Rattle.cube.specs.Refusal.{first}
 use Rattle.cube.specs.Tables.{isDimension, nodeBit}
-use Rattle.cube.proofs.Count.{either, find, some-none}
+use Rattle.cube.proofs.Bools.{either}
+use Rattle.cube.proofs.Count.{find, some-none}
 use Rattle.cube.proofs.Cube.{flip-lt}
 use Rattle.cube.proofs.Front.{length-tab, getD-tab}
 use Rattle.cube.proofs.Tables.{dimension-is}
+use Rattle.labels.specs.Cabinet.{Cabinet, broken}
 use Rattle.labels.specs.Good.{Good}
 use Rattle.labels.specs.Labelling.{labelsOf}
 use Rattle.labels.proofs.Good.{label-bytes, labels-length, table-good}
@@ -30,46 +33,49 @@ use Rattle.promises.proofs.Progress.{Inside}
 use Rattle.promises.proofs.Walks.{Kept, Delivers, Halts, delivers, delivers-safe, delivers-or-halts, spot-zero, hops-within}
 
 -- what is known of the label bytes of an accepted table
-record Table (n : ℕ) (faults : List ℕ) : Type 0 where
-  dimension : isDimension n ≡ true
-  small : n ≤ 12
-  sized : length (labelsOf n faults) ≡ 2 ^ n
-  good : Good n (bytes n faults)
-  faulty : (x : ℕ) → x < 2 ^ n → nodeBit faults x ≡ true → bytes n faults x ≡ 3
-  working : (x : ℕ) → x < 2 ^ n → nodeBit faults x ≡ false → bytes n faults x ≤ 2
+record Table (K : Cabinet) : Type 0 where
+  dimension : isDimension (K .n) ≡ true
+  small : K .n ≤ 12
+  sized : length (labelsOf K) ≡ 2 ^ K .n
+  good : Good (K .n) (bytes K)
+  faulty : (x : ℕ) → x < 2 ^ K .n → broken K x ≡ true → bytes K x ≡ 3
+  working : (x : ℕ) → x < 2 ^ K .n → broken K x ≡ false → bytes K x ≤ 2
 
-table : (n : ℕ) (faults : List ℕ) → Accepted n faults → Table n faults
-table n faults ok =
-    let a = accepted n faults (2 ^ n) ok in
+table : (K : Cabinet) → Accepted K → Table K
+table K ok =
+    let a = accepted K (2 ^ K .n) ok in
     record {
       dimension = a .0;
-      small = dimension-is n (a .0) .1;
-      sized = labels-length n faults;
-      good = table-good n faults;
-      faulty = faulty n faults;
-      working = works n faults;
+      small = dimension-is (K .n) (a .0) .1;
+      sized = labels-length K;
+      good = table-good K;
+      faulty = faulty K;
+      working = works K;
     }
 
-module _ (n : ℕ) (faults : List ℕ) (T : Table n faults) (s d : ℕ) (hs : Works n faults s) (hd : Works n faults d) where
+module _ (K : Cabinet) (T : Table K) (s d : ℕ) (hs : Works K s) (hd : Works K d) where
+  abbrev n : ℕ
+  n = K .n
+
   abbrev lab : ℕ → ℕ
-  lab = bytes n faults
+  lab = bytes K
 
   -- ---- the walk is not refused at its start
 
-  starts : startRefusal n s d (labelsOf n faults) ≡ 0
-  unfolding startRefusal
+  starts : startRefusal n s d (labelsOf K) ≡ 0
+  unfolding startRefusal first
   starts =
       rw (
         T .dimension,
-        eq-eqb (length (labelsOf n faults)) (2 ^ n) (T .sized),
+        eq-eqb (length (labelsOf K)) (2 ^ n) (T .sized),
         lt-leb (2 ^ n) s (hs .0),
         lt-leb (2 ^ n) d (hd .0),
-        some-none (2 ^ n) (λ x. ltb 3 (lab x)) (λ x h. le-ltb 3 (lab x) (label-bytes n faults x h)),
+        some-none (2 ^ n) (λ x. ltb 3 (lab x)) (λ x h. le-ltb 3 (lab x) (label-bytes K x h)),
         ne-eqb (lab s) 3 (λ e. omega (arith, T .working s (hs .0) (hs .1))),
         ne-eqb (lab d) 3 (λ e. omega (arith, T .working d (hd .0) (hd .1))),
       )
 
-  is-walk : walkOf n faults s d ≡ finished (row n lab d s) (hops n lab d s) (last n lab d s)
+  is-walk : walkOf K s d ≡ finished (row n lab d s) (hops n lab d s) (last n lab d s)
   unfolding walked walkFrom
   is-walk = rw starts
 
@@ -92,11 +98,11 @@ module _ (n : ℕ) (faults : List ℕ) (T : Table n faults) (s d : ℕ) (hs : Wo
       go (inl a) = getD-tab 17 (λ j. cond (leb j (hops n lab d s)) (spot n lab d s j) 0) k (ltb-true k 17 a) ∙ rw (lt-leb k (hops n lab d s) h)
       go (inr a) = List·getD-eq-default (row n lab d s) 0 {n = k} (rw (length-tab 17 (λ j. cond (leb j (hops n lab d s)) (spot n lab d s j) 0)) (ltb-false k 17 a))
 
-  works-at : (x : ℕ) → Inside n lab x → Works n faults x
+  works-at : (x : ℕ) → Inside n lab x → Works K x
   works-at x p =
-      (p .0, ⊎-elim (λ (t : nodeBit faults x ≡ true). absurd (omega (arith, T .faulty x (p .0) t))) (λ t. t) (either (nodeBit faults x)))
+      (p .0, ⊎-elim (λ (t : broken K x ≡ true). absurd (omega (arith, T .faulty x (p .0) t))) (λ t. t) (either (broken K x)))
 
-  stepped : (e : Ending) → Kept n lab d s → Stepped n faults d s (ended e)
+  stepped : (e : Ending) → Kept n lab d s → Stepped K d s (ended e)
   unfolding turn
   stepped e K =
       record {
@@ -116,54 +122,54 @@ module _ (n : ℕ) (faults : List ℕ) (T : Table n faults) (s d : ℕ) (hs : Wo
 
   -- a walk that delivers
   module _ (m : ℕ) (D : Delivers n lab d s m) where
-    is-delivered : walkOf n faults s d ≡ ended ending.Delivered
+    is-delivered : walkOf K s d ≡ ended ending.Delivered
     unfolding finished
     is-delivered = is-walk ∙ rw (D .ended)
 
-    delivered-stepped : Stepped n faults d s (walkOf n faults s d)
+    delivered-stepped : Stepped K d s (walkOf K s d)
     delivered-stepped = rw is-delivered (stepped ending.Delivered (D .kept))
 
-    delivered-arrives : Arrives n faults d (walkOf n faults s d)
+    delivered-arrives : Arrives K d (walkOf K s d)
     unfolding last turn
     delivered-arrives =
         rw is-delivered
         (record { ending = refl; decided = rw (end-place ending.Delivered) (D .ended); there = end-place ending.Delivered ∙ D .there })
 
-    delivered-hops : walkOf n faults s d .hops ≡ dist s d + 2 * D .extra
+    delivered-hops : walkOf K s d .hops ≡ dist s d + 2 * D .extra
     delivered-hops = rw is-delivered (D .exact)
 
   -- a walk that halts
   module _ (H : Halts n lab d s) where
-    is-halted : walkOf n faults s d ≡ ended ending.Halted
+    is-halted : walkOf K s d ≡ ended ending.Halted
     unfolding finished
     is-halted = is-walk ∙ rw (H .ended)
 
-    halted-stepped : Stepped n faults d s (walkOf n faults s d)
+    halted-stepped : Stepped K d s (walkOf K s d)
     halted-stepped = rw is-halted (stepped ending.Halted (H .kept))
 
-    halted-stuck : Stuck n faults d (walkOf n faults s d)
+    halted-stuck : Stuck K d (walkOf K s d)
     unfolding last turn
     halted-stuck = rw is-halted (record { ending = refl; decided = rw (end-place ending.Halted) (H .ended); why = rw (end-place ending.Halted) why })
       where
-        why : (i : ℕ) → i < n → apart i (spot n lab d s (hops n lab d s)) d ≡ true → nodeBit faults (flip i (spot n lab d s (hops n lab d s))) ≡ true
+        why : (i : ℕ) → i < n → apart i (spot n lab d s (hops n lab d s)) d ≡ true → broken K (flip i (spot n lab d s (hops n lab d s))) ≡ true
         why i h a =
             let x = flip i (spot n lab d s (hops n lab d s)) in
             let l : x < 2 ^ n = flip-lt n i (spot n lab d s (hops n lab d s)) h (H .kept .works (hops n lab d s) (omega arith) .0) in
-            ⊎-elim (λ (t : nodeBit faults x ≡ true). t) (λ (t : nodeBit faults x ≡ false). absurd (omega (arith, H .why i h a, T .working x l t))) (either (nodeBit faults x))
+            ⊎-elim (λ (t : broken K x ≡ true). t) (λ (t : broken K x ≡ false). absurd (omega (arith, H .why i h a, T .working x l t))) (either (broken K x))
 
   -- ---- the demand
 
-  by-rank : SomeSafe n faults → Delivers n lab d s (lab s)
+  by-rank : SomeSafe K → Delivers n lab d s (lab s)
   by-rank x = delivers n lab (T .good) d (hd .0) (T .working d (hd .0) (hd .1)) s (hs .0) (T .working s (hs .0) (hs .1)) (x .0) (x .1) (x .2)
 
   to-safe : lab d ≡ 0 → Delivers n lab d s 0
   to-safe = delivers-safe n lab (T .good) d (hd .0) (T .working d (hd .0) (hd .1)) s (hs .0) (T .working s (hs .0) (hs .1))
 
-  by-distance : (SomeSafe n faults → ⊥) → Delivers n lab d s 0 ⊎ Halts n lab d s
+  by-distance : (SomeSafe K → ⊥) → Delivers n lab d s 0 ⊎ Halts n lab d s
   by-distance none =
       delivers-or-halts n lab (T .good) d (hd .0) (T .working d (hd .0) (hd .1)) s (hs .0) (T .working s (hs .0) (hs .1)) (λ x h e. none (x, h, e))
 
-  at-most : SomeSafe n faults → walkOf n faults s d .hops ≤ dist s d + 2 * lab s
+  at-most : SomeSafe K → walkOf K s d .hops ≤ dist s d + 2 * lab s
   at-most x = let D = by-rank x in omega (arith, delivered-hops (lab s) D, D .few)
 
   -- whichever way it ends
@@ -178,7 +184,7 @@ module _ (n : ℕ) (faults : List ℕ) (T : Table n faults) (s d : ℕ) (hs : Wo
       go (inl r) = delivered (lab s) (by-rank (r .0, r .1, eqb-true (lab (r .0)) 0 (r .2)))
       go (inr f) = ⊎-elim (λ (D : Delivers n lab d s 0). delivered 0 D) (λ (H : Halts n lab d s). halted H) (by-distance (λ x. eqb-false (lab (x .0)) 0 (f (x .0) (x .1)) (x .2)))
 
-  meets-demand : Demand3 n faults s d
+  meets-demand : Demand3 K s d
   meets-demand =
       record {
         stepped = walk-stepped how;
@@ -190,13 +196,13 @@ module _ (n : ℕ) (faults : List ℕ) (T : Table n faults) (s d : ℕ) (hs : Wo
         never-refused = λ k e. not-refused k e how;
       }
     where
-      walk-stepped : Ended → Stepped n faults d s (walkOf n faults s d)
+      walk-stepped : Ended → Stepped K d s (walkOf K s d)
       walk-stepped (delivered m D) = delivered-stepped m D
       walk-stepped (halted H) = halted-stepped H
 
-      not-refused : (k : ℕ) → walkOf n faults s d .ending ≡ ending.Refused k → Ended → ⊥
+      not-refused : (k : ℕ) → walkOf K s d .ending ≡ ending.Refused k → Ended → ⊥
       not-refused k e (delivered m D) = let q = delivered-arrives m D .ending in let z : _≡_ {A = ℕ} 0 1 = cc in omega arith
       not-refused k e (halted H) = let q = halted-stuck H .ending in let z : _≡_ {A = ℕ} 0 1 = cc in omega arith
 
-pub demand3 : (n : ℕ) (faults : List ℕ) → Accepted n faults → (s d : ℕ) → Works n faults s → Works n faults d → Demand3 n faults s d
-demand3 n faults ok = meets-demand n faults (table n faults ok)
+pub demand3 : (K : Cabinet) → Accepted K → (s d : ℕ) → Works K s → Works K d → Demand3 K s d
+demand3 K ok = meets-demand K (table K ok)

@@ -9,13 +9,13 @@ use native.Mathlib.Omega.{arith}
 use lib.Dec.{leb}
 use borrow.Author.Tests.{leb-true, leb-false, le-leb, lt-leb}
 use Rattle.cube.specs.Cube.{flip, apart, dist}
-use Rattle.cube.proofs.Count.{either}
+use Rattle.cube.proofs.Bools.{either}
 use Rattle.cube.proofs.Cube.{flip-lt, flip-flip, dist-zero, dist-fall, dist-rise, dist-sym, apart-sym, neighbour}
 use Rattle.labels.specs.Good.{Good}
 use Rattle.route.specs.Hop.{hop}
 use Rattle.route.specs.declared.Decision.the-variants.{Deliver, Hop, Halted}
 use Rattle.promises.specs.Picked.{takes, Misses, Picked, arrived, took, stopped}
-use Rattle.promises.proofs.Decision.{picked, hit0, hit1, hit2, hit3, hit4, hit5, miss1, miss2, miss3, miss4, miss5}
+use Rattle.promises.proofs.Decision.{Row, picked, hit, miss, no-zero, allowed3, why3, each-scan}
 use Rattle.promises.proofs.Toward.{safe-step, near-step, toward, theorem5}
 
 -- what falls with each hop: the distance, and from 2 on twice the label besides
@@ -63,76 +63,75 @@ module _ (n : ℕ) (lab : ℕ → ℕ) (G : Good n lab) (d : ℕ) (hd : d < 2 ^ 
         not-one : dist c d ≢ 1
         not-one e =
             let r = neighbour n c d hc hd e in
-            omega (arith, miss3 n lab c d (r .0) (m3 (r .0) (r .1)) (r .2) (inr (omega arith)), ap lab (ap (flip (r .0)) (r .3) ∙ flip-flip n (r .0) d (r .1) hd))
+            omega (arith, miss n lab c d 3 (r .0) (m3 (r .0) (r .1)) (allowed3 n lab c d (inr (omega arith))) (r .2), ap lab (ap (flip (r .0)) (r .3) ∙ flip-flip n (r .0) d (r .1) hd))
 
     unsafe-at : 1 < dist c d → Misses n lab c d 2 → 0 < lab c
     unsafe-at h m2 = omega (arith, no)
       where
         no : lab c ≢ 0
-        no e = let r = near-step n lab G c d hc hd e h in omega (arith, r .3, miss2 n lab c d (r .0) (m2 (r .0) (r .1)) (r .2))
+        no e = let r = near-step n lab G c d hc hd e h in omega (arith, r .3, miss n lab c d 2 (r .0) (m2 (r .0) (r .1)) refl (r .2))
 
     unsafe-far : 2 < dist c d → Misses n lab c d 1 → 0 < lab c
     unsafe-far h m1 = omega (arith, no)
       where
         no : lab c ≢ 0
-        no e = let r = safe-step n lab G c d hc hd e h in omega (arith, r .3, miss1 n lab c d (r .0) (m1 (r .0) (r .1)) (r .2))
+        no e = let r = safe-step n lab G c d hc hd e h in omega (arith, r .3, miss n lab c d 1 (r .0) (m1 (r .0) (r .1)) refl (r .2))
 
     not-ordinary : Misses n lab c d 1 → Misses n lab c d 4 → lab c ≢ 1
     not-ordinary m1 m4 e = go (G .ordinary c hc e)
       where
         go : (i : ℕ) × (i < n) × (lab (flip i c) ≡ 0) → ⊥
-        go r = ⊎-elim (λ a. omega (arith, r .2, miss1 n lab c d (r .0) (m1 (r .0) (r .1)) a)) (λ a. omega (arith, r .2, miss4 n lab c d (r .0) (m4 (r .0) (r .1)) a)) (either (apart (r .0) c d))
+        go r = ⊎-elim (λ a. omega (arith, r .2, miss n lab c d 1 (r .0) (m1 (r .0) (r .1)) refl a)) (λ a. omega (arith, r .2, miss n lab c d 4 (r .0) (m4 (r .0) (r .1)) refl a)) (either (apart (r .0) c d))
 
     not-strong : (s : ℕ) → s < 2 ^ n → lab s ≡ 0 → Misses n lab c d 2 → Misses n lab c d 5 → lab c ≢ 2
     not-strong s hs es m2 m5 e = go (theorem5 n lab G c hc e s hs es)
       where
         go : (i : ℕ) × (i < n) × (lab (flip i c) ≡ 1) → ⊥
-        go r = ⊎-elim (λ a. omega (arith, r .2, miss2 n lab c d (r .0) (m2 (r .0) (r .1)) a)) (λ a. omega (arith, r .2, miss5 n lab c d (r .0) (m5 (r .0) (r .1)) a)) (either (apart (r .0) c d))
+        go r = ⊎-elim (λ a. omega (arith, r .2, miss n lab c d 2 (r .0) (m2 (r .0) (r .1)) refl a)) (λ a. omega (arith, r .2, miss n lab c d 5 (r .0) (m5 (r .0) (r .1)) refl a)) (either (apart (r .0) c d))
+
+    -- one nearer, and not to a worse label but for the last two hops: the rank falls
+    forward-falls : (i : ℕ) → i < n → apart i c d ≡ true → (2 < dist c d → lab (flip i c) ≤ lab c) → rank lab d (flip i c) < rank lab d c
+    forward-falls i hi a w =
+        let f = dist-fall n i c d hc hd hi a in
+        ⊎-elim
+        (λ (t : leb (dist c d) 2 ≡ true). omega (arith, rank-near lab d (flip i c) (omega (arith, leb-true (dist c d) 2 t)), rank-ge lab d c))
+        (λ (t : leb (dist c d) 2 ≡ false). let l = leb-false (dist c d) 2 t in omega (arith, w l, rank-le lab d (flip i c), rank-far lab d c (omega arith)))
+        (either (leb (dist c d) 2))
+
+    -- one farther, and to a better label: it falls too
+    spare-falls : (i : ℕ) → i < n → apart i c d ≡ false → 1 < dist c d → lab (flip i c) < lab c → rank lab d (flip i c) < rank lab d c
+    spare-falls i hi a l w = omega (arith, dist-rise n i c d hc hd hi a, rank-le lab d (flip i c), rank-far lab d c l)
 
     -- a hop of any scan keeps to the nodes that work, and the rank falls
-    falls : (s i : ℕ) → 0 < dist c d → s < 6 → i < n → takes lab c d s i ≡ true → ((t : ℕ) → t < s → Misses n lab c d t) → (lab (flip i c) ≤ 2) × (rank lab d (flip i c) < rank lab d c)
-    falls zero i p hs hi e m = absurd (hit0 n lab c d i e)
-    falls (suc zero) i p hs hi e m =
-        let r = hit1 n lab c d i e in
-        let f = dist-fall n i c d hc hd hi (r .0) in
-        (omega arith, omega (arith, rank-le lab d (flip i c), rank-ge lab d c))
-    falls (suc (suc zero)) i p hs hi e m = (omega (arith, r .1), go (either (leb (dist c d) 2)))
+    abbrev Falls : ℕ → Type 0
+    Falls s =
+        (i : ℕ) → i < n → takes lab c d s i ≡ true → ((t : ℕ) → t < s → Misses n lab c d t) → (lab (flip i c) ≤ 2) × (rank lab d (flip i c) < rank lab d c)
+
+    falls : 0 < dist c d → (s : ℕ) → s < 6 → Falls s
+    falls p = each-scan Falls (λ i hi e m. absurd (no-zero n lab c d i e)) falls1 falls2 falls3 falls4 falls5
       where
-        r : (apart i c d ≡ true) × (lab (flip i c) ≤ 1)
-        r = hit2 n lab c d i e
+        falls1 : Falls 1
+        falls1 i hi e m = let r = hit n lab c d 1 i e in (omega arith, forward-falls i hi (r .1) (λ l. omega arith))
 
-        f : dist c d ≡ suc (dist (flip i c) d)
-        f = dist-fall n i c d hc hd hi (r .0)
+        falls2 : Falls 2
+        falls2 i hi e m = let r = hit n lab c d 2 i e in (omega arith, forward-falls i hi (r .1) (λ l. omega (arith, unsafe-far l (m 1 (omega arith)))))
 
-        go : (leb (dist c d) 2 ≡ true) ⊎ (leb (dist c d) 2 ≡ false) → rank lab d (flip i c) < rank lab d c
-        go (inl a) = let l = leb-true (dist c d) 2 a in omega (arith, f, rank-near lab d (flip i c) (omega (arith, f)), rank-ge lab d c)
-        go (inr a) = let l = leb-false (dist c d) 2 a in omega (arith, f, r, rank-le lab d (flip i c), rank-far lab d c (omega arith), unsafe-far l (m 1 (omega arith)))
-    falls (suc (suc (suc zero))) i p hs hi e m = (omega (arith, r .1), go (r .2))
-      where
-        r : (apart i c d ≡ true) × (lab (flip i c) ≤ 2) × ((lab c ≡ 2) ⊎ (dist c d ≤ 2))
-        r = hit3 n lab c d i e
+        falls3 : Falls 3
+        falls3 i hi e m =
+            let r = hit n lab c d 3 i e in
+            (r .2, forward-falls i hi (r .1) (λ l. ⊎-elim (λ (q : lab c ≡ 2). omega arith) (λ (q : dist c d ≤ 2). absurd (omega arith)) (why3 n lab c d (r .0))))
 
-        f : dist c d ≡ suc (dist (flip i c) d)
-        f = dist-fall n i c d hc hd hi (r .0)
+        falls4 : Falls 4
+        falls4 i hi e m =
+            let r = hit n lab c d 4 i e in
+            let l = beyond p (m 3 (omega arith)) in
+            (omega arith, spare-falls i hi (r .1) l (omega (arith, unsafe-at l (m 2 (omega arith)))))
 
-        go : (lab c ≡ 2) ⊎ (dist c d ≤ 2) → rank lab d (flip i c) < rank lab d c
-        go (inl a) =
-            ⊎-elim
-            (λ (t : leb (dist c d) 1 ≡ true). omega (arith, f, rank-near lab d (flip i c) (omega (arith, f, leb-true (dist c d) 1 t)), rank-ge lab d c))
-            (λ (t : leb (dist c d) 1 ≡ false). omega (arith, f, r .1, rank-le lab d (flip i c), rank-far lab d c (leb-false (dist c d) 1 t)))
-            (either (leb (dist c d) 1))
-        go (inr a) = omega (arith, f, rank-near lab d (flip i c) (omega (arith, f)), rank-ge lab d c)
-    falls (suc (suc (suc (suc zero)))) i p hs hi e m =
-        let r = hit4 n lab c d i e in
-        let f = dist-rise n i c d hc hd hi (r .0) in
-        let l = beyond p (m 3 (omega arith)) in
-        (omega arith, omega (arith, rank-le lab d (flip i c), rank-far lab d c l, unsafe-at l (m 2 (omega arith))))
-    falls (suc (suc (suc (suc (suc zero))))) i p hs hi e m =
-        let r = hit5 n lab c d i e in
-        let f = dist-rise n i c d hc hd hi (r .0) in
-        let l = beyond p (m 3 (omega arith)) in
-        (omega arith, omega (arith, rank-le lab d (flip i c), rank-far lab d c l, unsafe-at l (m 2 (omega arith)), not-ordinary (m 1 (omega arith)) (m 4 (omega arith))))
-    falls (suc (suc (suc (suc (suc (suc s)))))) i p hs hi e m = absurd (omega arith)
+        falls5 : Falls 5
+        falls5 i hi e m =
+            let r = hit n lab c d 5 i e in
+            let l = beyond p (m 3 (omega arith)) in
+            (omega arith, spare-falls i hi (r .1) l (omega (arith, unsafe-at l (m 2 (omega arith)), not-ordinary (m 1 (omega arith)) (m 4 (omega arith)))))
 
   -- where some node is safe, every hop makes progress
   pub next : (s : ℕ) → s < 2 ^ n → lab s ≡ 0 → (c : ℕ) → Inside n lab c → Next n lab d (Inside n lab) (rank lab d) (λ _. ⊥) c
@@ -140,7 +139,7 @@ module _ (n : ℕ) (lab : ℕ → ℕ) (G : Good n lab) (d : ℕ) (hd : d < 2 ^ 
     where
       go : Picked n lab c d → Next n lab d (Inside n lab) (rank lab d) (λ _. ⊥) c
       go (arrived e h) = arrive (dist-zero n c d (p .0) hd e) h
-      go (took t i q l hi h e _ m) = let r = falls c (p .0) t i q l hi e m in move i hi h (flip-lt n i c hi (p .0), r .0) (r .1)
+      go (took t i q l hi h e _ m) = let r = falls c (p .0) q t l i hi e m in move i hi h (flip-lt n i c hi (p .0), r .0) (r .1)
       go (stopped q h m) =
           let l = beyond c (p .0) q (m 3 (omega arith)) in
           absurd
@@ -155,6 +154,10 @@ module _ (n : ℕ) (lab : ℕ → ℕ) (G : Good n lab) (d : ℕ) (hd : d < 2 ^ 
   nearer : (c : ℕ) → c < 2 ^ n → (i : ℕ) → i < n → apart i c d ≡ true → dist (flip i c) d < dist c d
   nearer c hc i hi a = omega (arith, dist-fall n i c d hc hd hi a)
 
+  -- scan s leads nearer, to a node that works
+  abbrev Step : (c s : ℕ) → Type 0
+  Step c s = (i : ℕ) → i < n → takes lab c d s i ≡ true → ((t : ℕ) → t < s → Misses n lab c d t) → (apart i c d ≡ true) × (lab (flip i c) ≤ 2)
+
   -- where the destination is safe, every hop leads nearer
   pub next-safe : lab d ≡ 0 → (c : ℕ) → Inside n lab c → Next n lab d (Inside n lab) (λ x. dist x d) (λ _. ⊥) c
   next-safe ed c p = go (picked n lab c d)
@@ -162,21 +165,23 @@ module _ (n : ℕ) (lab : ℕ → ℕ) (G : Good n lab) (d : ℕ) (hd : d < 2 ^ 
       some2 : 0 < dist c d → Misses n lab c d 2 → ⊥
       some2 q m2 =
           let r = towards (dist c d) refl in
-          omega (arith, r .3, miss2 n lab c d (r .0) (m2 (r .0) (r .1)) (apart-sym (r .0) c d ∙ r .2))
+          omega (arith, r .3, miss n lab c d 2 (r .0) (m2 (r .0) (r .1)) refl (apart-sym (r .0) c d ∙ r .2))
         where
           towards : (k : ℕ) → dist c d ≡ k → (j : ℕ) × (j < n) × (apart j d c ≡ true) × (lab (flip j c) ≤ 1)
           towards zero e = absurd (omega arith)
           towards (suc k) e = toward n lab G c (p .0) k d hd (dist-sym d c ∙ e) ed
 
-      step : (s i : ℕ) → 0 < dist c d → i < n → takes lab c d s i ≡ true → ((t : ℕ) → t < s → Misses n lab c d t) → (apart i c d ≡ true) × (lab (flip i c) ≤ 2)
-      step zero i q hi e m = absurd (hit0 n lab c d i e)
-      step (suc zero) i q hi e m = let r = hit1 n lab c d i e in (r .0, omega arith)
-      step (suc (suc zero)) i q hi e m = let r = hit2 n lab c d i e in (r .0, omega arith)
-      step (suc (suc (suc s))) i q hi e m = absurd (some2 q (m 2 (omega arith)))
+      step : 0 < dist c d → (s : ℕ) → s < 6 → Step c s
+      step q =
+          each-scan (Step c) (λ i hi e m. absurd (no-zero n lab c d i e)) (λ i hi e m. let r = hit n lab c d 1 i e in (r .1, omega arith))
+          (λ i hi e m. let r = hit n lab c d 2 i e in (r .1, omega arith)) (late 3 (omega arith)) (late 4 (omega arith)) (late 5 (omega arith))
+        where
+          late : (s : ℕ) → 2 < s → Step c s
+          late s h i hi e m = absurd (some2 q (m 2 h))
 
       go : Picked n lab c d → Next n lab d (Inside n lab) (λ x. dist x d) (λ _. ⊥) c
       go (arrived e h) = arrive (dist-zero n c d (p .0) hd e) h
-      go (took s i q l hi h e _ m) = let r = step s i q hi e m in move i hi h (flip-lt n i c hi (p .0), r .1) (nearer c (p .0) i hi (r .0))
+      go (took s i q l hi h e _ m) = let r = step q s l i hi e m in move i hi h (flip-lt n i c hi (p .0), r .1) (nearer c (p .0) i hi (r .0))
       go (stopped q h m) = absurd (some2 q (m 2 (omega arith)))
 
   -- where no node is safe, every hop leads nearer, or the walk halts where no neighbour nearer the destination works
@@ -194,16 +199,14 @@ module _ (n : ℕ) (lab : ℕ → ℕ) (G : Good n lab) (d : ℕ) (hd : d < 2 ^ 
         dim : (i : ℕ) → i < n → 1 < lab (flip i c)
         dim i hi = dark (flip i c) (flip-lt n i c hi (p .0))
 
-        step : (s i : ℕ) → i < n → takes lab c d s i ≡ true → s < 6 → (apart i c d ≡ true) × (lab (flip i c) ≤ 2)
-        step zero i hi e l = absurd (hit0 n lab c d i e)
-        step (suc zero) i hi e l = absurd (omega (arith, hit1 n lab c d i e .1, dim i hi))
-        step (suc (suc zero)) i hi e l = absurd (omega (arith, hit2 n lab c d i e .1, dim i hi))
-        step (suc (suc (suc zero))) i hi e l = let r = hit3 n lab c d i e in (r .0, r .1)
-        step (suc (suc (suc (suc zero)))) i hi e l = absurd (omega (arith, hit4 n lab c d i e .1, dim i hi))
-        step (suc (suc (suc (suc (suc zero))))) i hi e l = absurd (omega (arith, hit5 n lab c d i e .1, dim i hi))
-        step (suc (suc (suc (suc (suc (suc s)))))) i hi e l = absurd (omega arith)
+        -- a scan for safe or ordinarily unsafe nodes takes nothing
+        low : (s : ℕ) → Row n lab c d s .top ≤ 1 → Step c s
+        low s t i hi e m = absurd (omega (arith, hit n lab c d s i e .2, dim i hi))
+
+        step : (s : ℕ) → s < 6 → Step c s
+        step = each-scan (Step c) (low 0 (omega arith)) (low 1 (omega arith)) (low 2 (omega arith)) (λ i hi e m. let r = hit n lab c d 3 i e in (r .1, r .2)) (low 4 (omega arith)) (low 5 (omega arith))
 
         go : Picked n lab c d → Next n lab d (Inside n lab) (λ x. dist x d) (λ x. (i : ℕ) → i < n → apart i x d ≡ true → 2 < lab (flip i x)) c
         go (arrived e h) = arrive (dist-zero n c d (p .0) hd e) h
-        go (took s i q l hi h e _ m) = let r = step s i hi e l in move i hi h (flip-lt n i c hi (p .0), r .1) (nearer c (p .0) i hi (r .0))
-        go (stopped q h m) = stuck h (λ i hi a. miss3 n lab c d i (m 3 (omega arith) i hi) a (inl (omega (arith, dark c (p .0)))))
+        go (took s i q l hi h e _ m) = let r = step s l i hi e m in move i hi h (flip-lt n i c hi (p .0), r .1) (nearer c (p .0) i hi (r .0))
+        go (stopped q h m) = stuck h (λ i hi a. miss n lab c d 3 i (m 3 (omega arith) i hi) (allowed3 n lab c d (inl (omega (arith, dark c (p .0))))) a)

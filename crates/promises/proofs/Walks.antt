@@ -9,7 +9,8 @@ use native.Mathlib.Omega.{arith}
 use lib.Dec.{ltb}
 use borrow.Author.Tests.{ltb-true, ltb-false}
 use Rattle.cube.specs.Cube.{flip, apart, dist}
-use Rattle.cube.proofs.Count.{either, clash, count-bound, Least, the-least}
+use Rattle.cube.proofs.Bools.{either, clash}
+use Rattle.cube.proofs.Count.{count-bound, Least, the-least}
 use Rattle.cube.proofs.Cube.{dist-count, dist-self, dist-fall, dist-rise}
 use Rattle.labels.specs.Good.{Good}
 use Rattle.route.specs.Hop.{hop}

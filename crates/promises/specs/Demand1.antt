@@ -5,6 +5,7 @@ use mathlib.Core.Path.{_≡_}
 use Prim.Native.Nat.{ℕ, _*_}
 use lib.ListN.{getD, length}
 use Rattle.hcube.specs.Answers.{hopNumber, labelNumber, noticeNumber, rowAfter, walkNumber, walkedFor}
+use Rattle.labels.specs.Cabinet.{Cabinet}
 use Rattle.labels.specs.Labelling.{labelRefusal, labelled, labelsAfter, labelsOf, roundsOf}
 use Rattle.labels.specs.declared.Labelled.the-variants as labelled
 use Rattle.notice.specs.Notice.{noticed, tableAfter}
@@ -15,7 +16,7 @@ use Rattle.route.specs.declared.Hopped.the-variants as hopped
 
 pub record Demand1 : Type 0 where
   -- a refusal writes nothing into any buffer it was lent
-  pub labels-kept : (n : ℕ) (faults before : List ℕ) (k : ℕ) → labelled n faults (length before) ≡ labelled.Refused k → labelsAfter n faults before ≡ before
+  pub labels-kept : (K : Cabinet) (before : List ℕ) (k : ℕ) → labelled K (length before) ≡ labelled.Refused k → labelsAfter K before ≡ before
   pub table-kept : (bytes before : List ℕ) (k : ℕ) → noticed bytes before ≡ noticed.Refused k → tableAfter bytes before ≡ before
   pub row-kept :
       (n s d : ℕ) (labels before : List ℕ) (k : ℕ) → walkedFor n s d labels (length before) .ending ≡ ending.Refused k
@@ -29,7 +30,7 @@ pub record Demand1 : Type 0 where
       (n s d : ℕ) (labels : List ℕ) (m k i : ℕ) → walkedFor n s d labels m .ending ≡ ending.Refused k → getD (walkedFor n s d labels m .row) i 0 ≡ 0
   pub notice-number : (k : ℕ) → noticeNumber (noticed.Refused k) ≡ k * 281474976710656
   -- where no refusal is due, the question is answered
-  pub label-answered : (n : ℕ) (faults : List ℕ) (m : ℕ) → labelRefusal n faults m ≡ 0 → labelled n faults m ≡ labelled.Rounds (roundsOf n faults)
-  pub labels-written : (n : ℕ) (faults before : List ℕ) → labelRefusal n faults (length before) ≡ 0 → labelsAfter n faults before ≡ labelsOf n faults
+  pub label-answered : (K : Cabinet) (m : ℕ) → labelRefusal K m ≡ 0 → labelled K m ≡ labelled.Rounds (roundsOf K)
+  pub labels-written : (K : Cabinet) (before : List ℕ) → labelRefusal K (length before) ≡ 0 → labelsAfter K before ≡ labelsOf K
   pub hop-answered :
       (n c d : ℕ) (labels : List ℕ) → hopRefusal n c d labels ≡ 0 → hopped n c d labels ≡ hopped.Decided (hop n (λ x. getD labels x 0) c d)

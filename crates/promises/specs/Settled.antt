@@ -8,6 +8,7 @@ use denote.Ref.{RefT, now}
 use Rattle.groups.specs.Number.{numberAt}
 use Rattle.groups.specs.declared.Number.{Number}
 use Rattle.hcube.specs.Answers.{hopNumber, labelNumber, noticeNumber, rowAfter, walkNumber, walkedFor}
+use Rattle.labels.specs.Cabinet.{cabinet}
 use Rattle.labels.specs.Labelling.{labelled, labelsAfter}
 use Rattle.labels.specs.declared.Labelled.{Labelled}
 use Rattle.notice.specs.Notice.{noticed, tableAfter, tailAt}
@@ -35,7 +36,7 @@ pub record Settled : Type 0 where
       → OneEach (λ (r : List ℕ) (place : ℕ × ℕ). (r ≡ drop (tailAt bytes) bytes) × (place ≡ (block, offset + tailAt bytes)))
   pub labels-label :
       (n : ℕ) (faults labels : List ℕ)
-      → OneEach (λ (r : Labelled) (after : List ℕ). (r ≡ labelled n faults (length labels)) × (after ≡ labelsAfter n faults labels))
+      → OneEach (λ (r : Labelled) (after : List ℕ). (r ≡ labelled (cabinet n faults) (length labels)) × (after ≡ labelsAfter (cabinet n faults) labels))
   pub route-hop : (n c d : ℕ) (labels : List ℕ) → One (λ (r : Hopped). r ≡ hopped n c d labels)
   pub route-walk : (n s d : ℕ) (labels : List ℕ) → One (λ (r : Walked). r ≡ walked n s d labels)
   -- the reader's bytes are the caller's own reference, not only equal bytes
@@ -47,7 +48,7 @@ pub record Settled : Type 0 where
   pub reader-next-at : (bytes : List ℕ) (at : ℕ) → OneEach (λ (r : Number) (place : ℕ). (r ≡ numberAt bytes at) × (place ≡ placeAfter bytes at))
   pub hcube-label :
       (n : ℕ) (faults labels : List ℕ)
-      → OneEach (λ (r : ℕ) (after : List ℕ). (r ≡ labelNumber (labelled n faults (length labels))) × (after ≡ labelsAfter n faults labels))
+      → OneEach (λ (r : ℕ) (after : List ℕ). (r ≡ labelNumber (labelled (cabinet n faults) (length labels))) × (after ≡ labelsAfter (cabinet n faults) labels))
   pub hcube-hop : (n c d : ℕ) (labels : List ℕ) → One (λ (r : ℕ). r ≡ hopNumber (hopped n c d labels))
   pub hcube-walk :
       (n s d : ℕ) (labels row : List ℕ)

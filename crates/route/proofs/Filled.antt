@@ -13,8 +13,8 @@ use lib.ListN.{length, getD, replicate, length-replicate, getD-replicate}
 use lib.Seq.{ext-getD}
 use Rattle.cube.specs.Count.{some}
 use Rattle.cube.specs.Tables.{tab}
-use Rattle.cube.proofs.Bools.{or-left, or-right}
-use Rattle.cube.proofs.Count.{either, below-suc, some-hit, some-none, some-found, none-some}
+use Rattle.cube.proofs.Bools.{either, or-left, or-right}
+use Rattle.cube.proofs.Count.{below-suc, some-hit, some-none, some-found, none-some}
 use Rattle.cube.proofs.Front.{front, length-tab, getD-tab, length-front, front-before, front-after}
 
 -- a row of zeros whose first k places are written, where p tells those places from the others
@@ -56,3 +56,18 @@ or-above a b = go (either (ltb 3 a)) (either (ltb 3 b))
 -- all numbers so far joined, and one place more
 pub joined-more : (f : ℕ → ℕ) (any i : ℕ) → ltb 3 any ≡ some i (λ k. ltb 3 (f k)) → ltb 3 (bitOr any (f i)) ≡ some (i + 1) (λ k. ltb 3 (f k))
 joined-more f any i e = or-above any (f i) ∙ ap (λ (b : Bool). b || ltb 3 (f i)) e ∙ some-more i (λ k. ltb 3 (f k))
+
+-- the larger of two is above top exactly where one of them is
+above : (top a b : ℕ) → ltb top (cond (ltb a b) b a) ≡ (ltb top a || ltb top b)
+above top a b = go (either (ltb a b)) (either (ltb top a)) (either (ltb top b))
+  where
+    go : (ltb a b ≡ true) ⊎ (ltb a b ≡ false) → (ltb top a ≡ true) ⊎ (ltb top a ≡ false) → (ltb top b ≡ true) ⊎ (ltb top b ≡ false)
+        → ltb top (cond (ltb a b) b a) ≡ (ltb top a || ltb top b)
+    go (inl p) (inl q) _ = rw (p, q) (lt-ltb top b (omega (arith, ltb-true a b p, ltb-true top a q)))
+    go (inl p) (inr q) _ = rw (p, q)
+    go (inr p) (inl q) _ = rw (p, q)
+    go (inr p) (inr q) (inl r) = absurd (omega (arith, ltb-false a b p, ltb-false top a q, ltb-true top b r))
+    go (inr p) (inr q) (inr r) = rw (p, q, r)
+
+pub larger-more : (top : ℕ) (f : ℕ → ℕ) (any i : ℕ) → ltb top any ≡ some i (λ k. ltb top (f k)) → ltb top (cond (ltb any (f i)) (f i) any) ≡ some (i + 1) (λ k. ltb top (f k))
+larger-more top f any i e = above top any (f i) ∙ ap (λ (b : Bool). b || ltb top (f i)) e ∙ some-more i (λ k. ltb top (f k))

@@ -2,7 +2,7 @@
 -- scan looks at the neighbours alone. A walk stays in the cube, so it depends on the labels of the cube's nodes alone.
 use mathlib.Core.Path.{_≡_, refl, ap, ap₂, _∙_}
 use mathlib.Core.Logic.{_⊎_, inl, inr}
-use mathlib.Core.Bool.{Bool, true, false, cond}
+use mathlib.Core.Bool.{true, false, cond}
 use mathlib.Core.List.{List}
 use Prim.Native.Nat.{ℕ, zero, suc, _+_, _^_, _<_}
 use native.Mathlib.Omega.{arith}
@@ -11,10 +11,11 @@ use lib.ListN.{length}
 use borrow.Author.Tests.{ltb-true}
 use Rattle.cube.specs.Cube.{dist, flip}
 use Rattle.cube.specs.Tables.{labelIn}
-use Rattle.cube.proofs.Count.{either, least-same, some-same, the-least}
+use Rattle.cube.proofs.Bools.{either}
+use Rattle.cube.proofs.Count.{least-same, some-same, the-least}
 use Rattle.cube.proofs.Cube.{flip-lt}
 use Rattle.cube.proofs.Front.{tab-cong}
-use Rattle.route.specs.Hop.{forward, spare, leads, hits, lowest, scan, answer, decide, hop, hopRefusal, hopped}
+use Rattle.route.specs.Hop.{leads, hits, lowest, scan, answer, decide, hop, hopRefusal, hopped}
 use Rattle.route.specs.Walk.{onto, stops, spot, turn, hops, last, row, walkFrom}
 use Rattle.route.specs.declared.Decision.{Decision}
 use Rattle.route.specs.declared.Decision.the-variants.{Deliver, Hop, Halted}
@@ -22,19 +23,9 @@ use Rattle.route.specs.declared.Decision.the-variants.{Deliver, Hop, Hal
 -- ---- the decision
 
 module _ (n c d own : ℕ) (near near′ : ℕ → ℕ) (same : (i : ℕ) → i < n → near i ≡ near′ i) where
-  leads-same : (side : Bool) (t i : ℕ) → i < n → leads c d near side t i ≡ leads c d near′ side t i
-  unfolding leads
-  leads-same side t i h = rw (same i h)
-
   hits-same : (s i : ℕ) → i < n → hits c d own near s i ≡ hits c d own near′ s i
-  unfolding hits
-  hits-same zero i h = refl
-  hits-same (suc zero) i h = leads-same forward 0 i h
-  hits-same (suc (suc zero)) i h = leads-same forward 1 i h
-  hits-same (suc (suc (suc zero))) i h = rw (leads-same forward 2 i h)
-  hits-same (suc (suc (suc (suc zero)))) i h = leads-same spare 0 i h
-  hits-same (suc (suc (suc (suc (suc zero))))) i h = leads-same spare 1 i h
-  hits-same (suc (suc (suc (suc (suc (suc s)))))) i h = refl
+  unfolding hits leads
+  hits-same s i h = rw (same i h)
 
   lowest-same : (s : ℕ) → lowest n c d own near s ≡ lowest n c d own near′ s
   unfolding lowest

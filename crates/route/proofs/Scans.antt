@@ -3,7 +3,7 @@
 use mathlib.Core.Path.{_≡_, refl, sym, ap, _∙_}
 use mathlib.Core.Logic.{_⊎_, inl, inr, ⊎-elim, _≢_}
 use mathlib.Core.Bool.{true, false, _||_}
-use Prim.Native.Nat.{ℕ, suc, _^_, _≤_, _<_}
+use Prim.Native.Nat.{ℕ, suc, _-_, _^_, _≤_, _<_}
 use native.Mathlib.Omega.{arith}
 use lib.Bits.{bitXor}
 use lib.Dec.{eqb, leb, ltb}
@@ -11,12 +11,13 @@ use lib.Arith.{lt-one}
 use borrow.Author.Tests.{ne-eqb, lt-ltb, le-ltb, ltb-true, ltb-false}
 use Rattle.cube.specs.Count.{least}
 use Rattle.cube.specs.Cube.{dist}
-use Rattle.cube.proofs.Count.{Least, the-least, either, least-is, least-same, below-suc}
+use Rattle.cube.proofs.Bools.{either}
+use Rattle.cube.proofs.Count.{Least, the-least, least-is, below-suc}
 use Rattle.cube.proofs.Cube.{dist-self, dist-zero}
 use Rattle.route.specs.Helpers.{across, chosen, takes}
-use Rattle.route.specs.Hop.{forward, leads, hits, lowest, scan, answer, decide}
+use Rattle.route.specs.Hop.{forward, leads, hits, scanAt, scanOf, spare, lowest, scan, answer, decide}
 use Rattle.route.specs.declared.Decision.the-variants.{Deliver}
-use Rattle.route.proofs.Sets.{least-none, forward-set}
+use Rattle.route.proofs.Sets.{least-none, forward-set, spare-set}
 
 module _ (n c d own : ℕ) (near : ℕ → ℕ) where
   -- ---- what a scan finds
@@ -26,17 +27,25 @@ module _ (n c d own : ℕ) (near : ℕ → ℕ) where
   unfolding lowest
   idle s f = least-none n (hits c d own near s) (λ i _. f i)
 
+  -- scan s by its row: it is allowed, and the set is the dimensions of its side
+  pub forward-scan : (s t : ℕ) → scanAt (dist c d) own s ≡ scanOf forward t true → least n (takes (bitXor c d) near t) ≡ lowest n c d own near s
+  unfolding lowest hits
+  forward-scan s t e = forward-set n c d near t ∙ ap (λ z. least n (leads c d near z)) (sym e)
+
+  pub spare-scan : (s t : ℕ) → scanAt (dist c d) own s ≡ scanOf spare t true → least n (takes (bitXor (bitXor c d) (2 ^ n - 1)) near t) ≡ lowest n c d own near s
+  unfolding lowest hits
+  spare-scan s t e = spare-set n c d near t ∙ ap (λ z. least n (leads c d near z)) (sym e)
+
   -- the third, by its test
   pub third-open : (eqb own 2 || leb (dist c d) 2) ≡ true → least n (takes (bitXor c d) near 2) ≡ lowest n c d own near 3
-  unfolding lowest hits
-  third-open e = forward-set n c d near 2 ∙ least-same n (leads c d near forward 2) (hits c d own near 3) (λ i _. rw e)
+  third-open e = forward-scan 3 2 (ap (scanOf forward 2) e)
 
   pub third-shut : (eqb own 2 || leb (dist c d) 2) ≡ false → n ≡ lowest n c d own near 3
-  unfolding hits
+  unfolding hits leads
   third-shut e = sym (idle 3 (λ i. rw e))
 
   lowest-six : lowest n c d own near 6 ≡ n
-  unfolding hits
+  unfolding hits leads
   lowest-six = idle 6 (λ i. refl)
 
   lowest-within : (s : ℕ) → lowest n c d own near s ≤ n
@@ -50,7 +59,7 @@ module _ (n c d own : ℕ) (near : ℕ → ℕ) where
   Past s = (t : ℕ) → t < s → n ≤ lowest n c d own near t
 
   pub past-none : Past 1
-  unfolding hits
+  unfolding hits leads
   past-none t h = omega (arith, idle 0 (λ i. refl), ap (lowest n c d own near) (lt-one h))
 
   -- scan s gives i: none, and the next one is due

@@ -18,7 +18,7 @@ use Rattle.cube.proofs.Bools.{and-both, by-cases}
 use Rattle.cube.proofs.Count.{Least, the-least, least-found, least-is, least-same, find}
 use Rattle.cube.proofs.Cube.{bit-low, bit-suc, bit-none, bit-xor, bit-flip-other, bits-same}
 use Rattle.route.specs.Helpers.{takes}
-use Rattle.route.specs.Hop.{forward, spare, leads}
+use Rattle.route.specs.Hop.{forward, spare, leads, scanOf}
 
 -- ---- the trailing zeros of a number are its lowest set bit
 
@@ -149,14 +149,14 @@ beq-false true = refl
 beq-false false = refl
 
 module _ (n c d : ℕ) (near : ℕ → ℕ) (t : ℕ) where
-  pub forward-set : least n (takes (bitXor c d) near t) ≡ least n (leads c d near forward t)
+  pub forward-set : least n (takes (bitXor c d) near t) ≡ least n (leads c d near (scanOf forward t true))
   unfolding takes leads apart
-  forward-set = least-same n (takes (bitXor c d) near t) (leads c d near forward t) (λ i _. ap (λ (b : Bool). b && leb (near i) t) (beq-true (bit i (bitXor c d))))
+  forward-set = least-same n (takes (bitXor c d) near t) (leads c d near (scanOf forward t true)) (λ i _. ap (λ (b : Bool). b && leb (near i) t) (beq-true (bit i (bitXor c d))))
 
-  pub spare-set : least n (takes (bitXor (bitXor c d) (2 ^ n - 1)) near t) ≡ least n (leads c d near spare t)
+  pub spare-set : least n (takes (bitXor (bitXor c d) (2 ^ n - 1)) near t) ≡ least n (leads c d near (scanOf spare t true))
   unfolding takes leads apart
   spare-set =
-      least-same n (takes (bitXor (bitXor c d) (2 ^ n - 1)) near t) (leads c d near spare t)
+      least-same n (takes (bitXor (bitXor c d) (2 ^ n - 1)) near t) (leads c d near (scanOf spare t true))
       (λ i h. ap (λ (b : Bool). b && leb (near i) t) (other i h))
     where
       other : (i : ℕ) → i < n → bit i (bitXor (bitXor c d) (2 ^ n - 1)) ≡ Bool·beq (bit i (bitXor c d)) false

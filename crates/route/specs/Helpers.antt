@@ -1,22 +1,20 @@
 -- What the functions inside the crate answer, and what they may assume. No contract of an entry point cites these: proofs/Refusals.antt
 -- shows how the refusals of a hop and of a walk are made of them, proofs/Scans.antt how the decision is.
-use mathlib.Core.Bool.{Bool, cond, not, _&&_, _||_}
+use mathlib.Core.Bool.{Bool, cond, _&&_}
 use mathlib.Core.List.{List}
 use Prim.Native.Nat.{ℕ, _^_, _<_, _≤_}
 use mathlib.Core.Path.{_≡_}
-use lib.Dec.{eqb, leb, ltb}
+use lib.Dec.{leb, ltb}
 use Rattle.cube.specs.Cube.{bit, flip}
-use Rattle.cube.specs.Tables.{isDimension, tab}
-use Rattle.route.specs.Hop.{lowest, scan}
+use Rattle.cube.specs.Refusal.{first}
+use Rattle.cube.specs.Tables.{tab}
+use Rattle.route.specs.Hop.{lowest, placeTests, scan}
 use Rattle.route.specs.declared.Decision.{Decision}
 use Rattle.route.specs.declared.Decision.the-variants.{Hop, Halted}
 
 -- the refusals that need no label, for nodes a and b and a table of that length: 0 for none
 unfoldable pub placeRefusal : (n a b len : ℕ) → ℕ
-placeRefusal n a b len =
-    cond (not (isDimension n)) 1
-    (cond (not (eqb len (2 ^ n))) 2
-    (cond (leb (2 ^ n) a || leb (2 ^ n) b) 5 0))
+placeRefusal n a b len = first (placeTests n a b len)
 
 -- what holds where none of them is given
 pub record Placed (n a b len : ℕ) : Type 0 where

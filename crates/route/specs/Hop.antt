@@ -2,12 +2,13 @@
 -- The decision is a function of n, c, d, c's own label and the labels of its n neighbours, and of nothing else: `hop` takes these from the labels
 -- of all nodes, `hopped` from a lent table.
 use mathlib.Core.Bool.{Bool, true, false, Bool·beq, cond, not, _&&_, _||_}
-use mathlib.Core.List.{List}
+use mathlib.Core.List.{List, [], _∷_, _++_}
 use Prim.Native.Nat.{ℕ, zero, suc, _^_}
 use lib.Dec.{eqb, leb, ltb}
-use lib.ListN.{length}
+use lib.ListN.{getD, length}
 use Rattle.cube.specs.Count.{least, some}
 use Rattle.cube.specs.Cube.{apart, dist, flip}
+use Rattle.cube.specs.Refusal.{Test, first, _⇒_}
 use Rattle.cube.specs.Tables.{isDimension, labelIn}
 use Rattle.route.specs.declared.Decision.{Decision}
 use Rattle.route.specs.declared.Decision.the-variants.{Deliver, Hop, Halted}
@@ -23,19 +24,38 @@ forward = true
 abbrev pub spare : Bool
 spare = false
 
--- dimension i is on that side, and the neighbour's label is at most t (0 safe, 1 or ordinarily unsafe, 2 or not faulty)
-unfoldable pub leads : (c d : ℕ) (near : ℕ → ℕ) (side : Bool) (t i : ℕ) → Bool
-leads c d near side t i = Bool·beq (apart i c d) side && leb (near i) t
+-- a scan goes through the dimensions of one side and takes one whose neighbour's label is at most top (0 safe, 1 or ordinarily unsafe, 2 or not
+-- faulty), where it is allowed at all
+pub record Scan : Type 0 where
+  pub side : Bool
+  pub top : ℕ
+  pub allowed : Bool
+
+abbrev pub scanOf : (side : Bool) (top : ℕ) (allowed : Bool) → Scan
+scanOf side top allowed = record { side = side; top = top; allowed = allowed }
+
+-- scans 1 to 5 of a node at distance l whose own label is own; the row before them is empty
+abbrev pub scans : (l own : ℕ) → List Scan
+scans l own =
+    scanOf forward 0 false
+    ∷ scanOf forward 0 true
+    ∷ scanOf forward 1 true
+    ∷ scanOf forward 2 (eqb own 2 || leb l 2)
+    ∷ scanOf spare 0 true
+    ∷ scanOf spare 1 true
+    ∷ []
+
+-- scan s
+abbrev pub scanAt : (l own s : ℕ) → Scan
+scanAt l own s = getD (scans l own) s (scanOf forward 0 false)
+
+-- a scan takes dimension i
+unfoldable pub leads : (c d : ℕ) (near : ℕ → ℕ) (z : Scan) (i : ℕ) → Bool
+leads c d near z i = z .allowed && (Bool·beq (apart i c d) (z .side) && leb (near i) (z .top))
 
 -- scan s, 1 to 5, takes dimension i
 unfoldable pub hits : (c d own : ℕ) (near : ℕ → ℕ) (s i : ℕ) → Bool
-hits c d own near zero i = false
-hits c d own near (suc zero) i = leads c d near forward 0 i
-hits c d own near (suc (suc zero)) i = leads c d near forward 1 i
-hits c d own near (suc (suc (suc zero))) i = (eqb own 2 || leb (dist c d) 2) && leads c d near forward 2 i
-hits c d own near (suc (suc (suc (suc zero)))) i = leads c d near spare 0 i
-hits c d own near (suc (suc (suc (suc (suc zero))))) i = leads c d near spare 1 i
-hits c d own near (suc (suc (suc (suc (suc (suc s)))))) i = false
+hits c d own near s i = leads c d near (scanAt (dist c d) own s) i
 
 -- the lowest dimension that scan s takes, n where it takes none
 unfoldable pub lowest : (n c d own : ℕ) (near : ℕ → ℕ) (s : ℕ) → ℕ
@@ -58,14 +78,24 @@ hop n lab c d = decide n c d (lab c) (λ i. lab (flip i c))
 
 -- ---- the question, for any lent label table
 
+-- the refusals that need no label, of nodes a and b and a label table of that length
+abbrev pub placeTests : (n a b len : ℕ) → List Test
+placeTests n a b len =
+    not (isDimension n) ⇒ 1
+    ∷ not (eqb len (2 ^ n)) ⇒ 2
+    ∷ (leb (2 ^ n) a || leb (2 ^ n) b) ⇒ 5
+    ∷ []
+
+-- the refusals of a hop: then those that c's label and its neighbours' give
+abbrev pub nearTests : (n own : ℕ) (near : ℕ → ℕ) → List Test
+nearTests n own near =
+    (ltb 3 own || some n (λ i. ltb 3 (near i))) ⇒ 4
+    ∷ eqb own 3 ⇒ 6
+    ∷ []
+
 -- the refusal number, 0 for none
 unfoldable pub hopRefusal : (n c d : ℕ) (labels : List ℕ) → ℕ
-hopRefusal n c d labels =
-    cond (not (isDimension n)) 1
-    (cond (not (eqb (length labels) (2 ^ n))) 2
-    (cond (leb (2 ^ n) c || leb (2 ^ n) d) 5
-    (cond (ltb 3 (labelIn labels c) || some n (λ i. ltb 3 (labelIn labels (flip i c)))) 4
-    (cond (eqb (labelIn labels c) 3) 6 0))))
+hopRefusal n c d labels = first (placeTests n c d (length labels) ++ nearTests n (labelIn labels c) (λ i. labelIn labels (flip i c)))
 
 unfoldable pub hopped : (n c d : ℕ) (labels : List ℕ) → Hopped
 hopped n c d labels = cond (eqb (hopRefusal n c d labels) 0) (Decided (hop n (labelIn labels) c d)) (Refused (hopRefusal n c d labels))

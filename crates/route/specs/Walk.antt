@@ -1,14 +1,15 @@
 -- The walk: hops from the source until a decision is no hop. n is the dimension, lab the labels, d the destination, s the source.
 -- It is given place by place: `spot` is the node after k hops and `turn` the decision there; the hop count, the row and the ending are read off them.
-use mathlib.Core.Bool.{Bool, true, false, cond, not, _||_}
-use mathlib.Core.List.{List}
+use mathlib.Core.Bool.{Bool, true, false, cond}
+use mathlib.Core.List.{List, [], _∷_, _++_}
 use Prim.Native.Nat.{ℕ, zero, suc, _+_, _^_}
 use lib.Dec.{eqb, leb, ltb}
 use lib.ListN.{length, replicate}
 use Rattle.cube.specs.Count.{least, some}
 use Rattle.cube.specs.Cube.{flip}
-use Rattle.cube.specs.Tables.{isDimension, labelIn, tab}
-use Rattle.route.specs.Hop.{hop}
+use Rattle.cube.specs.Refusal.{Test, first, _⇒_}
+use Rattle.cube.specs.Tables.{labelIn, tab}
+use Rattle.route.specs.Hop.{hop, placeTests}
 use Rattle.route.specs.declared.Decision.{Decision}
 use Rattle.route.specs.declared.Decision.the-variants.{Deliver, Hop, Halted}
 use Rattle.route.specs.declared.Ending.{Ending}
@@ -51,15 +52,17 @@ row n lab d s = tab 17 (λ k. cond (leb k (hops n lab d s)) (spot n lab d s k) 0
 
 -- ---- the question, for any lent label table
 
+-- the refusals of a walk but for 8: after those of the place, those that the labels give
+abbrev pub tableTests : (n s d : ℕ) (labels : List ℕ) → List Test
+tableTests n s d labels =
+    some (2 ^ n) (λ x. ltb 3 (labelIn labels x)) ⇒ 4
+    ∷ eqb (labelIn labels s) 3 ⇒ 6
+    ∷ eqb (labelIn labels d) 3 ⇒ 7
+    ∷ []
+
 -- the refusal number but for 8, 0 for none
 unfoldable pub startRefusal : (n s d : ℕ) (labels : List ℕ) → ℕ
-startRefusal n s d labels =
-    cond (not (isDimension n)) 1
-    (cond (not (eqb (length labels) (2 ^ n))) 2
-    (cond (leb (2 ^ n) s || leb (2 ^ n) d) 5
-    (cond (some (2 ^ n) (λ x. ltb 3 (labelIn labels x))) 4
-    (cond (eqb (labelIn labels s) 3) 6
-    (cond (eqb (labelIn labels d) 3) 7 0)))))
+startRefusal n s d labels = first (placeTests n s d (length labels) ++ tableTests n s d labels)
 
 -- a refusal has hop count 0 and a row of zeros
 unfoldable pub refused : ℕ → Walked

@@ -6,6 +6,7 @@ ghost use Rattle.route.specs.Hop as spec;
 ghost use Rattle.route.specs.Walk.{refused, startRefusal, walkFrom, walked};
 ghost use lib.Dec.{ltb};
 ghost use lib.ListN.{length};
+ghost use mathlib.Core.Bool.{cond};
 ghost use mathlib.Core.Path.{_≡_};
 use super::Decision;
 use super::Ending;
@@ -80,14 +81,21 @@ fn walk_from(n: usize, s: usize, d: usize, labels: &[u8]) -> Walked
     }
 }
 
-// Whether a byte is above 3, the highest label: all of them are joined, so that the loop has one way out and runs on whole vectors.
+// The larger of two bytes.
+fn larger(a: u8, b: u8) -> u8
+    ensures { λ r. ⌜ r ≡ cond (ltb a b) b a ⌝ }
+{
+    if a < b { b } else { a }
+}
+
+// Whether a byte is above 3, the highest label: the largest is looked for, so that the loop has one way out and runs on whole vectors.
 fn above_three(labels: &[u8]) -> bool
     ensures { λ r. ⌜ r ≡ some (length (now (labels .entry))) (λ x. ltb 3 (labelIn (now (labels .entry)) x)) ⌝ }
 {
     let mut any = 0u8;
     let mut x = 0;
     while x < labels.len() {
-        any = any | labels[x];
+        any = larger(any, labels[x]);
         x += 1;
     }
     3 < any

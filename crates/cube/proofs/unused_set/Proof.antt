@@ -6,7 +6,8 @@ use native.Mathlib.Omega.{arith}
 use borrow.Author.Needs.{needs}
 use lib.Dec.{eqb}
 use lib.ListN.{getD}
-use Rattle.cube.proofs.Tables.{len-small, nodes-few, unused-none, unused-byte}
+use lib.Pow.{pow-lt}
+use Rattle.cube.proofs.Tables.{len-small, unused-none, unused-byte}
 use Rattle.cube.proofs.unused_set.Statement.{statement}
 use Rattle.cube.proofs.unused_set.Tie as tie
 
@@ -20,10 +21,10 @@ nodes-requires : tie.Need-nodes-requires
 nodes-requires c κs = search needs
 
 cast-result : tie.Need-cast-result
-cast-result c = let s = c .before .before .before .before in omega (arith, nodes-few (s .args .n) (omega arith))
+cast-result c = let s = c .before .before .before .before in omega (arith, pow-lt {i = s .args .n} {j = 3} (omega arith))
 
 shr-result : tie.Need-shr-result
-shr-result c = let s = c .before .before .before .before in omega (arith, nodes-few (s .args .n) (omega arith))
+shr-result c = let s = c .before .before .before .before in omega (arith, pow-lt {i = s .args .n} {j = 3} (omega arith))
 
 returns-2 : tie.Need-returns-2
 returns-2 c =

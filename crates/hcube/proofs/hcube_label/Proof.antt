@@ -2,6 +2,7 @@
 use mathlib.Core.Path.{sym, ap, _∙_}
 use native.Mathlib.Omega.{arith}
 use lib.ListN.{length}
+use Rattle.labels.specs.Cabinet.{cabinet}
 use Rattle.hcube.specs.Answers.{labelNumber}
 use Rattle.hcube.proofs.Small.{label-small}
 use borrow.Author.Needs.{needs}
@@ -17,7 +18,7 @@ enum-known-answer c = search needs
 pack-requires : tie.Need-pack-requires
 pack-requires c κs =
     let a = c .before .before .before .before .before .before .before .before .before .args in
-    let f = label-small (a .n) (a .faults .now) (length (a .labels .now)) in
+    let f = label-small (cabinet (a .n) (a .faults .now)) (length (a .labels .now)) in
     (omega arith, (omega arith, rw (sym (c .before .before .before .before .before .label .ensures .0) ∙ c .before .answer .given .1) at (f .1)))
 
 enum-known-answer-2 : tie.Need-enum-known-answer-2
@@ -26,7 +27,7 @@ enum-known-answer-2 c = search needs
 pack-requires-2 : tie.Need-pack-requires-2
 pack-requires-2 c κs =
     let a = c .before .before .before .before .before .before .before .before .before .args in
-    let f = label-small (a .n) (a .faults .now) (length (a .labels .now)) in
+    let f = label-small (cabinet (a .n) (a .faults .now)) (length (a .labels .now)) in
     (rw (sym (c .before .before .before .before .before .label .ensures .0) ∙ c .before .answer2 .given .1) at (f .0), (omega arith, omega arith))
 
 same-length : tie.Need-same-length

@@ -2,6 +2,7 @@
 use mathlib.Core.Path.{sym, _∙_}
 use borrow.Author.Needs.{needs}
 use Rattle.cube.proofs.Tables.{dimension-is}
+use Rattle.labels.specs.Cabinet.{cabinet}
 use Rattle.labels.proofs.Refusal.{accepted, says-refused, says-rounds}
 use Rattle.labels.proofs.label.Statement.{statement}
 use Rattle.labels.proofs.label.Tie as tie
@@ -10,11 +11,11 @@ label-refusal-requires : tie.Need-label-refusal-requires
 label-refusal-requires c κs = search needs
 
 returns : tie.Need-returns
-returns c = says-refused _ _ _ _ (c .before .label-refusal .ensures) (c .if1 .taken)
+returns c = says-refused (cabinet _ _) _ _ (c .before .label-refusal .ensures) (c .if1 .taken)
 
 label-nodes-requires : tie.Need-label-nodes-requires
 label-nodes-requires c κs =
-    let e = accepted _ _ _ (sym (c .before .before .label-refusal .ensures) ∙ c .before .if1 .left) in
+    let e = accepted (cabinet _ _) _ (sym (c .before .before .label-refusal .ensures) ∙ c .before .if1 .left) in
     (dimension-is _ (e .0) .1, (e .1, e .2))
 
 same-length : tie.Need-same-length
@@ -23,7 +24,7 @@ same-length c = search needs
 returns-2 : tie.Need-returns-2
 returns-2 c =
     let s = c .before .before .before .before in
-    says-rounds _ _ _ _ _ _ (s .before .label-refusal .ensures) (s .if1 .left)
+    says-rounds (cabinet _ _) _ _ _ _ (s .before .label-refusal .ensures) (s .if1 .left)
     (c .before .before .label-nodes .ensures .0) (c .before .before .label-nodes .ensures .1)
 
 pub label-spec : {M : Type 1} → statement M

@@ -5,10 +5,11 @@ use Prim.Native.Nat.{_^_}
 use native.Mathlib.Omega.{arith}
 use lib.ListN.{length}
 use borrow.Author.Needs.{needs}
-use borrow.Author.Tests.{not-true, not-false}
+use borrow.Author.Tests.{eq-eqb, ne-eqb, not-true, not-false}
 use Rattle.cube.specs.Tables.{isDimension, tableLen}
 use Rattle.cube.proofs.Tables.{dimension-is}
-use Rattle.labels.proofs.Refusal.{refuse-dimension, refuse-faults, refuse-labels, refuse-unused, accept}
+use Rattle.cube.specs.Refusal.{first}
+use Rattle.labels.specs.Labelling.{labelRefusal}
 use Rattle.labels.proofs.label_refusal.Statement.{statement}
 use Rattle.labels.proofs.label_refusal.Tie as tie
 
@@ -26,36 +27,38 @@ is-dimension-requires : tie.Need-is-dimension-requires
 is-dimension-requires c κs = search needs
 
 returns : tie.Need-returns
-returns c = refuse-dimension _ _ _ (sym (c .before .is-dimension .ensures) ∙ not-true _ (c .if1 .taken))
+unfolding labelRefusal first
+returns c = rw (sym (c .before .is-dimension .ensures) ∙ not-true _ (c .if1 .taken))
 
 table-len-requires : tie.Need-table-len-requires
 table-len-requires c κs = omega (arith, dimension-is _ (dimension c) .1)
 
 returns-2 : tie.Need-returns-2
-returns-2 c = refuse-faults _ _ _ (dimension (c .before .before)) (λ q. c .if2 .taken (q ∙ sym (c .before .table-len .ensures)))
+unfolding labelRefusal first
+returns-2 c = rw (dimension (c .before .before), ne-eqb _ _ (λ q. c .if2 .taken (q ∙ sym (c .before .table-len .ensures))))
 
 nodes-requires : tie.Need-nodes-requires
 nodes-requires c κs = omega (arith, dimension-is _ (dimension (c .before .before)) .1)
 
 returns-3 : tie.Need-returns-3
+unfolding labelRefusal first
 returns-3 c =
-    refuse-labels _ _ _ (dimension (c .before .before .before .before)) (fault-length (c .before .before))
-    (λ q. c .if3 .taken (q ∙ sym (c .before .nodes .ensures)))
+    rw (dimension (c .before .before .before .before), eq-eqb _ _ (fault-length (c .before .before)), ne-eqb _ _ (λ q. c .if3 .taken (q ∙ sym (c .before .nodes .ensures))))
 
 unused-set-requires : tie.Need-unused-set-requires
 unused-set-requires c κs = search needs
 
 returns-4 : tie.Need-returns-4
+unfolding labelRefusal first
 returns-4 c =
     let s = c .before .before in
-    refuse-unused _ _ _ (dimension (s .before .before .before .before)) (fault-length (s .before .before)) (label-length s)
-    (sym (c .before .unused-set .ensures) ∙ c .if4 .taken)
+    rw (dimension (s .before .before .before .before), eq-eqb _ _ (fault-length (s .before .before)), eq-eqb _ _ (label-length s), sym (c .before .unused-set .ensures) ∙ c .if4 .taken)
 
 returns-5 : tie.Need-returns-5
+unfolding labelRefusal first
 returns-5 c =
     let s = c .before .before in
-    accept _ _ _ (dimension (s .before .before .before .before)) (fault-length (s .before .before)) (label-length s)
-    (sym (c .before .unused-set .ensures) ∙ c .if4 .left)
+    rw (dimension (s .before .before .before .before), eq-eqb _ _ (fault-length (s .before .before)), eq-eqb _ _ (label-length s), sym (c .before .unused-set .ensures) ∙ c .if4 .left)
 
 pub label-refusal-spec : {M : Type 1} → statement M
 label-refusal-spec =

@@ -1,15 +1,14 @@
 -- `chosen`: each scan that finds nothing is passed, and the first that finds a dimension is taken. The places of the code, Else1 to Else4, are where
 -- one scan more has been passed.
-use mathlib.Core.Path.{_≡_, _∙_}
+use mathlib.Core.Path.{_≡_, refl, _∙_}
 use Prim.Native.Nat.{ℕ, _-_, _≤_, _<_, _^_}
 use native.Mathlib.Omega.{arith}
 use borrow.Author.Needs.{needs}
 use lib.Bits.{bitXor, xor-lt}
 use lib.ListN.{getD}
 use lib.Pow.{ones-lt}
-use Rattle.route.specs.Hop.{hits, lowest}
-use Rattle.route.proofs.Scans.{Past, past-none, pass, take, take-last}
-use Rattle.route.proofs.Sets.{forward-set, spare-set}
+use Rattle.route.specs.Hop.{lowest}
+use Rattle.route.proofs.Scans.{Past, past-none, pass, take, take-last, forward-scan, spare-scan}
 use Rattle.route.proofs.chosen.Statement.{statement}
 use Rattle.route.proofs.chosen.Tie as tie
 
@@ -17,20 +16,17 @@ abbrev PastAt : tie.Start → ℕ → Type 0
 PastAt a = Past (a .args .n) (a .args .c) (a .args .d) (a .args .own) (λ i. getD (a .args .near .now) i 0)
 
 past2 : (c : tie.Else1) → PastAt (c .before .before) 2
-unfolding lowest hits
-past2 c = pass _ _ _ _ _ 1 _ (past-none _ _ _ _ _) (c .before .lowest .ensures ∙ forward-set _ _ _ _ _) (c .if1 .left)
+past2 c = pass _ _ _ _ _ 1 _ (past-none _ _ _ _ _) (c .before .lowest .ensures ∙ forward-scan _ _ _ _ _ 1 0 refl) (c .if1 .left)
 
 past3 : (c : tie.Else2) → PastAt (c .before .before .before .before) 3
-unfolding lowest hits
-past3 c = pass _ _ _ _ _ 2 _ (past2 (c .before .before)) (c .before .lowest2 .ensures ∙ forward-set _ _ _ _ _) (c .if2 .left)
+past3 c = pass _ _ _ _ _ 2 _ (past2 (c .before .before)) (c .before .lowest2 .ensures ∙ forward-scan _ _ _ _ _ 2 1 refl) (c .if2 .left)
 
 past4 : (c : tie.Else3) → PastAt (c .before .before .before .before .before .before) 4
 past4 c = pass _ _ _ _ _ 3 _ (past3 (c .before .before)) (c .before .third .ensures) (c .if3 .left)
 
 -- the spare dimensions are the others below n
 find4 : (c : tie.After-lowest3) → let a = c .before .before .before .before .before .before .before .before .args in c .lowest3 .result ≡ lowest (a .n) (a .c) (a .d) (a .own) (λ i. getD (a .near .now) i 0) 4
-unfolding lowest hits
-find4 c = (rw (c .before .nodes .ensures) at (c .lowest3 .ensures)) ∙ spare-set _ _ _ _ _
+find4 c = (rw (c .before .nodes .ensures) at (c .lowest3 .ensures)) ∙ spare-scan _ _ _ _ _ 4 0 refl
 
 past5 : (c : tie.Else4) → PastAt (c .before .before .before .before .before .before .before .before .before) 5
 past5 c = pass _ _ _ _ _ 4 _ (past4 (c .before .before .before)) (find4 (c .before)) (c .if4 .left)
@@ -49,15 +45,13 @@ lowest-requires : tie.Need-lowest-requires
 lowest-requires c κs = within c
 
 returns : tie.Need-returns
-unfolding lowest hits
-returns c = take _ _ _ _ _ 1 _ (omega arith) (past-none _ _ _ _ _) (c .before .lowest .ensures ∙ forward-set _ _ _ _ _) (c .if1 .taken)
+returns c = take _ _ _ _ _ 1 _ (omega arith) (past-none _ _ _ _ _) (c .before .lowest .ensures ∙ forward-scan _ _ _ _ _ 1 0 refl) (c .if1 .taken)
 
 lowest-requires-2 : tie.Need-lowest-requires-2
 lowest-requires-2 c κs = within (c .before .before)
 
 returns-2 : tie.Need-returns-2
-unfolding lowest hits
-returns-2 c = take _ _ _ _ _ 2 _ (omega arith) (past2 (c .before .before)) (c .before .lowest2 .ensures ∙ forward-set _ _ _ _ _) (c .if2 .taken)
+returns-2 c = take _ _ _ _ _ 2 _ (omega arith) (past2 (c .before .before)) (c .before .lowest2 .ensures ∙ forward-scan _ _ _ _ _ 2 1 refl) (c .if2 .taken)
 
 third-requires : tie.Need-third-requires
 third-requires c κs = search needs
@@ -81,8 +75,7 @@ lowest-requires-4 : tie.Need-lowest-requires-4
 lowest-requires-4 c κs = others (c .before .before)
 
 returns-5 : tie.Need-returns-5
-unfolding lowest hits
-returns-5 c = take-last _ _ _ _ _ _ (past5 (c .before)) ((rw (c .before .before .before .nodes .ensures) at (c .lowest4 .ensures)) ∙ spare-set _ _ _ _ _)
+returns-5 c = take-last _ _ _ _ _ _ (past5 (c .before)) ((rw (c .before .before .before .nodes .ensures) at (c .lowest4 .ensures)) ∙ spare-scan _ _ _ _ _ 5 1 refl)
 
 pub chosen-spec : {M : Type 1} → statement M
 chosen-spec =

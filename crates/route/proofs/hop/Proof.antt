@@ -5,11 +5,12 @@ use borrow.Author.Needs.{needs}
 use borrow.Author.Tests.{eq-eqb, ne-eqb}
 use lib.ListN.{length}
 use Rattle.cube.specs.Cube.{flip}
+use Rattle.cube.specs.Refusal.{first}
 use Rattle.cube.specs.Tables.{labelIn}
 use Rattle.route.specs.Helpers.{Placed}
-use Rattle.route.specs.Hop.{hopRefusal}
+use Rattle.route.specs.Hop.{hopRefusal, nearTests}
 use Rattle.route.proofs.Gathered.{arrives, goes}
-use Rattle.route.proofs.Refusals.{placed, misplaced, passed, hop-refusal, hop-refuses, hop-decides, nearRefusal}
+use Rattle.route.proofs.Refusals.{placed, misplaced, passed, hop-refuses, hop-decides}
 use Rattle.route.proofs.hop.Statement.{statement}
 use Rattle.route.proofs.hop.Tie as tie
 
@@ -19,14 +20,16 @@ good c = placed _ _ _ _ (sym (c .before .place-refusal .ensures) ∙ c .if1 .lef
 
 -- and the labels decide
 near-is : (c : tie.Else1) → let a = c .before .before .before .args in
-    hopRefusal (a .n) (a .c) (a .d) (a .labels .now) ≡ nearRefusal (a .n) (labelIn (a .labels .now) (a .c)) (λ i. labelIn (a .labels .now) (flip i (a .c)))
-near-is c = hop-refusal _ _ _ _ ∙ passed _ _ _ _ _ (sym (c .before .place-refusal .ensures) ∙ c .if1 .left)
+    hopRefusal (a .n) (a .c) (a .d) (a .labels .now) ≡ first (nearTests (a .n) (labelIn (a .labels .now) (a .c)) (λ i. labelIn (a .labels .now) (flip i (a .c))))
+unfolding hopRefusal
+near-is c = passed _ _ _ _ _ (sym (c .before .place-refusal .ensures) ∙ c .if1 .left)
 
 place-refusal-requires : tie.Need-place-refusal-requires
 place-refusal-requires c κs = search needs
 
 returns : tie.Need-returns
-returns c = hop-refuses _ _ _ _ _ (c .if1 .taken) (hop-refusal _ _ _ _ ∙ misplaced _ _ _ _ _ _ (c .before .place-refusal .ensures) (c .if1 .taken))
+unfolding hopRefusal
+returns c = hop-refuses _ _ _ _ _ (c .if1 .taken) (misplaced _ _ _ _ _ _ (c .before .place-refusal .ensures) (c .if1 .taken))
 
 shared-slice-read-own : tie.Need-shared-slice-read-own
 shared-slice-read-own c = omega (arith, good (c .before))
@@ -35,19 +38,19 @@ gather-requires : tie.Need-gather-requires
 gather-requires c κs = let g = good (c .before .before) in (g .small, g .first, g .sized, refl)
 
 returns-2 : tie.Need-returns-2
-unfolding labelIn nearRefusal
+unfolding labelIn first
 returns-2 c =
     hop-refuses _ _ _ _ 4 (λ z. omega arith) (near-is (c .before .before .before .before) ∙ rw (rw (c .before .gather .ensures .1) at (c .if2 .taken)))
 
 returns-3 : tie.Need-returns-3
-unfolding labelIn nearRefusal
+unfolding labelIn first
 returns-3 c =
     let h = rw (c .before .before .gather .ensures .1) at (c .before .if2 .left) in
     hop-refuses _ _ _ _ 6 (λ z. omega arith) (near-is (c .before .before .before .before .before) ∙ rw (h, eq-eqb _ _ (c .if3 .taken)))
 
 -- past the third test nothing is refused
 accepted : (c : tie.Else3) → let a = c .before .before .before .before .before .before .before .before .args in hopRefusal (a .n) (a .c) (a .d) (a .labels .now) ≡ 0
-unfolding labelIn nearRefusal
+unfolding labelIn first
 accepted c =
     let h = rw (c .before .before .gather .ensures .1) at (c .before .if2 .left) in
     near-is (c .before .before .before .before .before) ∙ rw (h, ne-eqb _ _ (c .if3 .left))

@@ -7,10 +7,11 @@ use borrow.Author.Tests.{eq-eqb, ne-eqb}
 use lib.Dec.{ltb}
 use lib.ListN.{length}
 use Rattle.cube.specs.Count.{some}
+use Rattle.cube.specs.Refusal.{first}
 use Rattle.cube.specs.Tables.{labelIn}
-use Rattle.route.specs.Walk.{startRefusal}
+use Rattle.route.specs.Walk.{startRefusal, tableTests}
 use Rattle.route.specs.Helpers.{Placed}
-use Rattle.route.proofs.Refusals.{placed, misplaced, passed, start-refusal, tableRefusal}
+use Rattle.route.proofs.Refusals.{placed, misplaced, passed}
 use Rattle.route.proofs.walks.start_refusal.Statement.{statement}
 use Rattle.route.proofs.walks.start_refusal.Tie as tie
 
@@ -19,8 +20,9 @@ good : (c : tie.Else1) → let a = c .before .before .before .args in Placed (a 
 good c = placed _ _ _ _ (sym (c .before .place-refusal .ensures) ∙ c .if1 .left)
 
 -- and the labels decide
-table-is : (c : tie.Else1) → let a = c .before .before .before .args in startRefusal (a .n) (a .s) (a .d) (a .labels .now) ≡ tableRefusal (a .n) (a .s) (a .d) (a .labels .now)
-table-is c = start-refusal _ _ _ _ ∙ passed _ _ _ _ _ (sym (c .before .place-refusal .ensures) ∙ c .if1 .left)
+table-is : (c : tie.Else1) → let a = c .before .before .before .args in startRefusal (a .n) (a .s) (a .d) (a .labels .now) ≡ first (tableTests (a .n) (a .s) (a .d) (a .labels .now))
+unfolding startRefusal
+table-is c = passed _ _ _ _ _ (sym (c .before .place-refusal .ensures) ∙ c .if1 .left)
 
 high : (c : tie.After-above-three) → let a = c .before .before .before .before .args in some (2 ^ a .n) (λ x. ltb 3 (labelIn (a .labels .now) x)) ≡ c .above-three .result
 unfolding labelIn
@@ -30,20 +32,21 @@ place-refusal-requires : tie.Need-place-refusal-requires
 place-refusal-requires c κs = search needs
 
 returns : tie.Need-returns
-returns c = sym (start-refusal _ _ _ _ ∙ misplaced _ _ _ _ _ _ (c .before .place-refusal .ensures) (c .if1 .taken))
+unfolding startRefusal
+returns c = sym (misplaced _ _ _ _ _ _ (c .before .place-refusal .ensures) (c .if1 .taken))
 
 above-three-requires : tie.Need-above-three-requires
 above-three-requires c κs = search needs
 
 returns-2 : tie.Need-returns-2
-unfolding labelIn tableRefusal
+unfolding labelIn first
 returns-2 c = sym (table-is (c .before .before) ∙ rw (high (c .before), c .if2 .taken))
 
 shared-slice-read-if3 : tie.Need-shared-slice-read-if3
 shared-slice-read-if3 c = omega (arith, good (c .before .before .before))
 
 returns-3 : tie.Need-returns-3
-unfolding labelIn tableRefusal
+unfolding labelIn first
 returns-3 c =
     let h = c .before .before in
     sym (table-is (h .before .before) ∙ rw (high (h .before), h .if2 .left, eq-eqb _ _ (c .if3 .taken)))
@@ -52,13 +55,13 @@ shared-slice-read-if4 : tie.Need-shared-slice-read-if4
 shared-slice-read-if4 c = omega (arith, good (c .before .before .before .before .before))
 
 returns-4 : tie.Need-returns-4
-unfolding labelIn tableRefusal
+unfolding labelIn first
 returns-4 c =
     let h = c .before .before .before .before in
     sym (table-is (h .before .before) ∙ rw (high (h .before), h .if2 .left, ne-eqb _ _ (c .before .before .if3 .left), eq-eqb _ _ (c .if4 .taken)))
 
 returns-5 : tie.Need-returns-5
-unfolding labelIn tableRefusal
+unfolding labelIn first
 returns-5 c =
     let h = c .before .before .before .before in
     sym (table-is (h .before .before) ∙ rw (high (h .before), h .if2 .left, ne-eqb _ _ (c .before .before .if3 .left), ne-eqb _ _ (c .if4 .left)))
