@@ -1,5 +1,5 @@
--- The rule by two counts. The nodes that do not work are among the bad ones, those that do not work or are marked. So a node meets the rule
--- with k bad neighbours or more; with fewer, the neighbours that do not work decide, and these can only be two if two are bad.
+-- The rule by two counts. The nodes that do not work are among the bad ones, those that do not work or are marked. So a node with fewer than two bad
+-- neighbours does not meet the rule, one with k or more does, and between these the neighbours that do not work decide.
 use mathlib.Core.Path.{_≡_, sym, ap, _∙_}
 use mathlib.Core.Logic.{_⊎_, inl, inr}
 use mathlib.Core.Bool.{true, false, _||_}
@@ -10,10 +10,10 @@ use lib.Dec.{leb, eqb}
 use borrow.Author.Tests.{leb-true, leb-false, le-leb, lt-leb, eqb-true, eqb-false}
 use Rattle.cube.specs.Cube.{flip}
 use Rattle.cube.specs.Tables.{labelIn}
-use Rattle.cube.proofs.Bools.{either}
+use Rattle.cube.proofs.Bools.{either, or-right}
 use Rattle.cube.proofs.Count.{count-le, count-same}
 use Rattle.labels.specs.Passes.{outIn, markIn, countFrom}
-use Rattle.labels.specs.Rule.{meets}
+use Rattle.rule.specs.Rule.{meets}
 
 -- the bad nodes are those with a byte of 2 or more
 bad-is : (l : List ℕ) (x : ℕ) → (outIn l x || markIn l x) ≡ leb 2 (labelIn l x)
@@ -38,18 +38,19 @@ module _ (n k : ℕ) (l : List ℕ) (x : ℕ) where
       count-le n (λ i. leb 3 (labelIn l (flip i x))) (λ i. leb 2 (labelIn l (flip i x)))
       (λ i _ e. le-leb 2 (labelIn l (flip i x)) (omega (arith, leb-true 3 (labelIn l (flip i x)) e)))
 
-  -- where two or more bad neighbours are k or more, the bad ones decide,
-  pub bad-decide : (2 ≤ countFrom n l x 2 → k ≤ countFrom n l x 2) → leb k (countFrom n l x 2) ≡ meets n k (outIn l) (markIn l) x
-  bad-decide h = go (either (leb 2 (countFrom n l x 3))) ∙ sym rule-is
-    where
-      go : (leb 2 (countFrom n l x 3) ≡ true) ⊎ (leb 2 (countFrom n l x 3) ≡ false) → leb k (countFrom n l x 2) ≡ (leb 2 (countFrom n l x 3) || leb k (countFrom n l x 2))
-      go (inl a) = rw a (le-leb k (countFrom n l x 2) (h (omega (arith, outs-bad, leb-true 2 (countFrom n l x 3) a))))
-      go (inr a) = rw a
+  -- with fewer than two bad neighbours it does not meet the rule,
+  pub too-few : countFrom n l x 2 < 2 → 2 ≤ k → false ≡ meets n k (outIn l) (markIn l) x
+  too-few h two = sym (rule-is ∙ rw (lt-leb 2 (countFrom n l x 3) (omega (arith, outs-bad)), lt-leb k (countFrom n l x 2) (omega arith)))
 
-  -- and where fewer than k are bad, those that do not work
+  -- with k or more it does,
+  pub enough : k ≤ countFrom n l x 2 → true ≡ meets n k (outIn l) (markIn l) x
+  enough h = sym (rule-is ∙ or-right (leb 2 (countFrom n l x 3)) (le-leb k (countFrom n l x 2) h))
+
+  -- and with fewer than k those that do not work decide
   pub outs-decide : countFrom n l x 2 < k → leb 2 (countFrom n l x 3) ≡ meets n k (outIn l) (markIn l) x
   outs-decide h = go (either (leb 2 (countFrom n l x 3))) ∙ sym rule-is
     where
-      go : (leb 2 (countFrom n l x 3) ≡ true) ⊎ (leb 2 (countFrom n l x 3) ≡ false) → leb 2 (countFrom n l x 3) ≡ (leb 2 (countFrom n l x 3) || leb k (countFrom n l x 2))
+      go : (leb 2 (countFrom n l x 3) ≡ true) ⊎ (leb 2 (countFrom n l x 3) ≡ false)
+          → leb 2 (countFrom n l x 3) ≡ (leb 2 (countFrom n l x 3) || leb k (countFrom n l x 2))
       go (inl a) = rw a
       go (inr a) = rw (a, lt-leb k (countFrom n l x 2) h)

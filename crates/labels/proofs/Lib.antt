@@ -1,11 +1,6 @@
-pub mod Rounds
-pub mod Largest
-pub mod Bytes
-pub mod Good
-pub mod Filling
-pub mod Marking
 pub mod Counting
 pub mod Deciding
+pub mod Marking
 pub mod Standing
-pub mod Turning
+pub mod Loop
 pub mod Refusal

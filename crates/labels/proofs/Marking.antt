@@ -17,9 +17,9 @@ use Rattle.cube.proofs.Bools.{either, and-true}
 use Rattle.cube.proofs.Count.{count-in, count-out, some-same}
 use Rattle.cube.proofs.Front.{front, front-before, front-after}
 use Rattle.labels.specs.Passes.{outIn, markIn, plainIn, fresh, ordinary, oneWhere}
-use Rattle.labels.specs.Rule.{meets}
-use Rattle.labels.proofs.Filling.{Filled, fill-here, fill-write, fill-keep}
-use Rattle.labels.proofs.Rounds.{meets-same}
+use Rattle.rule.specs.Rule.{meets}
+use Rattle.cube.proofs.Filling.{Filled, fill-here, fill-write, fill-keep}
+use Rattle.rule.proofs.Rounds.{meets-same}
 
 module _ (p : ℕ → Bool) (s : List ℕ) where
   pub one-yes : (x : ℕ) → p x ≡ true → oneWhere p s x ≡ 1

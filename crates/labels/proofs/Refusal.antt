@@ -1,8 +1,8 @@
--- What an accepted table has: 0 is given only where every test passes. The answer and
--- the label table afterwards go by that number.
+-- What a cabinet and a label table that are accepted have: 0 is given only where every test passes. The answer and the label table afterwards go by
+-- the refusal number.
 use mathlib.Core.Path.{_≡_, refl, sym, ap, _∙_}
 use mathlib.Core.Logic.{_⊎_, inl, inr}
-use mathlib.Core.Bool.{Bool, true, false, cond, not}
+use mathlib.Core.Bool.{true, false, cond}
 use mathlib.Core.List.{List}
 use Prim.Native.Nat.{ℕ, _^_, _≤_}
 use native.Mathlib.Omega.{arith}
@@ -10,29 +10,38 @@ use lib.Dec.{eqb}
 use lib.ListN.{length}
 use borrow.Author.Tests.{eqb-true, eqb-false, eq-eqb, ne-eqb, not-false}
 use Rattle.cube.specs.Tables.{isDimension, tableLen, unusedSet}
-use Rattle.cube.proofs.Refusal.{first-le, first-none}
 use Rattle.cube.proofs.Bools.{either}
+use Rattle.cube.proofs.Refusal.{first-le, first-none}
 use Rattle.cube.proofs.Tables.{dimension-is}
-use Rattle.labels.specs.Cabinet.{Cabinet, broken, rule}
-use Rattle.labels.specs.Labelling.{labelRefusal, labelTests, labelled, labelsAfter, labelsOf, roundsOf}
+use Rattle.rule.specs.Cabinet.{Cabinet, labelsOf, roundsOf}
+use Rattle.labels.specs.Labelling.{labelRefusal, labelTests, labelled, labelsAfter}
 use Rattle.labels.specs.declared.Labelled.the-variants.{Rounds, Refused}
-use Rattle.labels.proofs.Rounds.{rounds-le, working-few}
+
+pub record Fitting (K : Cabinet) (m : ℕ) : Type 0 where
+  pub dimension : isDimension (K .n) ≡ true
+  pub small : K .n ≤ 12
+  pub faults : length (K .faults) ≡ tableLen (K .n)
+  pub labels : m ≡ 2 ^ K .n
+  pub unused : unusedSet (K .n) (K .faults) ≡ false
 
 module _ (K : Cabinet) (m : ℕ) where
-  pub accepted : labelRefusal K m ≡ 0 → (isDimension (K .n) ≡ true) × (length (K .faults) ≡ tableLen (K .n)) × (m ≡ 2 ^ K .n) × (unusedSet (K .n) (K .faults) ≡ false)
+  pub fitting : labelRefusal K m ≡ 0 → Fitting K m
   unfolding labelRefusal
-  accepted e =
-      let a = first-none 3 (labelTests K m) refl e in
-      (not-false _ (a .0), eqb-true _ _ (not-false _ (a .1 .0)), eqb-true _ _ (not-false _ (a .1 .1 .0)), a .1 .1 .1 .0)
+  fitting e =
+      let t = first-none 3 (labelTests K m) refl e in
+      let dimension = not-false _ (t .0) in
+      record {
+        dimension = dimension;
+        small = dimension-is (K .n) dimension .1;
+        faults = eqb-true _ _ (not-false _ (t .1 .0));
+        labels = eqb-true _ _ (not-false _ (t .1 .1 .0));
+        unused = t .1 .1 .1 .0;
+      }
 
-  -- no number above 3, and no more rounds than a cube of dimension 12 has nodes: both fit the answer to C
+  -- no number is above 3
   pub refusal-le : labelRefusal K m ≤ 3
   unfolding labelRefusal
   refusal-le = first-le 3 (labelTests K m) refl
-
-  pub rounds-few : isDimension (K .n) ≡ true → roundsOf K ≤ 4096
-  unfolding roundsOf
-  rounds-few e = omega (arith, rounds-le (K .n) (rule K) (broken K), working-few (K .n) (broken K) (dimension-is (K .n) e .1))
 
 -- ---- the answer and the table, from what the code has, and what an answer says
 

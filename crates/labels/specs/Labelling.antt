@@ -1,17 +1,16 @@
--- What labelling answers and leaves, for any lent tables. `faults` is the lent fault table, `before` the label table as it was lent.
+-- What labelling answers and leaves, for any cabinet that it is handed: m is the length of the lent label table, `before` the table itself.
 use mathlib.Core.Bool.{cond, not}
 use mathlib.Core.List.{List, [], _∷_}
 use Prim.Native.Nat.{ℕ, _^_}
 use lib.Dec.{eqb}
 use lib.ListN.{length}
 use Rattle.cube.specs.Refusal.{Test, first, _⇒_}
-use Rattle.cube.specs.Tables.{isDimension, tab, tableLen, unusedSet}
-use Rattle.labels.specs.Cabinet.{Cabinet, broken, outByte, rule}
-use Rattle.labels.specs.Rule.{label, rounds}
+use Rattle.cube.specs.Tables.{isDimension, tableLen, unusedSet}
+use Rattle.rule.specs.Cabinet.{Cabinet, labelsOf, roundsOf}
 use Rattle.labels.specs.declared.Labelled.{Labelled}
 use Rattle.labels.specs.declared.Labelled.the-variants.{Rounds, Refused}
 
--- the refusals in order; m is the length of the label table
+-- the refusals in order
 abbrev pub labelTests : (K : Cabinet) (m : ℕ) → List Test
 labelTests K m =
     not (isDimension (K .n)) ⇒ 1
@@ -20,16 +19,8 @@ labelTests K m =
     ∷ unusedSet (K .n) (K .faults) ⇒ 3
     ∷ []
 
--- the refusal number, 0 for none
 unfoldable pub labelRefusal : (K : Cabinet) (m : ℕ) → ℕ
 labelRefusal K m = first (labelTests K m)
-
--- the rounds and the labels
-unfoldable pub roundsOf : Cabinet → ℕ
-roundsOf K = rounds (K .n) (rule K) (broken K)
-
-unfoldable pub labelsOf : Cabinet → List ℕ
-labelsOf K = tab (2 ^ K .n) (label (K .n) (rule K) (broken K) (outByte K))
 
 -- the answer: the round count, or the refusal
 unfoldable pub labelled : (K : Cabinet) (m : ℕ) → Labelled

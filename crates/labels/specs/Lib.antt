@@ -1,6 +1,2 @@
-pub mod Rule
-pub mod Closed
-pub mod Good
 pub mod Passes
-pub mod Cabinet
 pub mod Labelling

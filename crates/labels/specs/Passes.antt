@@ -3,12 +3,25 @@
 -- those of 3 and more, and those of 2 and more. Each definition below the line is what one pass over the table leaves at x.
 use mathlib.Core.Bool.{Bool, cond, _&&_}
 use mathlib.Core.List.{List}
-use Prim.Native.Nat.{ℕ}
+use mathlib.Core.Path.{_≡_}
+use Prim.Native.Nat.{ℕ, _^_, _≤_, _<_}
 use lib.Dec.{eqb, leb}
+use lib.ListN.{length}
 use Rattle.cube.specs.Count.{count, some}
 use Rattle.cube.specs.Cube.{flip}
 use Rattle.cube.specs.Tables.{labelIn}
-use Rattle.labels.specs.Rule.{meets}
+use Rattle.rule.specs.Cabinet.{Cabinet, out, outByte}
+use Rattle.rule.specs.Rule.{meets}
+
+-- l is a table of an n-cube; x is a node of it: what the functions inside the crate may assume
+pub record Sized (n : ℕ) (l : List ℕ) : Type 0 where
+  pub small : n ≤ 12
+  pub sized : length l ≡ 2 ^ n
+
+pub record NodeOf (n : ℕ) (l : List ℕ) (x : ℕ) : Type 0 where
+  pub small : n ≤ 12
+  pub sized : length l ≡ 2 ^ n
+  pub inside : x < 2 ^ n
 
 -- by their bytes: the nodes that do not work, those that an earlier round marked, and those without a mark
 unfoldable pub outIn : (l : List ℕ) (x : ℕ) → Bool
@@ -35,8 +48,8 @@ ordinary n l x = markIn l x && some n (λ i. plainIn l (flip i x))
 -- ---- the passes
 
 -- before the first round
-unfoldable pub started : (F : ℕ → Bool) (out : ℕ → ℕ) (x : ℕ) → ℕ
-started F out x = cond (F x) (out x) 0
+unfoldable pub started : (K : Cabinet) (x : ℕ) → ℕ
+started K x = cond (out K x) (outByte K x) 0
 
 -- 1 where p holds, elsewhere what stood there. A round marks with p = fresh; with p = ordinary the ordinarily unsafe nodes are told from
 -- the strongly unsafe ones in the end

@@ -4,11 +4,11 @@
 ghost use Prim.Native.Nat.{_/_, _<_, _≤_, _^_};
 ghost use Rattle.cube.specs.Count.{count, some};
 ghost use Rattle.cube.specs.Cube.{flip};
-ghost use Rattle.cube.specs.Tables.{nodeBit, tab, tableLen};
-ghost use Rattle.labels.specs.Cabinet.{cabinet};
-ghost use Rattle.labels.specs.Labelling.{labelRefusal, labelled, labelsAfter, labelsOf, roundsOf};
-ghost use Rattle.labels.specs.Passes.{countFrom, fresh, markIn, oneWhere, ordinary, outIn, plainIn, settled, started};
-ghost use Rattle.labels.specs.Rule.{meets};
+ghost use Rattle.cube.specs.Tables.{tab, tableLen};
+ghost use Rattle.labels.specs.Labelling.{labelRefusal, labelled, labelsAfter};
+ghost use Rattle.labels.specs.Passes.{NodeOf, Sized, countFrom, fresh, markIn, oneWhere, ordinary, outIn, plainIn, settled, started};
+ghost use Rattle.rule.specs.Cabinet.{cabinet, labelsOf, roundsOf, ruleOf};
+ghost use Rattle.rule.specs.Rule.{meets};
 ghost use lib.Dec.{eqb};
 ghost use lib.ListN.{length};
 ghost use mathlib.Core.Bool.{cond};
@@ -29,6 +29,8 @@ const ORDINARY: u8 = 1; // in the end: ordinarily unsafe
 const MARKED: u8 = 2; // marked by an earlier round; in the end: strongly unsafe
 
 const OUT: u8 = 3; // this byte and every larger one: does not work
+
+const RULE: usize = 3; // so many neighbours that do not work or are marked make a node unsafe
 
 pub enum Labelled {
     Rounds(usize),
@@ -63,7 +65,7 @@ fn one(b: bool) -> usize
 // How many neighbours of node x have the byte low or a larger one. Nearly all of labelling's time is spent here, so the bit of the
 // dimension is doubled and not shifted into its place anew.
 fn count_from(n: usize, labels: &[u8], x: usize, low: u8) -> usize
-    requires { ⌜ (n ≤ 12) × ((length (now labels) ≡ 2 ^ n) × (x < 2 ^ n)) ⌝ }
+    requires { ⌜ NodeOf n (now labels) x ⌝ }
     ensures { λ r. ⌜ r ≡ countFrom n (now (labels .entry)) x low ⌝ }
 {
     let mut found: usize = 0;
@@ -77,33 +79,38 @@ fn count_from(n: usize, labels: &[u8], x: usize, low: u8) -> usize
     found
 }
 
-// Whether node x meets the rule with the marks of the earlier rounds. The neighbours that do not work are among the bad ones, so only two
-// bad ones leave it open.
-fn meets_rule(n: usize, labels: &[u8], x: usize) -> bool
-    requires { ⌜ (n ≤ 12) × ((length (now labels) ≡ 2 ^ n) × (x < 2 ^ n)) ⌝ }
-    ensures { λ r. ⌜ r ≡ meets n 3 (outIn (now (labels .entry))) (markIn (now (labels .entry))) x ⌝ }
+// Whether node x meets the rule with the marks of the earlier rounds. The neighbours that do not work are among the bad ones: with fewer than
+// two bad ones it does not meet it, with as many as the rule names it does, and only between these are they counted by themselves.
+fn meets_rule(n: usize, rule: usize, labels: &[u8], x: usize) -> bool
+    requires { ⌜ 2 ≤ rule ⌝ }
+    requires { ⌜ NodeOf n (now labels) x ⌝ }
+    ensures { λ r. ⌜ r ≡ meets n rule (outIn (now (labels .entry))) (markIn (now (labels .entry))) x ⌝ }
 {
     let bad = count_from(n, labels, x, MARKED);
-    if bad != 2 {
-        return 3 <= bad;
+    if bad < 2 {
+        return false;
+    }
+    if rule <= bad {
+        return true;
     }
     2 <= count_from(n, labels, x, OUT)
 }
 
 // Whether this round marks node x.
-fn is_fresh(n: usize, labels: &[u8], x: usize) -> bool
-    requires { ⌜ (n ≤ 12) × ((length (now labels) ≡ 2 ^ n) × (x < 2 ^ n)) ⌝ }
-    ensures { λ r. ⌜ r ≡ fresh n 3 (now (labels .entry)) x ⌝ }
+fn is_fresh(n: usize, rule: usize, labels: &[u8], x: usize) -> bool
+    requires { ⌜ 2 ≤ rule ⌝ }
+    requires { ⌜ NodeOf n (now labels) x ⌝ }
+    ensures { λ r. ⌜ r ≡ fresh n rule (now (labels .entry)) x ⌝ }
 {
     if labels[x] != PLAIN {
         return false;
     }
-    meets_rule(n, labels, x)
+    meets_rule(n, rule, labels, x)
 }
 
 // Whether node x has a neighbour without a mark: in the end, a safe one.
 fn plain_near(n: usize, labels: &[u8], x: usize) -> bool
-    requires { ⌜ (n ≤ 12) × ((length (now labels) ≡ 2 ^ n) × (x < 2 ^ n)) ⌝ }
+    requires { ⌜ NodeOf n (now labels) x ⌝ }
     ensures { λ r. ⌜ r ≡ some n (λ i. plainIn (now (labels .entry)) (flip i x)) ⌝ }
 {
     let mut i = 0;
@@ -118,7 +125,7 @@ fn plain_near(n: usize, labels: &[u8], x: usize) -> bool
 
 // Whether node x is unsafe and has a safe neighbour.
 fn is_ordinary(n: usize, labels: &[u8], x: usize) -> bool
-    requires { ⌜ (n ≤ 12) × ((length (now labels) ≡ 2 ^ n) × (x < 2 ^ n)) ⌝ }
+    requires { ⌜ NodeOf n (now labels) x ⌝ }
     ensures { λ r. ⌜ r ≡ ordinary n (now (labels .entry)) x ⌝ }
 {
     if labels[x] != MARKED {
@@ -127,9 +134,9 @@ fn is_ordinary(n: usize, labels: &[u8], x: usize) -> bool
     plain_near(n, labels, x)
 }
 
-fn start_byte(faults: &[u8], k: usize) -> u8
+fn start_byte(n: usize, faults: &[u8], k: usize) -> u8
     requires { ⌜ k / 8 < length (now faults) ⌝ }
-    ensures { λ r. ⌜ r ≡ started (nodeBit (now (faults .entry))) (λ _. 3) k ⌝ }
+    ensures { λ r. ⌜ r ≡ started (cabinet n (now (faults .entry))) k ⌝ }
 {
     if node_bit(faults, k) { OUT } else { PLAIN }
 }
@@ -137,24 +144,26 @@ fn start_byte(faults: &[u8], k: usize) -> u8
 // The table before the first round.
 fn start(n: usize, faults: &[u8], labels: &mut [u8])
     requires { ⌜ (length (now faults) ≡ tableLen n) × (length (now labels) ≡ 2 ^ n) ⌝ }
-    ensures { λ _. ⌜ now (labels .exit) ≡ tab (2 ^ n) (started (nodeBit (now (faults .entry))) (λ _. 3)) ⌝ }
+    ensures { λ _. ⌜ now (labels .exit) ≡ tab (2 ^ n) (started (cabinet n (now (faults .entry)))) ⌝ }
 {
     let mut k: usize = 0;
     while k < labels.len() {
-        labels[k] = start_byte(faults, k);
+        labels[k] = start_byte(n, faults, k);
         k = k + 1;
     }
 }
 
 // The marks of one round; answers how many.
-fn sweep(n: usize, labels: &mut [u8]) -> usize
-    requires { ⌜ (n ≤ 12) × (length (now labels) ≡ 2 ^ n) ⌝ }
-    ensures { λ r. ⌜ (r ≡ count (2 ^ n) (fresh n 3 (now (labels .entry)))) × (now (labels .exit) ≡ tab (2 ^ n) (oneWhere (fresh n 3 (now (labels .entry))) (now (labels .entry)))) ⌝ }
+fn sweep(n: usize, rule: usize, labels: &mut [u8]) -> usize
+    requires { ⌜ 2 ≤ rule ⌝ }
+    requires { ⌜ Sized n (now labels) ⌝ }
+    ensures marked { λ r. ⌜ r ≡ count (2 ^ n) (fresh n rule (now (labels .entry))) ⌝ }
+    ensures labels { λ r. ⌜ now (labels .exit) ≡ tab (2 ^ n) (oneWhere (fresh n rule (now (labels .entry))) (now (labels .entry))) ⌝ }
 {
     let mut marked: usize = 0;
     let mut x: usize = 0;
     while x < labels.len() {
-        if is_fresh(n, labels, x) {
+        if is_fresh(n, rule, labels, x) {
             labels[x] = NEW;
             marked = marked + 1;
         }
@@ -182,7 +191,7 @@ fn settle(labels: &mut [u8])
 
 // The end of labelling: tells the ordinarily unsafe nodes from the strongly unsafe ones.
 fn finish(n: usize, labels: &mut [u8])
-    requires { ⌜ (n ≤ 12) × (length (now labels) ≡ 2 ^ n) ⌝ }
+    requires { ⌜ Sized n (now labels) ⌝ }
     ensures { λ _. ⌜ now (labels .exit) ≡ tab (2 ^ n) (oneWhere (ordinary n (now (labels .entry))) (now (labels .entry))) ⌝ }
 {
     let mut x: usize = 0;
@@ -195,14 +204,17 @@ fn finish(n: usize, labels: &mut [u8])
 }
 
 // Labels every node of an accepted table and answers the number of rounds that marked something new.
-fn label_nodes(n: usize, faults: &[u8], labels: &mut [u8]) -> usize
-    requires { ⌜ (n ≤ 12) × ((length (now faults) ≡ tableLen n) × (length (now labels) ≡ 2 ^ n)) ⌝ }
-    ensures { λ r. ⌜ (r ≡ roundsOf (cabinet n (now (faults .entry)))) × (now (labels .exit) ≡ labelsOf (cabinet n (now (faults .entry)))) ⌝ }
+fn label_nodes(n: usize, rule: usize, faults: &[u8], labels: &mut [u8]) -> usize
+    requires { ⌜ rule ≡ ruleOf (cabinet n (now faults)) ⌝ }
+    requires { ⌜ length (now faults) ≡ tableLen n ⌝ }
+    requires { ⌜ Sized n (now labels) ⌝ }
+    ensures rounds { λ r. ⌜ r ≡ roundsOf (cabinet n (now (faults .entry))) ⌝ }
+    ensures labels { λ r. ⌜ now (labels .exit) ≡ labelsOf (cabinet n (now (faults .entry))) ⌝ }
 {
     start(n, faults, labels);
     let mut rounds: usize = 0;
     loop {
-        let marked = sweep(n, labels);
+        let marked = sweep(n, rule, labels);
         if marked == 0 {
             break;
         }
@@ -215,12 +227,13 @@ fn label_nodes(n: usize, faults: &[u8], labels: &mut [u8]) -> usize
 
 // Labels every node and answers the number of rounds that marked something new, or refuses and leaves the label table as it was.
 pub fn label(n: usize, faults: &[u8], labels: &mut [u8]) -> Labelled
-    ensures { λ r. ⌜ (r ≡ labelled (cabinet n (now (faults .entry))) (length (now (labels .entry)))) × (now (labels .exit) ≡ labelsAfter (cabinet n (now (faults .entry))) (now (labels .entry))) ⌝ }
+    ensures answer { λ r. ⌜ r ≡ labelled (cabinet n (now (faults .entry))) (length (now (labels .entry))) ⌝ }
+    ensures labels { λ r. ⌜ now (labels .exit) ≡ labelsAfter (cabinet n (now (faults .entry))) (now (labels .entry)) ⌝ }
 {
     let refusal = label_refusal(n, faults, labels.len());
     if refusal != 0 {
         return Labelled::Refused(refusal);
     }
-    let rounds = label_nodes(n, faults, labels);
+    let rounds = label_nodes(n, RULE, faults, labels);
     Labelled::Rounds(rounds)
 }

@@ -12,20 +12,21 @@ use Rattle.cube.specs.Cube.{flip}
 use Rattle.cube.proofs.Front.{getD-tab}
 use Rattle.route.specs.Helpers.{across, chosen, gathered}
 use Rattle.route.specs.Hop.{hop}
+use Rattle.route.specs.declared.Choice.{Choice}
 use Rattle.route.specs.declared.Decision.the-variants.{Deliver}
 use Rattle.route.proofs.Local.{decide-same}
-use Rattle.route.proofs.Scans.{deliver, decided}
+use Rattle.route.proofs.Scanning.{deliver, decided}
 
-module _ (n : ℕ) (lab : ℕ → ℕ) (c : ℕ) (near : List ℕ) (small : n ≤ 12) (e : near ≡ gathered n lab c) where
+module _ (n : ℕ) (lab : ℕ → ℕ) (c : ℕ) (near : List ℕ) (small : n ≤ 12) (copied : near ≡ gathered n lab c) where
   near-at : (i : ℕ) → i < n → getD near i 0 ≡ lab (flip i c)
   unfolding gathered
-  near-at i h = rw e (getD-tab 12 (λ k. cond (ltb k n) (lab (flip k c)) 0) i (omega arith) ∙ rw (lt-ltb i n h))
+  near-at i h = rw copied (getD-tab 12 (λ k. cond (ltb k n) (lab (flip k c)) 0) i (omega arith) ∙ rw (lt-ltb i n h))
 
   -- away from the destination
-  pub goes : (d i : ℕ) → c < 2 ^ n → d < 2 ^ n → c ≢ d → i ≡ chosen n c d (lab c) (λ i. getD near i 0) → across n i ≡ hop n lab c d
+  pub goes : (d : ℕ) (p : Choice) → c < 2 ^ n → d < 2 ^ n → c ≢ d → p ≡ chosen n c d (lab c) (λ i. getD near i 0) → across p ≡ hop n lab c d
   unfolding hop
-  goes d i hc hd far ei =
-      ap (across n) ei ∙ decided n c d (lab c) (λ i. getD near i 0) hc hd far ∙ decide-same n c d (lab c) (λ i. getD near i 0) (λ i. lab (flip i c)) near-at
+  goes d p hc hd far e =
+      ap across e ∙ decided n c d (lab c) (λ i. getD near i 0) hc hd far ∙ decide-same n c d (lab c) (λ i. getD near i 0) (λ i. lab (flip i c)) near-at
 
 -- and at it
 pub arrives : (n : ℕ) (lab : ℕ → ℕ) (c d : ℕ) → c ≡ d → Deliver ≡ hop n lab c d

@@ -1,7 +1,6 @@
-pub mod Filled
 pub mod Refusals
-pub mod Sets
-pub mod Scans
 pub mod Local
+pub mod Sets
+pub mod Scanning
 pub mod Gathered
 pub mod Steps

@@ -1,76 +1,113 @@
--- The refusals of a hop and of a walk, from those that the code finds one after the other: first what needs no label, then what the labels give.
--- Both questions begin with the same three tests, so one law parts them from the rest.
-use mathlib.Core.Path.{_≡_, refl, sym, _∙_}
-use mathlib.Core.List.{List, [], _++_}
+-- The refusals of a hop and of a walk, from those that the code finds one after the other: first what needs no label, then what the labels give, and
+-- 8 where the walk would go on. Each question's table is these parts in a row, so the first part that refuses gives the number of the whole.
+use mathlib.Core.Path.{_≡_, refl, sym, ap, _∙_}
+use mathlib.Core.Logic.{⊎-elim}
+use mathlib.Core.Bool.{Bool, true, false, cond, not}
+use mathlib.Core.List.{List, [], _∷_, _++_}
 use Prim.Native.Nat.{ℕ, _^_}
+use native.Mathlib.Omega.{arith}
 use lib.Dec.{eqb, leb}
-use lib.ListN.{length}
-use borrow.Author.Tests.{ne-eqb, eqb-true, leb-false, not-false}
+use borrow.Author.Tests.{eq-eqb, ne-eqb, eqb-true, leb-false, not-false}
 use Rattle.cube.specs.Cube.{flip}
-use Rattle.cube.specs.Refusal.{Test, first}
-use Rattle.cube.specs.Tables.{isDimension, labelIn}
-use Rattle.cube.proofs.Bools.{or-false}
+use Rattle.cube.specs.Refusal.{Test, first, _⇒_}
+use Rattle.cube.specs.Tables.{isDimension}
+use Rattle.cube.proofs.Bools.{either, or-false}
 use Rattle.cube.proofs.Refusal.{None, first-none, first-passes, first-stops}
 use Rattle.cube.proofs.Tables.{dimension-is}
-use Rattle.route.specs.Helpers.{Placed, placeRefusal}
-use Rattle.route.specs.Hop.{hop, hopRefusal, hopped, nearTests, placeTests}
-use Rattle.route.specs.Walk.{startRefusal, tableTests, walkFrom, walked, refused}
+use Rattle.route.specs.Helpers.{Placed, nearTests, placeRefusal, placeTests, startRefusal, tableTests, walkOrRefusal}
+use Rattle.route.specs.Hop.{hop, hopRefusal, hopTests, hopped}
+use Rattle.route.specs.Walk.{last, refused, rowBytes, stops, walkFrom, walkRefusal, walked}
 use Rattle.route.specs.declared.Decision.{Decision}
 use Rattle.route.specs.declared.Hopped.the-variants.{Decided, Refused}
 
 -- ---- what needs no label, and what comes after it
 
-module _ (n a b len : ℕ) (more : List Test) where
-  pub good-place : None (placeTests n a b len ++ more) → Placed n a b len
+module _ (n a b m : ℕ) (other : Bool) (more : List Test) where
+  good-place : None (placeTests n a b m other ++ more) → Placed n a b m
   good-place t =
-      let r = or-false (leb (2 ^ n) a) (leb (2 ^ n) b) (t .1 .1 .0) in
+      let r = or-false (leb (2 ^ n) a) (leb (2 ^ n) b) (t .1 .1 .1 .0) in
       record {
         small = dimension-is n (not-false (isDimension n) (t .0)) .1;
-        sized = eqb-true len (2 ^ n) (not-false (eqb len (2 ^ n)) (t .1 .0));
+        sized = eqb-true m (2 ^ n) (not-false (eqb m (2 ^ n)) (t .1 .0));
         first = leb-false (2 ^ n) a (r .0);
         second = leb-false (2 ^ n) b (r .1);
       }
 
-  pub misplaced : (k : ℕ) → k ≡ placeRefusal n a b len → (k ≡ 0 → ⊥) → first (placeTests n a b len ++ more) ≡ k
+  pub misplaced : (k : ℕ) → k ≡ placeRefusal n a b m other → (k ≡ 0 → ⊥) → first (placeTests n a b m other ++ more) ≡ k
   unfolding placeRefusal
-  misplaced k e h = first-stops (placeTests n a b len) more (λ z. h (e ∙ z)) ∙ sym e
+  misplaced k e h = first-stops (placeTests n a b m other) more (λ z. h (e ∙ z)) ∙ sym e
 
-  pub passed : placeRefusal n a b len ≡ 0 → first (placeTests n a b len ++ more) ≡ first more
+  pub well-placed : placeRefusal n a b m other ≡ 0 → first (placeTests n a b m other ++ more) ≡ first more
   unfolding placeRefusal
-  passed e = first-passes (placeTests n a b len) more (first-none 5 (placeTests n a b len) refl e)
+  well-placed e = first-passes (placeTests n a b m other) more (first-none 5 (placeTests n a b m other) refl e)
 
-pub placed : (n a b len : ℕ) → placeRefusal n a b len ≡ 0 → Placed n a b len
+pub placed : (n a b m : ℕ) (other : Bool) → placeRefusal n a b m other ≡ 0 → Placed n a b m
 unfolding placeRefusal
-placed n a b len e = good-place n a b len [] (first-none 5 (placeTests n a b len) refl e)
+placed n a b m other e = good-place n a b m other [] (first-none 5 (placeTests n a b m other) refl e)
 
 -- ---- the hop
 
-module _ (n c d : ℕ) (l : List ℕ) where
-  -- where nothing is refused, the place is good
-  pub hop-good : hopRefusal n c d l ≡ 0 → Placed n c d (length l)
-  unfolding hopRefusal
-  hop-good e = let near = nearTests n (labelIn l c) (λ i. labelIn l (flip i c)) in good-place n c d (length l) near (first-none 6 (placeTests n c d (length l) ++ near) refl e)
+module _ (n c d m : ℕ) (lab : ℕ → ℕ) where
+  abbrev near : List Test
+  near = nearTests n (lab c) (λ i. lab (flip i c))
 
-  pub hop-refuses : (k : ℕ) → (k ≡ 0 → ⊥) → hopRefusal n c d l ≡ k → Refused k ≡ hopped n c d l
+  pub hop-misplaced : (k : ℕ) → k ≡ placeRefusal n c d m false → (k ≡ 0 → ⊥) → hopRefusal n c d m lab ≡ k
+  unfolding hopRefusal first
+  hop-misplaced k e h = misplaced n c d m false near k e h
+
+  pub hop-placed : placeRefusal n c d m false ≡ 0 → hopRefusal n c d m lab ≡ first near
+  unfolding hopRefusal first
+  hop-placed e = well-placed n c d m false near e
+
+  -- where nothing is refused, the place is good
+  pub hop-good : hopRefusal n c d m lab ≡ 0 → Placed n c d m
+  unfolding hopRefusal first
+  hop-good e = good-place n c d m false near (first-none 6 (placeTests n c d m false ++ near) refl e)
+
+  pub hop-refuses : (k : ℕ) → (k ≡ 0 → ⊥) → hopRefusal n c d m lab ≡ k → Refused k ≡ hopped n c d m lab
   unfolding hopped
   hop-refuses k h e = rw (e, ne-eqb k 0 h)
 
-  pub hop-decides : (x : Decision) → hopRefusal n c d l ≡ 0 → x ≡ hop n (labelIn l) c d → Decided x ≡ hopped n c d l
+  pub hop-decides : (x : Decision) → hopRefusal n c d m lab ≡ 0 → x ≡ hop n lab c d → Decided x ≡ hopped n c d m lab
   unfolding hopped
   hop-decides x e ex = rw (e, ex)
 
 -- ---- the walk
 
-module _ (n s d : ℕ) (l : List ℕ) where
-  -- where nothing is refused, the place is good
-  pub start-good : startRefusal n s d l ≡ 0 → Placed n s d (length l)
+module _ (n s d m room : ℕ) (lab : ℕ → ℕ) where
+  abbrev wrong : Bool
+  wrong = not (eqb room rowBytes)
+
+  abbrev before : List Test
+  before = placeTests n s d m wrong ++ tableTests n s d lab
+
+  abbrev eight : List Test
+  eight = not (stops (last n lab d s)) ⇒ 8 ∷ []
+
+  pub start-misplaced : (k : ℕ) → k ≡ placeRefusal n s d m wrong → (k ≡ 0 → ⊥) → startRefusal n s d m room lab ≡ k
   unfolding startRefusal
-  start-good e = good-place n s d (length l) (tableTests n s d l) (first-none 7 (placeTests n s d (length l) ++ tableTests n s d l) refl e)
+  start-misplaced = misplaced n s d m wrong (tableTests n s d lab)
 
-  pub walk-refuses : (k : ℕ) → (k ≡ 0 → ⊥) → startRefusal n s d l ≡ k → refused k ≡ walked n s d l
-  unfolding walked
-  walk-refuses k h e = rw (e, ne-eqb k 0 h)
+  pub start-placed : placeRefusal n s d m wrong ≡ 0 → startRefusal n s d m room lab ≡ first (tableTests n s d lab)
+  unfolding startRefusal
+  start-placed = well-placed n s d m wrong (tableTests n s d lab)
 
-  pub walk-starts : startRefusal n s d l ≡ 0 → walkFrom n (labelIn l) d s ≡ walked n s d l
-  unfolding walked
-  walk-starts e = rw e
+  -- where nothing is refused, the place is good
+  pub start-good : startRefusal n s d m room lab ≡ 0 → Placed n s d m
+  unfolding startRefusal
+  start-good e = good-place n s d m wrong (tableTests n s d lab) (first-none 7 before refl e)
+
+  pub walk-refuses : (k : ℕ) → k ≡ startRefusal n s d m room lab → (k ≡ 0 → ⊥) → refused k ≡ walked n s d m room lab
+  unfolding walked walkRefusal startRefusal
+  walk-refuses k e h = let f = first-stops before eight (λ z. h (e ∙ z)) ∙ sym e in rw (f, ne-eqb k 0 h)
+
+  -- so a place that is refused is the whole answer
+  pub walk-misplaced : (k : ℕ) → k ≡ placeRefusal n s d m wrong → (k ≡ 0 → ⊥) → refused k ≡ walked n s d m room lab
+  walk-misplaced k e h = walk-refuses k (sym (start-misplaced k e h)) h
+
+  pub walk-starts : startRefusal n s d m room lab ≡ 0 → walkOrRefusal n lab d s ≡ walked n s d m room lab
+  unfolding walked walkRefusal startRefusal walkOrRefusal first
+  walk-starts e = ⊎-elim (λ (t : stops (last n lab d s) ≡ true). rw (f, t)) (λ (t : stops (last n lab d s) ≡ false). rw (f, t)) (either (stops (last n lab d s)))
+    where
+      f : first (before ++ eight) ≡ first eight
+      f = first-passes before eight (first-none 7 before refl e)

@@ -14,11 +14,11 @@ use lib.Dec.{eqb, leb}
 use lib.Pow.{pow-pos}
 use Rattle.cube.specs.Count.{least}
 use Rattle.cube.specs.Cube.{bit, flip, apart}
-use Rattle.cube.proofs.Bools.{and-both, by-cases}
+use Rattle.cube.proofs.Bools.{and-both, beq-no, beq-yes, by-cases, xor-not}
 use Rattle.cube.proofs.Count.{Least, the-least, least-found, least-is, least-same, find}
 use Rattle.cube.proofs.Cube.{bit-low, bit-suc, bit-none, bit-xor, bit-flip-other, bits-same}
-use Rattle.route.specs.Helpers.{takes}
-use Rattle.route.specs.Hop.{forward, spare, leads, scanOf}
+use Rattle.route.specs.Helpers.{among}
+use Rattle.scans.specs.Scans.{forward, spare, scanOf, suits}
 
 -- ---- the trailing zeros of a number are its lowest set bit
 
@@ -77,26 +77,27 @@ without (suc k) (suc m) h = go (without k (suc m / 2)) (suc m % 2) refl h
     t : ℕ
     t = trailingZeros k (suc m / 2)
 
-    go : (t < k → bitAnd (suc m / 2) (suc m / 2 - 1) ≡ flip t (suc m / 2)) → (d : ℕ) → suc m % 2 ≡ d → under d t < suc k → bitAnd (suc m) (suc m - 1) ≡ flip (under d t) (suc m)
+    go : (t < k → bitAnd (suc m / 2) (suc m / 2 - 1) ≡ flip t (suc m / 2)) → (d : ℕ) → suc m % 2 ≡ d → under d t < suc k
+        → bitAnd (suc m) (suc m - 1) ≡ flip (under d t) (suc m)
     go ih zero e l = even-without (suc m) t (omega arith) e (ih (omega arith))
     go ih (suc zero) e l = odd-without (suc m) e
     go ih (suc (suc d)) e l = absurd (omega arith)
 
 -- i is the lowest dimension of the set x, and the code's rest is the set without it
-pub record First (n x i : ℕ) : Type 0 where
+pub record LowestOf (n x i : ℕ) : Type 0 where
   pub inside : i < n
   pub has : bit i x ≡ true
   pub before : (j : ℕ) → j < i → bit j x ≡ false
   pub rest : bitAnd x (x - 1) ≡ flip i x
 
 -- so it is with the trailing zeros of a set that is not empty
-pub first : (n x : ℕ) → n ≤ 64 → x < 2 ^ n → (x ≡ 0 → ⊥) → First n x (trailingZeros 64 x)
-first n x small h more = go (find n (λ i. bit i x))
+pub lowest-of : (n x : ℕ) → n ≤ 64 → x < 2 ^ n → (x ≡ 0 → ⊥) → LowestOf n x (trailingZeros 64 x)
+lowest-of n x small h more = go (find n (λ i. bit i x))
   where
     low : Least n (λ i. bit i x)
     low = the-least n (λ i. bit i x)
 
-    go : ((i : ℕ) × (i < n) × (bit i x ≡ true)) ⊎ ((i : ℕ) → i < n → bit i x ≡ false) → First n x (trailingZeros 64 x)
+    go : ((i : ℕ) × (i < n) × (bit i x ≡ true)) ⊎ ((i : ℕ) → i < n → bit i x ≡ false) → LowestOf n x (trailingZeros 64 x)
     go (inl r) =
         let l = least-found n (λ i. bit i x) (r .0) (r .1) (r .2) in
         let e = trailing-least 64 x ∙ least-is 64 (λ i. bit i x) (least n (λ i. bit i x)) (omega arith) (low .before) (λ _. low .hit l) in
@@ -110,25 +111,25 @@ least-none n p f = least-is n p n (omega arith) f (λ h. absurd (omega arith))
 
 module _ (n x : ℕ) (near : ℕ → ℕ) (t : ℕ) where
   -- its lowest dimension, where the neighbour's label is low enough
-  pub taken : (i : ℕ) → First n x i → near i ≤ t → i ≡ least n (takes x near t)
-  unfolding takes
-  taken i f h = sym (least-is n (takes x near t) i (omega (arith, f .inside)) (λ j l. rw (f .before j l)) (λ _. and-both (f .has) (le-leb (near i) t h)))
+  pub taken : (i : ℕ) → LowestOf n x i → near i ≤ t → i ≡ least n (among x near t)
+  unfolding among
+  taken i f h = sym (least-is n (among x near t) i (omega (arith, f .inside)) (λ j l. rw (f .before j l)) (λ _. and-both (f .has) (le-leb (near i) t h)))
 
   -- the search in the rest, where it is not
-  pub passed : (i : ℕ) → t < near i → least n (takes x near t) ≡ least n (takes (flip i x) near t)
-  unfolding takes
-  passed i h = least-same n (takes x near t) (takes (flip i x) near t) same
+  pub too-high : (i : ℕ) → t < near i → least n (among x near t) ≡ least n (among (flip i x) near t)
+  unfolding among
+  too-high i h = least-same n (among x near t) (among (flip i x) near t) same
     where
-      same : (j : ℕ) → j < n → takes x near t j ≡ takes (flip i x) near t j
+      same : (j : ℕ) → j < n → among x near t j ≡ among (flip i x) near t j
       same j _ =
           elim (ℕ-discrete j i) [
             | yes e ↦ rw (e, lt-leb (near i) t h) (and-false (bit i x) ∙ sym (and-false (bit i (flip i x))))
             | no k ↦ ap (λ (b : Bool). b && leb (near j) t) (sym (bit-flip-other j i x k))
           ]
 
-  pub none : x ≡ 0 → n ≡ least n (takes x near t)
-  unfolding takes
-  none e = sym (least-none n (takes x near t) (λ j _. rw (e, bit-none j)))
+  pub none : x ≡ 0 → n ≡ least n (among x near t)
+  unfolding among
+  none e = sym (least-none n (among x near t) (λ j _. rw (e, bit-none j)))
 
 -- ---- the sets of the scans: the forward dimensions are the bits of the exclusive or, the spare ones the other bits below n
 
@@ -139,25 +140,18 @@ full (suc n) (suc i) h =
     let e : (2 ^ suc n - 1) / 2 ≡ 2 ^ n - 1 = omega (arith, pow-suc 2 n, pow-pos n) in
     bit-suc i (2 ^ suc n - 1) ∙ ap (bit i) e ∙ full n i (omega arith)
 
-beq-true : (b : Bool) → b ≡ Bool·beq b true
-beq-true true = refl
-beq-true false = refl
-
-beq-false : (b : Bool) → xor b true ≡ Bool·beq b false
-unfolding xor
-beq-false true = refl
-beq-false false = refl
-
 module _ (n c d : ℕ) (near : ℕ → ℕ) (t : ℕ) where
-  pub forward-set : least n (takes (bitXor c d) near t) ≡ least n (leads c d near (scanOf forward t true))
-  unfolding takes leads apart
-  forward-set = least-same n (takes (bitXor c d) near t) (leads c d near (scanOf forward t true)) (λ i _. ap (λ (b : Bool). b && leb (near i) t) (beq-true (bit i (bitXor c d))))
+  pub forward-set : least n (among (bitXor c d) near t) ≡ least n (suits c d near (scanOf forward t true))
+  unfolding among suits apart
+  forward-set =
+      least-same n (among (bitXor c d) near t) (suits c d near (scanOf forward t true))
+      (λ i _. ap (λ (b : Bool). b && leb (near i) t) (sym (beq-yes (bit i (bitXor c d)))))
 
-  pub spare-set : least n (takes (bitXor (bitXor c d) (2 ^ n - 1)) near t) ≡ least n (leads c d near (scanOf spare t true))
-  unfolding takes leads apart
+  pub spare-set : least n (among (bitXor (bitXor c d) (2 ^ n - 1)) near t) ≡ least n (suits c d near (scanOf spare t true))
+  unfolding among suits apart
   spare-set =
-      least-same n (takes (bitXor (bitXor c d) (2 ^ n - 1)) near t) (leads c d near (scanOf spare t true))
+      least-same n (among (bitXor (bitXor c d) (2 ^ n - 1)) near t) (suits c d near (scanOf spare t true))
       (λ i h. ap (λ (b : Bool). b && leb (near i) t) (other i h))
     where
       other : (i : ℕ) → i < n → bit i (bitXor (bitXor c d) (2 ^ n - 1)) ≡ Bool·beq (bit i (bitXor c d)) false
-      other i h = bit-xor i (bitXor c d) (2 ^ n - 1) ∙ rw (full n i h) (beq-false (bit i (bitXor c d)))
+      other i h = bit-xor i (bitXor c d) (2 ^ n - 1) ∙ rw (full n i h) (xor-not (bit i (bitXor c d)) ∙ sym (beq-no (bit i (bitXor c d))))

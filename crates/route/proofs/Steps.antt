@@ -1,7 +1,7 @@
 -- The walk as a loop takes it. What holds at each turn is one record: the message stands where the walk is after its hops, no decision so far ended it,
 -- and the row holds the nodes up to here. The laws: it holds at the start, a hop keeps it, and each way out of the loop gives the walk's answer.
 use mathlib.Core.Path.{_≡_, refl, sym, ap, ap₂, _∙_}
-use mathlib.Core.Bool.{true, false}
+use mathlib.Core.Bool.{true, false, cond}
 use mathlib.Core.List.{List}
 use Prim.Native.Nat.{ℕ, _+_, _^_, _≤_, _<_}
 use native.Mathlib.Numerals.{add-one}
@@ -11,15 +11,16 @@ use borrow.Author.Tests.{le-leb, lt-leb}
 use lib.Dec.{leb}
 use lib.ListN.{replicate, set}
 use Rattle.cube.specs.Cube.{flip}
+use Rattle.cube.specs.Tables.{tab}
 use Rattle.cube.proofs.Count.{least-is}
 use Rattle.cube.proofs.Cube.{flip-lt}
-use Rattle.cube.proofs.Front.{front, front-zero, front-write}
+use Rattle.cube.proofs.Front.{front, front-zero, front-zeros, front-write}
+use Rattle.route.specs.Helpers.{walkOrRefusal}
 use Rattle.route.specs.Hop.{hop}
-use Rattle.route.specs.Walk.{onto, stops, spot, turn, hops, last, row, finished, walkFrom, moved, refused}
+use Rattle.route.specs.Walk.{endingOf, onto, stops, spot, turn, hops, last, row, walkFrom, moved, refused}
 use Rattle.route.specs.declared.Decision.{Decision}
 use Rattle.route.specs.declared.Decision.the-variants.{Hop}
 use Rattle.route.specs.declared.Message.{Message}
-use Rattle.route.proofs.Filled.{front-zeros}
 use Rattle.route.proofs.Local.{hop-dim}
 
 pub record Walking (n : ℕ) (lab : ℕ → ℕ) (d s : ℕ) (places : List ℕ) (m : Message) : Type 0 where
@@ -31,7 +32,7 @@ pub record Walking (n : ℕ) (lab : ℕ → ℕ) (d s : ℕ) (places : List ℕ)
   pub written : places ≡ front (spot n lab d s) (m .hops + 1) (replicate 17 0)
 
 module _ (n : ℕ) (lab : ℕ → ℕ) (d s : ℕ) where
-  spot-zero : s ≡ spot n lab d s 0
+  pub spot-zero : spot n lab d s 0 ≡ s
   unfolding spot
   spot-zero = refl
 
@@ -41,9 +42,9 @@ module _ (n : ℕ) (lab : ℕ → ℕ) (d s : ℕ) where
         few = omega arith;
         inside = h;
         towards = refl;
-        here = sym spot-zero;
+        here = spot-zero;
         going = λ j l. absurd (omega arith);
-        written = front-write (spot n lab d s) 0 (replicate 17 0) (replicate 17 0) s (omega arith) (front-zero (spot n lab d s) (replicate 17 0)) spot-zero;
+        written = front-write (spot n lab d s) 0 (replicate 17 0) (replicate 17 0) s (omega arith) (front-zero (spot n lab d s) (replicate 17 0)) (sym spot-zero);
       }
 
   module _ (places : List ℕ) (m : Message) (w : Walking n lab d s places m) where
@@ -86,16 +87,21 @@ module _ (n : ℕ) (lab : ℕ → ℕ) (d s : ℕ) where
           })
 
       -- n + 4 hops are done, and the decision is another
-      pub too-long : n + 4 ≤ m .hops → refused 8 ≡ walkFrom n lab d s
-      unfolding walkFrom last finished
+      pub too-long : n + 4 ≤ m .hops → refused 8 ≡ walkOrRefusal n lab d s
+      unfolding walkOrRefusal last stops
       too-long l =
           let e8 = hops-is (λ h. absurd (omega arith)) in
           rw (e8, turn-is (Hop i) e)
 
-    pub ends : (x : Decision) → n ≤ 12 → x ≡ hop n lab (m .at) (m .to) → stops x ≡ true → finished places (m .hops) x ≡ walkFrom n lab d s
-    unfolding walkFrom last row
+    -- the decision is no hop
+    pub ends : (x : Decision) → n ≤ 12 → x ≡ hop n lab (m .at) (m .to) → stops x ≡ true
+        → record { row = places; hops = m .hops; ending = endingOf x } ≡ walkOrRefusal n lab d s
+    unfolding walkOrRefusal walkFrom last row
     ends x small e h =
         let z = hops-is (λ _. ap stops (turn-is x e) ∙ h) in
-        rw (z, turn-is x e)
-        (ap (λ (r : List ℕ). finished r (m .hops) x)
-        (w .written ∙ front-zeros (spot n lab d s) (λ k. leb k (m .hops)) (m .hops + 1) 17 (omega arith) (λ k l. le-leb k (m .hops) (omega arith)) (λ k l. lt-leb k (m .hops) (omega arith))))
+        rw (z, turn-is x e, h) (ap (λ (r : List ℕ). record { row = r; hops = m .hops; ending = endingOf x }) (w .written ∙ rest))
+      where
+        rest : front (spot n lab d s) (m .hops + 1) (replicate 17 0) ≡ tab 17 (λ k. cond (leb k (m .hops)) (spot n lab d s k) 0)
+        rest =
+            front-zeros (spot n lab d s) (λ k. leb k (m .hops)) (m .hops + 1) 17 (omega (arith, w .few)) (λ k l. le-leb k (m .hops) (omega arith))
+            (λ k l. lt-leb k (m .hops) (omega arith))

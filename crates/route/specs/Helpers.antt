@@ -1,40 +1,78 @@
 -- What the functions inside the crate answer, and what they may assume. No contract of an entry point cites these: proofs/Refusals.antt
--- shows how the refusals of a hop and of a walk are made of them, proofs/Scans.antt how the decision is.
-use mathlib.Core.Bool.{Bool, cond, _&&_}
-use mathlib.Core.List.{List}
-use Prim.Native.Nat.{ℕ, _^_, _<_, _≤_}
+-- shows how the refusals of a hop and of a walk are made of them, proofs/Scanning.antt how the decision is.
+use mathlib.Core.Bool.{Bool, cond, not, _&&_, _||_}
+use mathlib.Core.List.{List, [], _∷_, _++_}
 use mathlib.Core.Path.{_≡_}
-use lib.Dec.{leb, ltb}
+use Prim.Native.Nat.{ℕ, _^_, _<_, _≤_}
+use lib.Dec.{eqb, leb, ltb}
+use Rattle.cube.specs.Count.{some}
 use Rattle.cube.specs.Cube.{bit, flip}
-use Rattle.cube.specs.Refusal.{first}
-use Rattle.cube.specs.Tables.{tab}
-use Rattle.route.specs.Hop.{lowest, placeTests, scan}
+use Rattle.cube.specs.Refusal.{Test, first, _⇒_}
+use Rattle.cube.specs.Tables.{highest, isDimension, tab}
+use Rattle.scans.specs.Scans.{firstScan, lowest, noScan}
+use Rattle.route.specs.Walk.{last, refused, rowBytes, stops, walkFrom}
+use Rattle.route.specs.declared.Choice.{Choice}
 use Rattle.route.specs.declared.Decision.{Decision}
 use Rattle.route.specs.declared.Decision.the-variants.{Hop, Halted}
+use Rattle.route.specs.declared.Walked.{Walked}
 
--- the refusals that need no label, for nodes a and b and a table of that length: 0 for none
-unfoldable pub placeRefusal : (n a b len : ℕ) → ℕ
-placeRefusal n a b len = first (placeTests n a b len)
+-- ---- the refusals, in two parts
+
+-- those that need no label, of nodes a and b and a label table of m bytes; `other` says that another lent buffer has a wrong length
+abbrev pub placeTests : (n a b m : ℕ) (other : Bool) → List Test
+placeTests n a b m other =
+    not (isDimension n) ⇒ 1
+    ∷ not (eqb m (2 ^ n)) ⇒ 2
+    ∷ other ⇒ 2
+    ∷ (leb (2 ^ n) a || leb (2 ^ n) b) ⇒ 5
+    ∷ []
+
+unfoldable pub placeRefusal : (n a b m : ℕ) (other : Bool) → ℕ
+placeRefusal n a b m other = first (placeTests n a b m other)
 
 -- what holds where none of them is given
-pub record Placed (n a b len : ℕ) : Type 0 where
+pub record Placed (n a b m : ℕ) : Type 0 where
   pub small : n ≤ 12
-  pub sized : len ≡ 2 ^ n
+  pub sized : m ≡ 2 ^ n
   pub first : a < 2 ^ n
   pub second : b < 2 ^ n
+
+-- then those that the labels give: for a hop from c's label and its neighbours', for a walk from all of them
+abbrev pub nearTests : (n own : ℕ) (near : ℕ → ℕ) → List Test
+nearTests n own near =
+    (ltb highest own || some n (λ i. ltb highest (near i))) ⇒ 4
+    ∷ eqb own 3 ⇒ 6
+    ∷ []
+
+abbrev pub tableTests : (n s d : ℕ) (lab : ℕ → ℕ) → List Test
+tableTests n s d lab =
+    some (2 ^ n) (λ x. ltb highest (lab x)) ⇒ 4
+    ∷ eqb (lab s) 3 ⇒ 6
+    ∷ eqb (lab d) 3 ⇒ 7
+    ∷ []
+
+-- all of a walk but for 8
+unfoldable pub startRefusal : (n s d m room : ℕ) (lab : ℕ → ℕ) → ℕ
+startRefusal n s d m room lab = first (placeTests n s d m (not (eqb room rowBytes)) ++ tableTests n s d lab)
+
+-- the walk where these are past: refused with 8 where it would go on
+unfoldable pub walkOrRefusal : (n : ℕ) (lab : ℕ → ℕ) (d s : ℕ) → Walked
+walkOrRefusal n lab d s = cond (stops (last n lab d s)) (walkFrom n lab d s) (refused 8)
+
+-- ---- the decision
 
 -- the labels of c's n neighbours in twelve places, the others 0
 unfoldable pub gathered : (n : ℕ) (lab : ℕ → ℕ) (c : ℕ) → List ℕ
 gathered n lab c = tab 12 (λ i. cond (ltb i n) (lab (flip i c)) 0)
 
--- dimension i is in the set, a number whose bits are the dimensions, and the label of the neighbour across it is at most t
-unfoldable pub takes : (set : ℕ) (near : ℕ → ℕ) (t i : ℕ) → Bool
-takes set near t i = bit i set && leb (near i) t
+-- dimension i is in the set, a number whose bits are the dimensions, and the label of the neighbour across it is at most top
+unfoldable pub among : (set : ℕ) (near : ℕ → ℕ) (top i : ℕ) → Bool
+among set near top i = bit i set && leb (near i) top
 
--- the dimension that the first scan takes, n where none takes one
-unfoldable pub chosen : (n c d own : ℕ) (near : ℕ → ℕ) → ℕ
-chosen n c d own near = lowest n c d own near (scan n c d own near)
+-- what the scans pick
+unfoldable pub chosen : (n c d own : ℕ) (near : ℕ → ℕ) → Choice
+chosen n c d own near = record { scan = firstScan n c d own near; dimension = lowest n c d own near (firstScan n c d own near) }
 
--- the decision away from the destination, where the dimension i was chosen
-unfoldable pub across : (n i : ℕ) → Decision
-across n i = cond (ltb i n) (Hop i) Halted
+-- the decision away from the destination, by what they picked
+unfoldable pub across : Choice → Decision
+across p = cond (ltb (p .scan) noScan) (Hop (p .dimension)) Halted

@@ -1,3 +1,4 @@
 pub mod Hop
 pub mod Walk
+pub mod Local
 pub mod Helpers

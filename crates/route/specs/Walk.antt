@@ -1,15 +1,16 @@
 -- The walk: hops from the source until a decision is no hop. n is the dimension, lab the labels, d the destination, s the source.
 -- It is given place by place: `spot` is the node after k hops and `turn` the decision there; the hop count, the row and the ending are read off them.
-use mathlib.Core.Bool.{Bool, true, false, cond}
-use mathlib.Core.List.{List, [], _∷_, _++_}
+-- The question `walked` is asked of any label table: m is its length, and lab x the byte of node x.
+use mathlib.Core.Bool.{Bool, true, false, cond, not, _||_}
+use mathlib.Core.List.{List, [], _∷_}
 use Prim.Native.Nat.{ℕ, zero, suc, _+_, _^_}
 use lib.Dec.{eqb, leb, ltb}
-use lib.ListN.{length, replicate}
+use lib.ListN.{replicate}
 use Rattle.cube.specs.Count.{least, some}
 use Rattle.cube.specs.Cube.{flip}
 use Rattle.cube.specs.Refusal.{Test, first, _⇒_}
-use Rattle.cube.specs.Tables.{labelIn, tab}
-use Rattle.route.specs.Hop.{hop, placeTests}
+use Rattle.cube.specs.Tables.{highest, isDimension, tab}
+use Rattle.route.specs.Hop.{hop}
 use Rattle.route.specs.declared.Decision.{Decision}
 use Rattle.route.specs.declared.Decision.the-variants.{Deliver, Hop, Halted}
 use Rattle.route.specs.declared.Ending.{Ending}
@@ -42,7 +43,7 @@ turn n lab d s k = hop n lab (spot n lab d s k) d
 unfoldable pub hops : (n : ℕ) (lab : ℕ → ℕ) (d s : ℕ) → ℕ
 hops n lab d s = least (n + 4) (λ k. stops (turn n lab d s k))
 
--- the decision after the last hop: where it is another hop, the walk is refused with 8
+-- the decision after the last hop
 unfoldable pub last : (n : ℕ) (lab : ℕ → ℕ) (d s : ℕ) → Decision
 last n lab d s = turn n lab d s (hops n lab d s)
 
@@ -50,35 +51,43 @@ last n lab d s = turn n lab d s (hops n lab d s)
 unfoldable pub row : (n : ℕ) (lab : ℕ → ℕ) (d s : ℕ) → List ℕ
 row n lab d s = tab 17 (λ k. cond (leb k (hops n lab d s)) (spot n lab d s k) 0)
 
--- ---- the question, for any lent label table
+-- ---- the question
 
--- the refusals of a walk but for 8: after those of the place, those that the labels give
-abbrev pub tableTests : (n s d : ℕ) (labels : List ℕ) → List Test
-tableTests n s d labels =
-    some (2 ^ n) (λ x. ltb 3 (labelIn labels x)) ⇒ 4
-    ∷ eqb (labelIn labels s) 3 ⇒ 6
-    ∷ eqb (labelIn labels d) 3 ⇒ 7
+-- the bytes of a row that is lent: two for each place
+abbrev pub rowBytes : ℕ
+rowBytes = 34
+
+-- the refusals in order, for a caller who lends a row of `room` bytes
+abbrev pub walkTests : (n s d m room : ℕ) (lab : ℕ → ℕ) → List Test
+walkTests n s d m room lab =
+    not (isDimension n) ⇒ 1
+    ∷ not (eqb m (2 ^ n)) ⇒ 2
+    ∷ not (eqb room rowBytes) ⇒ 2
+    ∷ (leb (2 ^ n) s || leb (2 ^ n) d) ⇒ 5
+    ∷ some (2 ^ n) (λ x. ltb highest (lab x)) ⇒ 4
+    ∷ eqb (lab s) 3 ⇒ 6
+    ∷ eqb (lab d) 3 ⇒ 7
+    ∷ not (stops (last n lab d s)) ⇒ 8
     ∷ []
 
--- the refusal number but for 8, 0 for none
-unfoldable pub startRefusal : (n s d : ℕ) (labels : List ℕ) → ℕ
-startRefusal n s d labels = first (placeTests n s d (length labels) ++ tableTests n s d labels)
+unfoldable pub walkRefusal : (n s d m room : ℕ) (lab : ℕ → ℕ) → ℕ
+walkRefusal n s d m room lab = first (walkTests n s d m room lab)
 
--- a refusal has hop count 0 and a row of zeros
+-- how a walk ends, by its last decision
+abbrev pub endingOf : Decision → Ending
+endingOf Deliver = ending.Delivered
+endingOf (Hop i) = ending.Refused 8
+endingOf Halted = ending.Halted
+
+-- the answer: the walk, or the refusal, which has hop count 0 and a row of zeros
+unfoldable pub walkFrom : (n : ℕ) (lab : ℕ → ℕ) (d s : ℕ) → Walked
+walkFrom n lab d s = record { row = row n lab d s; hops = hops n lab d s; ending = endingOf (last n lab d s) }
+
 unfoldable pub refused : ℕ → Walked
 refused k = record { row = replicate 17 0; hops = 0; ending = ending.Refused k }
 
--- how a walk ends, by its last decision
-unfoldable pub finished : (row : List ℕ) (hops : ℕ) → Decision → Walked
-finished row hops Deliver = record { row = row; hops = hops; ending = ending.Delivered }
-finished row hops (Hop i) = refused 8
-finished row hops Halted = record { row = row; hops = hops; ending = ending.Halted }
-
-unfoldable pub walkFrom : (n : ℕ) (lab : ℕ → ℕ) (d s : ℕ) → Walked
-walkFrom n lab d s = finished (row n lab d s) (hops n lab d s) (last n lab d s)
-
-unfoldable pub walked : (n s d : ℕ) (labels : List ℕ) → Walked
-walked n s d labels = cond (eqb (startRefusal n s d labels) 0) (walkFrom n (labelIn labels) d s) (refused (startRefusal n s d labels))
+unfoldable pub walked : (n s d m room : ℕ) (lab : ℕ → ℕ) → Walked
+walked n s d m room lab = cond (eqb (walkRefusal n s d m room lab) 0) (walkFrom n lab d s) (refused (walkRefusal n s d m room lab))
 
 -- the travelling message one hop on, across dimension i
 unfoldable pub moved : Message → ℕ → Message

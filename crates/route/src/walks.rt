@@ -1,21 +1,23 @@
 // The walk: a message is moved by hops until a decision is no hop.
-ghost use Rattle.cube.specs.Count.{some};
+ghost use Rattle.cube.specs.Count.{largest};
 ghost use Rattle.cube.specs.Tables.{labelIn};
-ghost use Rattle.route.specs.Helpers.{Placed};
+ghost use Rattle.route.specs.Helpers.{Placed, startRefusal, walkOrRefusal};
 ghost use Rattle.route.specs.Hop as spec;
-ghost use Rattle.route.specs.Walk.{refused, startRefusal, walkFrom, walked};
-ghost use lib.Dec.{ltb};
+ghost use Rattle.route.specs.Walk.{refused, rowBytes, walked};
 ghost use lib.ListN.{length};
-ghost use mathlib.Core.Bool.{cond};
 ghost use mathlib.Core.Path.{_≡_};
 use super::Decision;
 use super::Ending;
+use super::HIGHEST;
 use super::Message;
 use super::Walked;
 use super::across;
 use super::chosen;
 use super::gather;
+use super::larger;
 use super::place_refusal;
+
+const ROW_BYTES: usize = 34; // a row that is lent: two bytes for each of 17 places
 
 // A refused walk: hop count 0 and a row of zeros.
 fn refused(k: u32) -> Walked
@@ -39,13 +41,13 @@ fn hop_at(n: usize, c: usize, d: usize, labels: &[u8]) -> Decision
     let own = labels[c];
     let mut near = [0u8; 12];
     gather(n, labels, c, &mut near);
-    across(n, chosen(n, c, d, own, &near))
+    across(chosen(n, c, d, own, &near))
 }
 
-// The walk from s: a message is moved until a decision is no hop.
+// The walk from s: a message is moved until a decision is no hop. 8 where it would go on after n + 4 hops.
 fn walk_from(n: usize, s: usize, d: usize, labels: &[u8]) -> Walked
     requires { ⌜ Placed n s d (length (now labels)) ⌝ }
-    ensures { λ r. ⌜ r ≡ walkFrom n (labelIn (now (labels .entry))) d s ⌝ }
+    ensures { λ r. ⌜ r ≡ walkOrRefusal n (labelIn (now (labels .entry))) d s ⌝ }
 {
     let mut row = [0u16; 17];
     row[0] = s as u16;
@@ -81,35 +83,28 @@ fn walk_from(n: usize, s: usize, d: usize, labels: &[u8]) -> Walked
     }
 }
 
-// The larger of two bytes.
-fn larger(a: u8, b: u8) -> u8
-    ensures { λ r. ⌜ r ≡ cond (ltb a b) b a ⌝ }
+// The largest byte: one compare with it tells whether a byte is above the highest label, and the loop has one way out and runs on whole vectors.
+fn largest(labels: &[u8]) -> u8
+    ensures { λ r. ⌜ r ≡ largest (length (now (labels .entry))) (labelIn (now (labels .entry))) ⌝ }
 {
-    if a < b { b } else { a }
-}
-
-// Whether a byte is above 3, the highest label: the largest is looked for, so that the loop has one way out and runs on whole vectors.
-fn above_three(labels: &[u8]) -> bool
-    ensures { λ r. ⌜ r ≡ some (length (now (labels .entry))) (λ x. ltb 3 (labelIn (now (labels .entry)) x)) ⌝ }
-{
-    let mut any = 0u8;
+    let mut high = 0u8;
     let mut x = 0;
     while x < labels.len() {
-        any = larger(any, labels[x]);
+        high = larger(high, labels[x]);
         x += 1;
     }
-    3 < any
+    high
 }
 
-// The refusals of a walk but for 8, 0 for none.
-fn start_refusal(n: usize, s: usize, d: usize, labels: &[u8]) -> u32
-    ensures { λ r. ⌜ r ≡ startRefusal n s d (now (labels .entry)) ⌝ }
+// The refusals of a walk but for 8, 0 for none. room is the length of the row that the caller lends.
+fn start_refusal(n: usize, s: usize, d: usize, labels: &[u8], room: usize) -> u32
+    ensures { λ r. ⌜ r ≡ startRefusal n s d (length (now (labels .entry))) room (labelIn (now (labels .entry))) ⌝ }
 {
-    let k = place_refusal(n, s, d, labels.len());
+    let k = place_refusal(n, s, d, labels.len(), room != ROW_BYTES);
     if k != 0 {
         return k;
     }
-    if above_three(labels) {
+    if HIGHEST < largest(labels) {
         return 4;
     }
     if labels[s] == 3 {
@@ -121,13 +116,20 @@ fn start_refusal(n: usize, s: usize, d: usize, labels: &[u8]) -> u32
     0
 }
 
-// The walk from s to d.
-pub fn walk(n: usize, s: usize, d: usize, labels: &[u8]) -> Walked
-    ensures { λ r. ⌜ r ≡ walked n s d (now (labels .entry)) ⌝ }
+// The walk from s to d, for a caller who lends a row of `room` bytes: another length than 34 is refused.
+pub fn walk_for(n: usize, s: usize, d: usize, labels: &[u8], room: usize) -> Walked
+    ensures { λ r. ⌜ r ≡ walked n s d (length (now (labels .entry))) room (labelIn (now (labels .entry))) ⌝ }
 {
-    let k = start_refusal(n, s, d, labels);
+    let k = start_refusal(n, s, d, labels, room);
     if k != 0 {
         return refused(k);
     }
     walk_from(n, s, d, labels)
+}
+
+// The walk from s to d, for a caller who takes the row from the answer.
+pub fn walk(n: usize, s: usize, d: usize, labels: &[u8]) -> Walked
+    ensures { λ r. ⌜ r ≡ walked n s d (length (now (labels .entry))) rowBytes (labelIn (now (labels .entry))) ⌝ }
+{
+    walk_for(n, s, d, labels, ROW_BYTES)
 }

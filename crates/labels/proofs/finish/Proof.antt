@@ -5,7 +5,7 @@ use Prim.Native.Nat.{_<_, _-_}
 use native.Mathlib.Omega.{arith}
 use lib.ListN.{length}
 use Rattle.labels.specs.Passes.{ordinary, oneWhere}
-use Rattle.labels.proofs.Filling.{Filled, fill-start, fill-end}
+use Rattle.cube.proofs.Filling.{Filled, fill-start, fill-end}
 use Rattle.labels.proofs.Marking.{mark-here, mark-not, ordinary-seen}
 use Rattle.labels.proofs.finish.Statement.{statement}
 use Rattle.labels.proofs.finish.Tie as tie

@@ -1,9 +1,8 @@
 -- `label`: the refusal number decides between the two answers, and 0 gives all that `label_nodes` requires.
-use mathlib.Core.Path.{sym, _∙_}
+use mathlib.Core.Path.{refl, sym, _∙_}
 use borrow.Author.Needs.{needs}
-use Rattle.cube.proofs.Tables.{dimension-is}
-use Rattle.labels.specs.Cabinet.{cabinet}
-use Rattle.labels.proofs.Refusal.{accepted, says-refused, says-rounds}
+use Rattle.rule.specs.Cabinet.{cabinet}
+use Rattle.labels.proofs.Refusal.{fitting, says-refused, says-rounds}
 use Rattle.labels.proofs.label.Statement.{statement}
 use Rattle.labels.proofs.label.Tie as tie
 
@@ -15,8 +14,8 @@ returns c = says-refused (cabinet _ _) _ _ (c .before .label-refusal .ensures) (
 
 label-nodes-requires : tie.Need-label-nodes-requires
 label-nodes-requires c κs =
-    let e = accepted (cabinet _ _) _ (sym (c .before .before .label-refusal .ensures) ∙ c .before .if1 .left) in
-    (dimension-is _ (e .0) .1, (e .1, e .2))
+    let f = fitting (cabinet _ _) _ (sym (c .before .before .label-refusal .ensures) ∙ c .before .if1 .left) in
+    (refl, (f .faults, record { small = f .small; sized = f .labels }))
 
 same-length : tie.Need-same-length
 same-length c = search needs

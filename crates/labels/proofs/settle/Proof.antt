@@ -6,7 +6,7 @@ use borrow.Author.Needs.{needs}
 use lib.ListN.{length}
 use Rattle.cube.specs.Tables.{labelIn}
 use Rattle.labels.specs.Passes.{settled}
-use Rattle.labels.proofs.Filling.{Filled, fill-start, fill-here, fill-write, fill-end}
+use Rattle.cube.proofs.Filling.{Filled, fill-start, fill-here, fill-write, fill-end}
 use Rattle.labels.proofs.settle.Statement.{statement}
 use Rattle.labels.proofs.settle.Tie as tie
 

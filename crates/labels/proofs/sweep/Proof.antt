@@ -7,16 +7,16 @@ use lib.ListN.{length}
 use Rattle.cube.specs.Count.{count}
 use Rattle.cube.proofs.Count.{count-zero, count-bound}
 use Rattle.labels.specs.Passes.{fresh, oneWhere}
-use Rattle.labels.proofs.Filling.{Filled, fill-start, fill-end}
+use Rattle.cube.proofs.Filling.{Filled, fill-start, fill-end}
 use Rattle.labels.proofs.Marking.{sweep-here, sweep-not, fresh-seen}
 use Rattle.labels.proofs.sweep.Statement.{statement}
 use Rattle.labels.proofs.sweep.Tie as tie
 
 abbrev Inv-loop : tie.InvT-loop
-Inv-loop n labels₀ marked₀ x₀ labels marked x = Filled (oneWhere (fresh n 3 labels₀) labels₀) labels₀ labels x × (marked ≡ count x (fresh n 3 labels₀))
+Inv-loop n rule labels₀ marked₀ x₀ labels marked x = Filled (oneWhere (fresh n rule labels₀) labels₀) labels₀ labels x × (marked ≡ count x (fresh n rule labels₀))
 
 abbrev μ-loop : tie.MeasureT-loop
-μ-loop n labels₀ marked₀ x₀ labels marked x = length labels₀ - x
+μ-loop n rule labels₀ marked₀ x₀ labels marked x = length labels₀ - x
 
 loop-holds : tie.Need-loop-holds Inv-loop μ-loop
 loop-holds c = (fill-start _ _, sym (count-zero _))
@@ -30,7 +30,7 @@ slice-write-labels c = omega arith
 add-marked : tie.Need-add-marked Inv-loop μ-loop
 add-marked c =
     let s = c .before .before .before .before in
-    omega (arith, count-bound (s .loop .x) (fresh (s .before .before .args .n) 3 (s .before .before .args .labels .now)))
+    omega (arith, count-bound (s .loop .x) (fresh (s .before .before .args .n) (s .before .before .args .rule) (s .before .before .args .labels .now)))
 
 add-x : tie.Need-add-x Inv-loop μ-loop
 add-x c = omega arith

@@ -1,4 +1,4 @@
--- `chosen`: each scan that finds nothing is passed, and the first that finds a dimension is taken. The places of the code, Else1 to Else4, are where
+-- `chosen`: each scan that finds nothing is passed, and the first that finds a dimension is taken. The places of the code, Else1 to Else5, are where
 -- one scan more has been passed.
 use mathlib.Core.Path.{_≡_, refl, _∙_}
 use Prim.Native.Nat.{ℕ, _-_, _≤_, _<_, _^_}
@@ -7,8 +7,8 @@ use borrow.Author.Needs.{needs}
 use lib.Bits.{bitXor, xor-lt}
 use lib.ListN.{getD}
 use lib.Pow.{ones-lt}
-use Rattle.route.specs.Hop.{lowest}
-use Rattle.route.proofs.Scans.{Past, past-none, pass, take, take-last, forward-scan, spare-scan}
+use Rattle.scans.specs.Scans.{lowest}
+use Rattle.route.proofs.Scanning.{Past, past-none, pass, take, take-none, forward-scan, spare-scan}
 use Rattle.route.proofs.chosen.Statement.{statement}
 use Rattle.route.proofs.chosen.Tie as tie
 
@@ -25,11 +25,19 @@ past4 : (c : tie.Else3) → PastAt (c .before .before .before .before .before .b
 past4 c = pass _ _ _ _ _ 3 _ (past3 (c .before .before)) (c .before .third .ensures) (c .if3 .left)
 
 -- the spare dimensions are the others below n
-find4 : (c : tie.After-lowest3) → let a = c .before .before .before .before .before .before .before .before .args in c .lowest3 .result ≡ lowest (a .n) (a .c) (a .d) (a .own) (λ i. getD (a .near .now) i 0) 4
+find4 : (c : tie.After-lowest3) → let a = c .before .before .before .before .before .before .before .before .args in
+    c .lowest3 .result ≡ lowest (a .n) (a .c) (a .d) (a .own) (λ i. getD (a .near .now) i 0) 4
 find4 c = (rw (c .before .nodes .ensures) at (c .lowest3 .ensures)) ∙ spare-scan _ _ _ _ _ 4 0 refl
 
 past5 : (c : tie.Else4) → PastAt (c .before .before .before .before .before .before .before .before .before) 5
 past5 c = pass _ _ _ _ _ 4 _ (past4 (c .before .before .before)) (find4 (c .before)) (c .if4 .left)
+
+find5 : (c : tie.After-lowest4) → let a = c .before .before .before .before .before .before .before .before .before .before .args in
+    c .lowest4 .result ≡ lowest (a .n) (a .c) (a .d) (a .own) (λ i. getD (a .near .now) i 0) 5
+find5 c = (rw (c .before .before .before .nodes .ensures) at (c .lowest4 .ensures)) ∙ spare-scan _ _ _ _ _ 5 1 refl
+
+past6 : (c : tie.Else5) → PastAt (c .before .before .before .before .before .before .before .before .before .before .before) 6
+past6 c = pass _ _ _ _ _ 5 _ (past5 (c .before .before)) (find5 (c .before)) (c .if5 .left)
 
 -- the sets are sets of the n dimensions
 within : (a : tie.Start) → (a .args .n ≤ 12) × (bitXor (a .args .c) (a .args .d) < 2 ^ a .args .n)
@@ -75,7 +83,10 @@ lowest-requires-4 : tie.Need-lowest-requires-4
 lowest-requires-4 c κs = others (c .before .before)
 
 returns-5 : tie.Need-returns-5
-returns-5 c = take-last _ _ _ _ _ _ (past5 (c .before)) ((rw (c .before .before .before .nodes .ensures) at (c .lowest4 .ensures)) ∙ spare-scan _ _ _ _ _ 5 1 refl)
+returns-5 c = take _ _ _ _ _ 5 _ (omega arith) (past5 (c .before .before)) (find5 (c .before)) (c .if5 .taken)
+
+returns-6 : tie.Need-returns-6
+returns-6 c = take-none _ _ _ _ _ (past6 c)
 
 pub chosen-spec : {M : Type 1} → statement M
 chosen-spec =
@@ -92,4 +103,5 @@ chosen-spec =
     lowest-requires-3
     returns-4
     lowest-requires-4
-    returns-5)
+    returns-5
+    returns-6)

@@ -1,35 +1,46 @@
 -- `hop`: the place first, then the labels of the node and its neighbours, then the decision by the labels gathered, which are the table's.
-use mathlib.Core.Path.{_≡_, refl, sym, _∙_}
+use mathlib.Core.Path.{_≡_, refl, sym, ap, _∙_}
+use mathlib.Core.Bool.{Bool, _||_}
 use native.Mathlib.Omega.{arith}
 use borrow.Author.Needs.{needs}
 use borrow.Author.Tests.{eq-eqb, ne-eqb}
-use lib.ListN.{length}
+use lib.Dec.{ltb}
+use lib.ListN.{getD, length}
+use Rattle.cube.specs.Count.{some}
 use Rattle.cube.specs.Cube.{flip}
 use Rattle.cube.specs.Refusal.{first}
-use Rattle.cube.specs.Tables.{labelIn}
-use Rattle.route.specs.Helpers.{Placed}
-use Rattle.route.specs.Hop.{hopRefusal, nearTests}
+use Rattle.cube.specs.Tables.{highest, labelIn}
+use Rattle.cube.proofs.Count.{largest-above}
+use Rattle.route.specs.Helpers.{Placed, nearTests}
+use Rattle.route.specs.Hop.{hopRefusal}
 use Rattle.route.proofs.Gathered.{arrives, goes}
-use Rattle.route.proofs.Refusals.{placed, misplaced, passed, hop-refuses, hop-decides}
+use Rattle.route.proofs.Refusals.{placed, hop-misplaced, hop-placed, hop-refuses, hop-decides}
 use Rattle.route.proofs.hop.Statement.{statement}
 use Rattle.route.proofs.hop.Tie as tie
 
 -- past the first test the place is good
 good : (c : tie.Else1) → let a = c .before .before .before .args in Placed (a .n) (a .c) (a .d) (length (a .labels .now))
-good c = placed _ _ _ _ (sym (c .before .place-refusal .ensures) ∙ c .if1 .left)
+good c = placed _ _ _ _ _ (sym (c .before .place-refusal .ensures) ∙ c .if1 .left)
 
 -- and the labels decide
-near-is : (c : tie.Else1) → let a = c .before .before .before .args in
-    hopRefusal (a .n) (a .c) (a .d) (a .labels .now) ≡ first (nearTests (a .n) (labelIn (a .labels .now) (a .c)) (λ i. labelIn (a .labels .now) (flip i (a .c))))
-unfolding hopRefusal
-near-is c = passed _ _ _ _ _ (sym (c .before .place-refusal .ensures) ∙ c .if1 .left)
+near-is : (c : tie.Else1) → let a = c .before .before .before .args in let lab = labelIn (a .labels .now) in
+    hopRefusal (a .n) (a .c) (a .d) (length (a .labels .now)) lab ≡ first (nearTests (a .n) (lab (a .c)) (λ i. lab (flip i (a .c))))
+near-is c = hop-placed _ _ _ _ _ (sym (c .before .place-refusal .ensures) ∙ c .if1 .left)
+
+-- some byte near c is too high exactly where the largest is, or c's own
+high-is : (c : tie.After-gather) → let a = c .before .before .before .before .before .before .args in let lab = labelIn (a .labels .now) in
+    (ltb highest (lab (a .c)) || some (a .n) (λ i. ltb highest (lab (flip i (a .c))))) ≡ (ltb highest (lab (a .c)) || ltb highest (c .gather .result))
+high-is c =
+    let a = c .before .before .before .before .before .before .args in
+    let lab = labelIn (a .labels .now) in
+    ap (λ (b : Bool). ltb highest (lab (a .c)) || b)
+    (sym (largest-above highest (a .n) (λ i. lab (flip i (a .c)))) ∙ ap (ltb highest) (sym (c .gather .ensures .1)))
 
 place-refusal-requires : tie.Need-place-refusal-requires
 place-refusal-requires c κs = search needs
 
 returns : tie.Need-returns
-unfolding hopRefusal
-returns c = hop-refuses _ _ _ _ _ (c .if1 .taken) (misplaced _ _ _ _ _ _ (c .before .place-refusal .ensures) (c .if1 .taken))
+returns c = hop-refuses _ _ _ _ _ _ (c .if1 .taken) (hop-misplaced _ _ _ _ _ _ (c .before .place-refusal .ensures) (c .if1 .taken))
 
 shared-slice-read-own : tie.Need-shared-slice-read-own
 shared-slice-read-own c = omega (arith, good (c .before))
@@ -39,24 +50,24 @@ gather-requires c κs = let g = good (c .before .before) in (g .small, g .first,
 
 returns-2 : tie.Need-returns-2
 unfolding labelIn first
-returns-2 c =
-    hop-refuses _ _ _ _ 4 (λ z. omega arith) (near-is (c .before .before .before .before) ∙ rw (rw (c .before .gather .ensures .1) at (c .if2 .taken)))
+returns-2 c = hop-refuses _ _ _ _ _ 4 (λ z. omega arith) (near-is (c .before .before .before .before) ∙ rw (high-is (c .before), c .if2 .taken))
 
 returns-3 : tie.Need-returns-3
 unfolding labelIn first
 returns-3 c =
-    let h = rw (c .before .before .gather .ensures .1) at (c .before .if2 .left) in
-    hop-refuses _ _ _ _ 6 (λ z. omega arith) (near-is (c .before .before .before .before .before) ∙ rw (h, eq-eqb _ _ (c .if3 .taken)))
+    let g = c .before .before in
+    hop-refuses _ _ _ _ _ 6 (λ z. omega arith) (near-is (g .before .before .before) ∙ rw (high-is g, c .before .if2 .left, eq-eqb _ _ (c .if3 .taken)))
 
 -- past the third test nothing is refused
-accepted : (c : tie.Else3) → let a = c .before .before .before .before .before .before .before .before .args in hopRefusal (a .n) (a .c) (a .d) (a .labels .now) ≡ 0
+nothing : (c : tie.Else3) → let a = c .before .before .before .before .before .before .before .before .args in
+    hopRefusal (a .n) (a .c) (a .d) (length (a .labels .now)) (labelIn (a .labels .now)) ≡ 0
 unfolding labelIn first
-accepted c =
-    let h = rw (c .before .before .gather .ensures .1) at (c .before .if2 .left) in
-    near-is (c .before .before .before .before .before) ∙ rw (h, ne-eqb _ _ (c .if3 .left))
+nothing c =
+    let g = c .before .before in
+    near-is (g .before .before .before) ∙ rw (high-is g, c .before .if2 .left, ne-eqb _ _ (c .if3 .left))
 
 returns-4 : tie.Need-returns-4
-returns-4 c = hop-decides _ _ _ _ _ (accepted (c .before)) (arrives _ _ _ _ (c .if4 .taken))
+returns-4 c = hop-decides _ _ _ _ _ _ (nothing (c .before)) (arrives _ _ _ _ (c .if4 .taken))
 
 chosen-requires : tie.Need-chosen-requires
 chosen-requires c κs = let g = good (c .before .before .before .before .before .before .before) in (g .small, g .first, g .second)
@@ -70,9 +81,10 @@ returns-5 c =
     let far = c .before .before .before in
     let g = far .before .before .before in
     let s = g .before .before .before in
+    let lab = labelIn (s .before .before .before .args .labels .now) in
     let p = good s in
-    hop-decides _ _ _ _ _ (accepted (far .before))
-    (c .across .ensures ∙ goes _ (labelIn (s .before .before .before .args .labels .now)) _ _ (p .small) (g .gather .ensures .0) _ _ (p .first) (p .second) (far .if4 .left) (c .before .chosen .ensures))
+    let goes-on = goes _ lab _ _ (p .small) (g .gather .ensures .0) _ _ (p .first) (p .second) (far .if4 .left) (c .before .chosen .ensures) in
+    hop-decides _ _ _ _ _ _ (nothing (far .before)) (c .across .ensures ∙ goes-on)
 
 pub hop-spec : {M : Type 1} → statement M
 hop-spec =

@@ -8,13 +8,13 @@ use lib.Count.{trailingZeros}
 use lib.ListN.{getD}
 use Rattle.cube.specs.Count.{least}
 use Rattle.cube.proofs.Cube.{flip-lt}
-use Rattle.route.specs.Helpers.{takes}
-use Rattle.route.proofs.Sets.{First, first, taken, passed, none}
+use Rattle.route.specs.Helpers.{among}
+use Rattle.route.proofs.Sets.{LowestOf, lowest-of, taken, too-high, none}
 use Rattle.route.proofs.lowest.Statement.{statement}
 use Rattle.route.proofs.lowest.Tie as tie
 
 abbrev Inv-loop : tie.InvT-loop
-Inv-loop n set near top rest₀ rest = (rest < 2 ^ n) × (least n (takes set (λ i. getD near i 0) top) ≡ least n (takes rest (λ i. getD near i 0) top))
+Inv-loop n set near top rest₀ rest = (rest < 2 ^ n) × (least n (among set (λ i. getD near i 0) top) ≡ least n (among rest (λ i. getD near i 0) top))
 
 abbrev μ-loop : tie.MeasureT-loop
 μ-loop n set near top rest₀ rest = rest
@@ -23,8 +23,8 @@ loop-holds : tie.Need-loop-holds Inv-loop μ-loop
 loop-holds c = (c .pre .1, refl)
 
 -- in a turn the set is not empty, and i is its lowest dimension
-here : (c : tie.In-loop Inv-loop μ-loop) → First (c .before .before .args .n) (c .before .loop .rest) (trailingZeros 64 (c .before .loop .rest))
-here c = first (c .before .before .args .n) (c .before .loop .rest) (omega arith) (c .before .loop .inv .0) (c .loop-test .taken)
+here : (c : tie.In-loop Inv-loop μ-loop) → LowestOf (c .before .before .args .n) (c .before .loop .rest) (trailingZeros 64 (c .before .loop .rest))
+here c = lowest-of (c .before .before .args .n) (c .before .loop .rest) (omega arith) (c .before .loop .inv .0) (c .loop-test .taken)
 
 cast-i : tie.Need-cast-i Inv-loop μ-loop
 cast-i c = omega (arith, here c)
@@ -45,7 +45,7 @@ loop-again : tie.Need-loop-again Inv-loop μ-loop
 loop-again c =
     let f = here (c .before .before) in
     let l = c .before .before .before .loop in
-    rw (f .rest) (flip-lt _ _ _ (f .inside) (l .inv .0), l .inv .1 ∙ passed _ _ _ _ _ (c .if1 .left))
+    rw (f .rest) (flip-lt _ _ _ (f .inside) (l .inv .0), l .inv .1 ∙ too-high _ _ _ _ _ (c .if1 .left))
 
 returns-2 : tie.Need-returns-2 Inv-loop μ-loop
 returns-2 c = none _ _ _ _ (c .loop-test .left) ∙ sym (c .before .loop .inv .1)

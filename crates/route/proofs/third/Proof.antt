@@ -2,7 +2,7 @@
 use mathlib.Core.Path.{_∙_}
 use borrow.Author.Needs.{needs}
 use lib.Bits.{xor-lt}
-use Rattle.route.proofs.Scans.{third-open, third-shut}
+use Rattle.route.proofs.Scanning.{third-open, third-shut}
 use Rattle.route.proofs.third.Statement.{statement}
 use Rattle.route.proofs.third.Tie as tie
 

@@ -28,7 +28,8 @@ returns-2 c =
     let far = g .before .before .before in
     let s = far .before .before in
     c .across .ensures
-    ∙ goes _ (labelIn (s .args .labels .now)) _ _ (s .pre .small) (g .gather .ensures .0) _ _ (s .pre .first) (s .pre .second) (far .if1 .left) (c .before .chosen .ensures)
+    ∙ goes _ (labelIn (s .args .labels .now)) _ _ (s .pre .small) (g .gather .ensures .0) _ _ (s .pre .first) (s .pre .second) (far .if1 .left)
+    (c .before .chosen .ensures)
 
 pub hop-at-spec : {M : Type 1} → statement M
 hop-at-spec = tie.close (tie.spec returns shared-slice-read-own gather-requires chosen-requires across-requires returns-2)

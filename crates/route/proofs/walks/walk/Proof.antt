@@ -1,24 +1,13 @@
--- `walk`: what refuses the start, or the walk from there.
-use mathlib.Core.Path.{sym, _∙_}
+-- `walk` asks for a row of the right length.
 use borrow.Author.Needs.{needs}
-use Rattle.route.proofs.Refusals.{start-good, walk-refuses, walk-starts}
 use Rattle.route.proofs.walks.walk.Statement.{statement}
 use Rattle.route.proofs.walks.walk.Tie as tie
 
-start-refusal-requires : tie.Need-start-refusal-requires
-start-refusal-requires c κs = search needs
-
-refused-requires : tie.Need-refused-requires
-refused-requires c κs = search needs
+walk-for-requires : tie.Need-walk-for-requires
+walk-for-requires c κs = search needs
 
 returns : tie.Need-returns
-returns c = c .refused .ensures ∙ walk-refuses _ _ _ _ _ (c .before .if1 .taken) (sym (c .before .before .start-refusal .ensures))
-
-walk-from-requires : tie.Need-walk-from-requires
-walk-from-requires c κs = start-good _ _ _ _ (sym (c .before .start-refusal .ensures) ∙ c .if1 .left)
-
-returns-2 : tie.Need-returns-2
-returns-2 c = c .walk-from .ensures ∙ walk-starts _ _ _ _ (sym (c .before .before .start-refusal .ensures) ∙ c .before .if1 .left)
+returns c = c .walk-for .ensures
 
 pub walk-spec : {M : Type 1} → statement M
-walk-spec = tie.close (tie.spec start-refusal-requires refused-requires returns walk-from-requires returns-2)
+walk-spec = tie.close (tie.spec walk-for-requires returns)

@@ -7,7 +7,7 @@ use lib.ListN.{set}
 use lib.Pow.{pow-mono}
 use Rattle.cube.specs.Tables.{labelIn}
 use Rattle.route.specs.Hop.{hop}
-use Rattle.route.specs.Walk.{stops, finished}
+use Rattle.route.specs.Walk.{stops}
 use Rattle.route.specs.declared.Decision.the-variants.{Deliver, Hop, Halted}
 use Rattle.route.proofs.Steps.{Walking, start, dimension, counted, on, too-long, ends}
 use Rattle.route.proofs.walks.walk_from.Statement.{statement}
@@ -50,7 +50,7 @@ enum-told : tie.Need-enum-told Inv-loop μ-loop
 enum-told c = search needs
 
 returns : tie.Need-returns Inv-loop μ-loop
-unfolding finished stops
+unfolding stops
 returns c =
     let l = c .before .before .before in
     ends _ _ _ _ _ _ (l .loop .inv) Deliver (l .before .before .pre .small) (sym (c .enum-told .given .1) ∙ c .before .before .hop-at .ensures) refl
@@ -59,7 +59,7 @@ enum-told-2 : tie.Need-enum-told-2 Inv-loop μ-loop
 enum-told-2 c = search needs
 
 returns-2 : tie.Need-returns-2 Inv-loop μ-loop
-unfolding finished stops
+unfolding stops
 returns-2 c =
     let l = c .before .before .before in
     ends _ _ _ _ _ _ (l .loop .inv) Halted (l .before .before .pre .small) (sym (c .enum-told2 .given .1) ∙ c .before .before .hop-at .ensures) refl

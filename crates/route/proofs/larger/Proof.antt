@@ -1,7 +1,7 @@
 -- `larger` compares.
 use borrow.Author.Tests.{lt-ltb, le-ltb}
-use Rattle.route.proofs.walks.larger.Statement.{statement}
-use Rattle.route.proofs.walks.larger.Tie as tie
+use Rattle.route.proofs.larger.Statement.{statement}
+use Rattle.route.proofs.larger.Tie as tie
 
 returns : tie.Need-returns
 returns c = rw (lt-ltb _ _ (c .if1 .taken))

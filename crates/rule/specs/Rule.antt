@@ -1,5 +1,5 @@
 -- The labels of document 01, over n, the dimension; k, the number of the rule (3 there); F, the nodes that do not work (there: the faulty
--- ones); and out, the byte of a node that does not work (there: 3). A mark means unsafe.
+-- ones); and byte, the byte of a node that does not work (there: 3). A mark means unsafe.
 use mathlib.Core.Bool.{Bool, false, cond, not, _&&_, _||_}
 use Prim.Native.Nat.{ℕ, zero, suc, _^_}
 use lib.Dec.{eqb, leb}
@@ -27,7 +27,8 @@ quiet n k F r = eqb (count (2 ^ n) (newly n k F (marked n k F r))) 0
 unfoldable pub working : (n : ℕ) (F : ℕ → Bool) → ℕ
 working n F = count (2 ^ n) (λ x. not (F x))
 
--- how many rounds marked something new: the first quiet one is looked for among as many as there are working nodes, which is enough
+-- how many rounds marked something new: the first quiet round is looked for among as many as there are working nodes. The search always ends in
+-- time: if none of these is quiet, every working node has its mark and the next one is (`rested`, proofs/Rounds.antt)
 unfoldable pub rounds : (n k : ℕ) (F : ℕ → Bool) → ℕ
 rounds n k F = least (working n F) (quiet n k F)
 
@@ -36,8 +37,8 @@ unfoldable pub safe : (n k : ℕ) (F : ℕ → Bool) (x : ℕ) → Bool
 safe n k F x = not (F x || marked n k F (rounds n k F) x)
 
 -- the label byte of x, where S are the safe nodes: 0 safe; unsafe: 1 with a safe neighbour, 2 without
-unfoldable pub labelOf : (n : ℕ) (F : ℕ → Bool) (out : ℕ → ℕ) (S : ℕ → Bool) (x : ℕ) → ℕ
-labelOf n F out S x = cond (F x) (out x) (cond (S x) 0 (cond (some n (λ i. S (flip i x))) 1 2))
+unfoldable pub labelOf : (n : ℕ) (F : ℕ → Bool) (byte : ℕ → ℕ) (S : ℕ → Bool) (x : ℕ) → ℕ
+labelOf n F byte S x = cond (F x) (byte x) (cond (S x) 0 (cond (some n (λ i. S (flip i x))) 1 2))
 
-unfoldable pub label : (n k : ℕ) (F : ℕ → Bool) (out : ℕ → ℕ) (x : ℕ) → ℕ
-label n k F out = labelOf n F out (safe n k F)
+unfoldable pub label : (n k : ℕ) (F : ℕ → Bool) (byte : ℕ → ℕ) (x : ℕ) → ℕ
+label n k F byte = labelOf n F byte (safe n k F)

@@ -6,16 +6,14 @@ use mathlib.Core.Bool.{Bool, true, false, not, _&&_, _||_}
 use Prim.Native.Nat.{ℕ, zero, suc, _+_, _^_, _≤_, _<_}
 use native.Mathlib.Omega.{arith}
 use lib.Dec.{ltb}
-use lib.Pow.{pow-mono}
 use borrow.Author.Tests.{ltb-true, ltb-false, eqb-true, eqb-false, eq-eqb, not-true}
 use Rattle.cube.specs.Count.{count}
 use Rattle.cube.specs.Cube.{flip}
-use Rattle.cube.proofs.Bools.{either, clash, and-true, or-true}
+use Rattle.cube.proofs.Bools.{either, clash, is-false, and-true, or-true}
 use Rattle.cube.proofs.Count.{count-bound, count-le, count-same, count-sum, count-none, none-counted, find, the-least, least-is}
-use Rattle.labels.specs.Rule.{meets, newly, marked, quiet, working, rounds}
-
-pub is-false : {b : Bool} → (b ≡ true → ⊥) → b ≡ false
-is-false {b} f = ⊎-elim (λ t. absurd (f t)) (λ t. t) (either b)
+use Rattle.cube.proofs.Tables.{nodes-few}
+use Rattle.rule.specs.Rounds.{Rested}
+use Rattle.rule.specs.Rule.{meets, newly, marked, quiet, working, rounds}
 
 -- the rule looks at the neighbours alone
 pub meets-same : (n k : ℕ) (F F′ m m′ : ℕ → Bool) (x : ℕ) → ((i : ℕ) → i < n → F (flip i x) ≡ F′ (flip i x))
@@ -27,10 +25,10 @@ meets-same n k F F′ m m′ x f g =
       count-same n (λ i. F (flip i x) || m (flip i x)) (λ i. F′ (flip i x) || m′ (flip i x)) (λ i l. ap₂ _||_ (f i l) (g i l)),
     )
 
--- a cube of dimension 12 or less has at most 4096 nodes
+-- in a cube of at most 12 dimensions at most 4096 nodes work
 pub working-few : (n : ℕ) (F : ℕ → Bool) → n ≤ 12 → working n F ≤ 4096
 unfolding working
-working-few n F h = omega (arith, count-bound (2 ^ n) (λ x. not (F x)), pow-mono h)
+working-few n F h = omega (arith, count-bound (2 ^ n) (λ x. not (F x)), nodes-few n h)
 
 module _ (n k : ℕ) (F : ℕ → Bool) where
   pub marked-zero : (x : ℕ) → marked n k F 0 x ≡ false
@@ -74,7 +72,9 @@ module _ (n k : ℕ) (F : ℕ → Bool) where
   one-each : (r : ℕ) → ((j : ℕ) → j < r → quiet n k F j ≡ false) → r ≤ count (2 ^ n) (marked n k F r)
   unfolding quiet
   one-each zero f = omega arith
-  one-each (suc r) f = omega (arith, one-each r (λ j h. f j (omega arith)), grows r, eqb-false (count (2 ^ n) (newly n k F (marked n k F r))) 0 (f r (omega arith)))
+  one-each (suc r) f =
+      let new = eqb-false (count (2 ^ n) (newly n k F (marked n k F r))) 0 (f r (omega arith)) in
+      omega (arith, one-each r (λ j h. f j (omega arith)), grows r, new)
 
   -- no more rounds mark something new than there are working nodes
   pub loud-le : (r : ℕ) → ((j : ℕ) → j < r → quiet n k F j ≡ false) → r ≤ working n F
@@ -102,11 +102,12 @@ module _ (n k : ℕ) (F : ℕ → Bool) where
       go : (ltb (rounds n k F) (working n F) ≡ true) ⊎ (ltb (rounds n k F) (working n F) ≡ false) → quiet n k F (rounds n k F) ≡ true
       go (inl a) = rounds-hit (ltb-true (rounds n k F) (working n F) a)
       go (inr a) =
+          let all = ltb-false (rounds n k F) (working n F) a in
           eq-eqb (count (2 ^ n) (newly n k F (marked n k F (rounds n k F)))) 0
-          (omega (arith, ltb-false (rounds n k F) (working n F) a, one-each (rounds n k F) rounds-first, bounded (suc (rounds n k F)), grows (rounds n k F)))
+          (omega (arith, one-each (rounds n k F) rounds-first, bounded (suc (rounds n k F)), grows (rounds n k F)))
 
   -- each counted round marks some node that had no mark,
-  pub round-marks : (j : ℕ) → j < rounds n k F → (x : ℕ) × (x < 2 ^ n) × (newly n k F (marked n k F j) x ≡ true)
+  round-marks : (j : ℕ) → j < rounds n k F → (x : ℕ) × (x < 2 ^ n) × (newly n k F (marked n k F j) x ≡ true)
   unfolding quiet
   round-marks j h = go (find (2 ^ n) (newly n k F (marked n k F j)))
     where
@@ -115,7 +116,10 @@ module _ (n k : ℕ) (F : ℕ → Bool) where
       go (inl a) = a
       go (inr a) = absurd (eqb-false (count (2 ^ n) (newly n k F (marked n k F j))) 0 (rounds-first j h) (count-none (2 ^ n) (newly n k F (marked n k F j)) a))
 
-  -- and the next marks none
+  pub rested : Rested n k F
+  rested = record { loud = round-marks; still = rest; ceiling = rounds-le }
+
+  -- the round after the last counted one marks no node
   pub none-new : (x : ℕ) → x < 2 ^ n → newly n k F (marked n k F (rounds n k F)) x ≡ false
   unfolding quiet
   none-new =

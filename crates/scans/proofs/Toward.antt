@@ -12,12 +12,16 @@ use borrow.Author.Tests.{leb-false, eqb-true, eqb-false}
 use Rattle.cube.specs.Cube.{flip, apart, dist}
 use Rattle.cube.proofs.Bools.{clash}
 use Rattle.cube.proofs.Count.{pigeon, find}
-use Rattle.labels.specs.Good.{Good}
+use Rattle.rule.specs.Good.{Good}
 use Rattle.cube.proofs.Cube.{flip-lt, flip-flip, apart-same, apart-other, dist-count, dist-zero, dist-fall, neighbour}
 
 -- a dimension that leads from x towards y
 keep : (i j x y : ℕ) → apart i x y ≡ true → apart j (flip i x) y ≡ true → apart j x y ≡ true
-keep i j x y a b = elim (ℕ-discrete j i) [ yes e ↦ absurd (clash (rw e at b) (apart-same i x y ∙ ap not a)) | no d ↦ sym (apart-other j i x y d) ∙ b ]
+keep i j x y a b =
+    elim (ℕ-discrete j i) [
+      | yes e ↦ absurd (clash (rw e at b) (apart-same i x y ∙ ap not a))
+      | no d ↦ sym (apart-other j i x y d) ∙ b
+    ]
 
 module _ (n : ℕ) (lab : ℕ → ℕ) (G : Good n lab) where
   -- no neighbour of a safe node is strongly unsafe

@@ -9,12 +9,12 @@ use lib.Dec.{leb}
 use borrow.Author.Tests.{leb-true, leb-false, not-true}
 use Rattle.cube.specs.Count.{count}
 use Rattle.cube.specs.Cube.{flip}
-use Rattle.cube.proofs.Bools.{clash, or-true, or-false}
+use Rattle.cube.proofs.Bools.{clash, is-false, or-true, or-false}
 use Rattle.cube.proofs.Count.{count-le}
 use Rattle.cube.proofs.Cube.{flip-lt}
-use Rattle.labels.specs.Closed.{Closed}
-use Rattle.labels.specs.Rule.{meets, newly, marked, rounds, safe}
-use Rattle.labels.proofs.Rounds.{is-false, marked-zero, marked-suc, newly-says, newly-is, none-new}
+use Rattle.rule.specs.Closed.{Closed, Largest}
+use Rattle.rule.specs.Rule.{meets, newly, marked, rounds, safe}
+use Rattle.rule.proofs.Rounds.{marked-zero, marked-suc, newly-says, newly-is, none-new}
 
 module _ (n k : ℕ) (F : ℕ → Bool) where
   pub safe-says : (x : ℕ) → safe n k F x ≡ true → (F x ≡ false) × (marked n k F (rounds n k F) x ≡ false)
@@ -70,6 +70,9 @@ module _ (n k : ℕ) (F : ℕ → Bool) where
     outside zero x h e = marked-zero n k F x
     outside (suc r) x h e = marked-suc n k F r x ∙ rw (outside r x h e) (still (marked n k F r) (λ y. outside r y) x h e)
 
-    pub largest : (x : ℕ) → x < 2 ^ n → H x ≡ true → safe n k F x ≡ true
+    inside : (x : ℕ) → x < 2 ^ n → H x ≡ true → safe n k F x ≡ true
     unfolding safe
-    largest x h e = rw (C .works x h e, outside (rounds n k F) x h e)
+    inside x h e = rw (C .works x h e, outside (rounds n k F) x h e)
+
+  pub safe-largest : Largest n k F
+  safe-largest = record { closed = safe-closed; largest = inside }

@@ -1,4 +1,5 @@
--- The four facts of a label table on which all routing rests: 0 safe, 1 ordinarily unsafe, 2 strongly unsafe, 3 and more not working.
+-- The four facts of a label table on which all routing rests: 0 safe, 1 ordinarily unsafe, 2 strongly unsafe, 3 and more not working. The labels
+-- have them for every rule number up to 3: `labels-good`, proofs/Good.antt.
 use mathlib.Core.Path.{_≡_}
 use Prim.Native.Nat.{ℕ, _^_, _≤_, _<_}
 use lib.Dec.{leb}

@@ -1,0 +1,46 @@
+-- The label bytes of a cabinet: there is one for each node, the byte of a node that does not work is 3 or more, no byte is above the highest label, and
+-- the table is good.
+use mathlib.Core.Bool.{Bool, true}
+use mathlib.Core.Path.{_≡_, sym}
+use Prim.Native.Nat.{ℕ, _^_, _≤_, _<_}
+use native.Mathlib.Omega.{arith}
+use lib.ListN.{length}
+use Rattle.cube.specs.Tables.{highest, labelIn}
+use Rattle.cube.proofs.Front.{length-tab, getD-tab}
+use Rattle.rule.specs.Cabinet.{Cabinet, labelsOf, out, outByte, roundsOf, ruleOf}
+use Rattle.rule.specs.Good.{Good}
+use Rattle.rule.specs.Rule.{label, safe}
+use Rattle.rule.proofs.Bytes.{bytes-le}
+use Rattle.rule.proofs.Good.{good-same, labels-good}
+use Rattle.rule.proofs.Rounds.{rounds-le, working-few}
+
+module _ (K : Cabinet) where
+  abbrev labelled : ℕ → ℕ
+  labelled = label (K .n) (ruleOf K) (out K) (outByte K)
+
+  -- what labelling and routing ask of the byte of a node that does not work
+  pub out-high : (x : ℕ) → out K x ≡ true → 3 ≤ outByte K x
+  out-high x e = omega arith
+
+  pub labels-length : length (labelsOf K) ≡ 2 ^ K .n
+  unfolding labelsOf
+  labels-length = length-tab (2 ^ K .n) labelled
+
+  pub label-in : (x : ℕ) → x < 2 ^ K .n → labelIn (labelsOf K) x ≡ labelled x
+  unfolding labelIn labelsOf
+  label-in x h = getD-tab (2 ^ K .n) labelled x h
+
+  pub label-bytes : (x : ℕ) → x < 2 ^ K .n → labelIn (labelsOf K) x ≤ highest
+  unfolding label
+  label-bytes x h =
+      omega (arith, label-in x h, bytes-le (K .n) (out K) (outByte K) (safe (K .n) (ruleOf K) (out K)) highest (omega arith) x (omega arith))
+
+  pub table-good : Good (K .n) (labelIn (labelsOf K))
+  table-good =
+      good-same (K .n) labelled (labelIn (labelsOf K)) (λ x h. sym (label-in x h))
+      (labels-good (K .n) (ruleOf K) (out K) (outByte K) out-high (omega arith))
+
+  -- at most as many rounds as a cube of 12 dimensions has nodes
+  pub rounds-few : K .n ≤ 12 → roundsOf K ≤ 4096
+  unfolding roundsOf
+  rounds-few h = omega (arith, rounds-le (K .n) (ruleOf K) (out K), working-few (K .n) (out K) h)

@@ -1,0 +1,5 @@
+pub mod Rule
+pub mod Rounds
+pub mod Closed
+pub mod Good
+pub mod Cabinet

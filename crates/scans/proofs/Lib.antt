@@ -1,0 +1,4 @@
+pub mod Picking
+pub mod Local
+pub mod Toward
+pub mod Progress

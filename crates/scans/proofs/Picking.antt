@@ -1,0 +1,76 @@
+-- What the scans pick: the two searches of the definition, over the scans and over the dimensions, give the first scan and its lowest dimension; and
+-- what a scan asks of a dimension is read off its row.
+use mathlib.Core.Path.{_≡_, refl}
+use mathlib.Core.Logic.{_⊎_, ⊎-elim, ⊎-map}
+use mathlib.Core.Bool.{true, false, _&&_, _||_, Bool·beq}
+use Prim.Native.Nat.{ℕ, zero, suc, _≤_, _<_}
+use native.Mathlib.Omega.{arith}
+use lib.Dec.{leb, ltb, eqb}
+use borrow.Author.Tests.{ltb-true, le-ltb, ltb-false, leb-true, leb-false, eqb-true, eq-eqb, le-leb}
+use Rattle.cube.specs.Cube.{flip, apart, dist}
+use Rattle.cube.proofs.Bools.{beq-same, beq-true, clash, and-true, or-true, or-left, or-right}
+use Rattle.cube.proofs.Count.{Least, the-least}
+use Rattle.scans.specs.Picks.{Misses, NonePicks, Picks, firstScanAt, lowestAt, takesAt}
+use Rattle.scans.specs.Scans.{Scan, firstScan, lowest, noScan, scanAt, suits, takes}
+
+module _ (n : ℕ) (lab : ℕ → ℕ) (c d : ℕ) where
+  abbrev first : ℕ
+  first = firstScanAt n lab c d
+
+  the-lowest : (s : ℕ) → Least n (takesAt lab c d s)
+  the-lowest s = the-least n (takesAt lab c d s)
+
+  the-first : Least noScan (λ s. ltb (lowestAt n lab c d s) n)
+  the-first = the-least noScan (λ s. ltb (lowestAt n lab c d s) n)
+
+  missed : (t : ℕ) → t < first → Misses n lab c d t
+  unfolding firstScan lowest
+  missed t h j l = the-lowest t .before j (omega (arith, ltb-false (lowestAt n lab c d t) n (the-first .before t h)))
+
+  pub first-picks : first < noScan → Picks n lab c d first (lowestAt n lab c d first)
+  unfolding firstScan lowest
+  first-picks h =
+      let i = ltb-true (lowestAt n lab c d first) n (the-first .hit h) in
+      record { scan = h; dimension = i; takes = the-lowest first .hit i; lowest = the-lowest first .before; earlier = missed }
+
+  pub none-picks : noScan ≤ first → NonePicks n lab c d
+  none-picks h t l = missed t (omega arith)
+
+  -- ---- what a dimension that scan s takes has, and what one that it does not take lacks
+
+  abbrev pub row : ℕ → Scan
+  row = scanAt (dist c d) (lab c)
+
+  pub hit : (s i : ℕ) → takesAt lab c d s i ≡ true → (row s .allowed ≡ true) × (apart i c d ≡ row s .side) × (lab (flip i c) ≤ row s .top)
+  unfolding takes suits
+  hit s i e =
+      let a = and-true (row s .allowed) (Bool·beq (apart i c d) (row s .side) && leb (lab (flip i c)) (row s .top)) e in
+      let b = and-true (Bool·beq (apart i c d) (row s .side)) (leb (lab (flip i c)) (row s .top)) (a .1) in
+      (a .0, beq-true (apart i c d) (row s .side) (b .0), leb-true (lab (flip i c)) (row s .top) (b .1))
+
+  pub miss : (s i : ℕ) → takesAt lab c d s i ≡ false → row s .allowed ≡ true → apart i c d ≡ row s .side → row s .top < lab (flip i c)
+  unfolding takes suits
+  miss s i e o a = leb-false (lab (flip i c)) (row s .top) (rw (o, a, beq-same (row s .side)) at e)
+
+  -- there is no scan 0; the third is allowed at a strongly unsafe node, and near the destination
+  pub no-zero : (i : ℕ) → takesAt lab c d 0 i ≡ true → ⊥
+  no-zero i e = clash (hit 0 i e .0) refl
+
+  pub allowed3 : (lab c ≡ 2) ⊎ (dist c d ≤ 2) → row 3 .allowed ≡ true
+  allowed3 =
+      ⊎-elim (λ (p : lab c ≡ 2). or-left (leb (dist c d) 2) (eq-eqb (lab c) 2 p))
+      (λ (p : dist c d ≤ 2). or-right (eqb (lab c) 2) (le-leb (dist c d) 2 p))
+
+  pub why3 : row 3 .allowed ≡ true → (lab c ≡ 2) ⊎ (dist c d ≤ 2)
+  unfolding ⊎-map
+  why3 e = ⊎-map (eqb-true (lab c) 2) (leb-true (dist c d) 2) (or-true (eqb (lab c) 2) (leb (dist c d) 2) e)
+
+-- what holds of each scan by its number
+pub each-scan : (P : ℕ → Type 0) → P 0 → P 1 → P 2 → P 3 → P 4 → P 5 → (s : ℕ) → s < noScan → P s
+each-scan P p0 p1 p2 p3 p4 p5 zero h = p0
+each-scan P p0 p1 p2 p3 p4 p5 (suc zero) h = p1
+each-scan P p0 p1 p2 p3 p4 p5 (suc (suc zero)) h = p2
+each-scan P p0 p1 p2 p3 p4 p5 (suc (suc (suc zero))) h = p3
+each-scan P p0 p1 p2 p3 p4 p5 (suc (suc (suc (suc zero)))) h = p4
+each-scan P p0 p1 p2 p3 p4 p5 (suc (suc (suc (suc (suc zero))))) h = p5
+each-scan P p0 p1 p2 p3 p4 p5 (suc (suc (suc (suc (suc (suc s)))))) h = absurd (omega arith)

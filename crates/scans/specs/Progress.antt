@@ -1,0 +1,20 @@
+-- What a walk needs of the scans: every pick leads to a node that works and lowers a measure, and where nothing is picked there is a reason.
+-- proofs/Progress.antt has it for good labels and three measures.
+use mathlib.Core.Bool.{cond}
+use Prim.Native.Nat.{ℕ, _+_, _*_, _^_, _≤_, _<_}
+use lib.Dec.{leb}
+use Rattle.cube.specs.Cube.{dist, flip}
+use Rattle.scans.specs.Picks.{NonePicks, Picks}
+
+-- a node of the cube that works
+abbrev pub Inside : (n : ℕ) (lab : ℕ → ℕ) (x : ℕ) → Type 0
+Inside n lab x = (x < 2 ^ n) × (lab x ≤ 2)
+
+pub record Progress (n : ℕ) (lab : ℕ → ℕ) (d : ℕ) (measure : ℕ → ℕ) (Stuck : ℕ → Type 0) : Type 0 where
+  pub inside : (c s i : ℕ) → Inside n lab c → 0 < dist c d → Picks n lab c d s i → Inside n lab (flip i c)
+  pub falls : (c s i : ℕ) → Inside n lab c → 0 < dist c d → Picks n lab c d s i → measure (flip i c) < measure c
+  pub stuck : (c : ℕ) → Inside n lab c → 0 < dist c d → NonePicks n lab c d → Stuck c
+
+-- the measure where some node is safe: the distance, and from 2 on twice the label besides
+unfoldable pub rank : (lab : ℕ → ℕ) (d x : ℕ) → ℕ
+rank lab d x = cond (leb (dist x d) 1) (dist x d) (dist x d + 2 * lab x)
