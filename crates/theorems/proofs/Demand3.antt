@@ -1,6 +1,5 @@
 -- Demand 3, from the labels' four facts (Good) and the theorems on walks: what these say of `spot`, `hops` and `last` is read off the answer.
-use mathlib.Core.Bool.{true, false, cond, not}
-use mathlib.Core.List.{List}
+use mathlib.Core.Bool.{true, false, cond}
 use mathlib.Core.Logic.{_⊎_, inl, inr, ⊎-elim}
 use mathlib.Core.Path.{_≡_, refl, sym, ap, _∙_}
 use Prim.Native.Nat.{ℕ, _+_, _*_, _^_, _≤_, _<_}
@@ -11,42 +10,43 @@ use lib.ListN.{length, List·getD-eq-default}
 use borrow.Author.Tests.{eq-eqb, ne-eqb, eqb-true, eqb-false, le-leb, lt-leb, le-ltb, ltb-true, ltb-false}
 use Rattle.cube.specs.Cube.{apart, dist, flip}
 use Rattle.cube.specs.Refusal.{first}
-use Rattle.cube.specs.Tables.{isDimension, nodeBit}
-use Rattle.cube.proofs.Bools.{either}
+use Rattle.cube.specs.Tables.{highest, isDimension}
+use Rattle.cube.proofs.Bools.{either, is-false}
 use Rattle.cube.proofs.Count.{find, some-none}
 use Rattle.cube.proofs.Cube.{flip-lt}
 use Rattle.cube.proofs.Front.{length-tab, getD-tab}
-use Rattle.cube.proofs.Tables.{dimension-is}
-use Rattle.labels.specs.Cabinet.{Cabinet, broken}
-use Rattle.labels.specs.Good.{Good}
-use Rattle.labels.specs.Labelling.{labelsOf}
-use Rattle.labels.proofs.Good.{label-bytes, labels-length, table-good}
-use Rattle.labels.proofs.Refusal.{accepted}
-use Rattle.route.specs.Walk.{spot, turn, hops, last, row, startRefusal, refused, finished, walkFrom, walked}
-use Rattle.route.specs.declared.Decision.the-variants.{Halted}
+use Rattle.rule.specs.Cabinet.{Cabinet, labelsOf, out}
+use Rattle.rule.specs.Good.{Good}
+use Rattle.rule.proofs.Cabinet.{label-bytes, labels-length, table-good}
+use Rattle.scans.specs.Progress.{Inside}
+use Rattle.labels.proofs.Refusal.{fitting}
+use Rattle.route.specs.Walk.{endingOf, spot, turn, hops, last, row, rowBytes, stops, walkFrom, walkRefusal, walked}
+use Rattle.route.specs.declared.Decision.{Decision}
+use Rattle.route.specs.declared.Decision.the-variants.{Deliver, Halted}
 use Rattle.route.specs.declared.Ending.{Ending}
 use Rattle.route.specs.declared.Ending.the-variants as ending
 use Rattle.route.specs.declared.Walked.{Walked}
-use Rattle.promises.specs.Demand3.{Accepted, Works, bytes, SomeSafe, walkOf, place, Stepped, Arrives, Stuck, Demand3}
-use Rattle.promises.proofs.Demand2.{faulty, works}
-use Rattle.promises.proofs.Progress.{Inside}
-use Rattle.promises.proofs.Walks.{Kept, Delivers, Halts, delivers, delivers-safe, delivers-or-halts, spot-zero, hops-within}
+use Rattle.route.proofs.Steps.{spot-zero}
+use Rattle.theorems.specs.Demand3.{Stepped, Arrives, Stuck, Demand3}
+use Rattle.theorems.specs.Words.{Accepted, Works, labelAt, SomeSafe, walkOf, place}
+use Rattle.theorems.proofs.Demand2.{faulty, works}
+use Rattle.theorems.proofs.Walks.{Kept, Delivers, Halts, delivers, delivers-safe, delivers-or-halts, hops-within}
 
 -- what is known of the label bytes of an accepted table
 record Table (K : Cabinet) : Type 0 where
   dimension : isDimension (K .n) ≡ true
   small : K .n ≤ 12
   sized : length (labelsOf K) ≡ 2 ^ K .n
-  good : Good (K .n) (bytes K)
-  faulty : (x : ℕ) → x < 2 ^ K .n → broken K x ≡ true → bytes K x ≡ 3
-  working : (x : ℕ) → x < 2 ^ K .n → broken K x ≡ false → bytes K x ≤ 2
+  good : Good (K .n) (labelAt K)
+  faulty : (x : ℕ) → x < 2 ^ K .n → out K x ≡ true → labelAt K x ≡ 3
+  working : (x : ℕ) → x < 2 ^ K .n → out K x ≡ false → labelAt K x ≤ 2
 
 table : (K : Cabinet) → Accepted K → Table K
 table K ok =
-    let a = accepted K (2 ^ K .n) ok in
+    let f = fitting K (2 ^ K .n) ok in
     record {
-      dimension = a .0;
-      small = dimension-is (K .n) (a .0) .1;
+      dimension = f .dimension;
+      small = f .small;
       sized = labels-length K;
       good = table-good K;
       faulty = faulty K;
@@ -58,37 +58,39 @@ module _ (K : Cabinet) (T : Table K) (s d : ℕ) (hs : Works K s) (hd : Works K 
   n = K .n
 
   abbrev lab : ℕ → ℕ
-  lab = bytes K
+  lab = labelAt K
 
-  -- ---- the walk is not refused at its start
+  -- ---- the walk is not refused, where its last decision is no hop
 
-  starts : startRefusal n s d (labelsOf K) ≡ 0
-  unfolding startRefusal first
-  starts =
+  not-refused : stops (last n lab d s) ≡ true → walkRefusal n s d (length (labelsOf K)) rowBytes lab ≡ 0
+  unfolding walkRefusal first
+  not-refused e =
       rw (
         T .dimension,
         eq-eqb (length (labelsOf K)) (2 ^ n) (T .sized),
         lt-leb (2 ^ n) s (hs .0),
         lt-leb (2 ^ n) d (hd .0),
-        some-none (2 ^ n) (λ x. ltb 3 (lab x)) (λ x h. le-ltb 3 (lab x) (label-bytes K x h)),
+        some-none (2 ^ n) (λ x. ltb highest (lab x)) (λ x h. le-ltb highest (lab x) (label-bytes K x h)),
         ne-eqb (lab s) 3 (λ e. omega (arith, T .working s (hs .0) (hs .1))),
         ne-eqb (lab d) 3 (λ e. omega (arith, T .working d (hd .0) (hd .1))),
+        e,
       )
-
-  is-walk : walkOf K s d ≡ finished (row n lab d s) (hops n lab d s) (last n lab d s)
-  unfolding walked walkFrom
-  is-walk = rw starts
 
   -- ---- the answer, by its last decision
 
   abbrev ended : Ending → Walked
   ended e = record { row = row n lab d s; hops = hops n lab d s; ending = e }
 
+  is-walk : (x : Decision) → last n lab d s ≡ x → stops x ≡ true → walkOf K s d ≡ ended (endingOf x)
+  unfolding walked walkFrom
+  is-walk x e t = rw (not-refused (ap stops e ∙ t), e)
+
   -- the row's places
   place-used : (e : Ending) (k : ℕ) → k ≤ hops n lab d s → place (ended e) k ≡ spot n lab d s k
   unfolding row
   place-used e k h =
-      getD-tab 17 (λ j. cond (leb j (hops n lab d s)) (spot n lab d s j) 0) k (omega (arith, hops-within n lab d s, T .small)) ∙ rw (le-leb k (hops n lab d s) h)
+      getD-tab 17 (λ j. cond (leb j (hops n lab d s)) (spot n lab d s j) 0) k (omega (arith, hops-within n lab d s, T .small))
+      ∙ rw (le-leb k (hops n lab d s) h)
 
   place-unused : (e : Ending) (k : ℕ) → hops n lab d s < k → place (ended e) k ≡ 0
   unfolding row
@@ -96,24 +98,25 @@ module _ (K : Cabinet) (T : Table K) (s d : ℕ) (hs : Works K s) (hd : Works K 
     where
       go : (ltb k 17 ≡ true) ⊎ (ltb k 17 ≡ false) → place (ended e) k ≡ 0
       go (inl a) = getD-tab 17 (λ j. cond (leb j (hops n lab d s)) (spot n lab d s j) 0) k (ltb-true k 17 a) ∙ rw (lt-leb k (hops n lab d s) h)
-      go (inr a) = List·getD-eq-default (row n lab d s) 0 {n = k} (rw (length-tab 17 (λ j. cond (leb j (hops n lab d s)) (spot n lab d s j) 0)) (ltb-false k 17 a))
+      go (inr a) =
+          List·getD-eq-default (row n lab d s) 0 {n = k} (rw (length-tab 17 (λ j. cond (leb j (hops n lab d s)) (spot n lab d s j) 0)) (ltb-false k 17 a))
 
   works-at : (x : ℕ) → Inside n lab x → Works K x
-  works-at x p =
-      (p .0, ⊎-elim (λ (t : broken K x ≡ true). absurd (omega (arith, T .faulty x (p .0) t))) (λ t. t) (either (broken K x)))
+  works-at x p = (p .0, is-false (λ t. omega (arith, T .faulty x (p .0) t)))
 
   stepped : (e : Ending) → Kept n lab d s → Stepped K d s (ended e)
   unfolding turn
-  stepped e K =
+  stepped e W =
       record {
         begins = place-used e 0 (omega arith) ∙ spot-zero n lab d s;
-        steps = λ k h. let r = K .steps k h in (
+        steps = λ k h. let r = W .steps k h in (
           r .0,
           r .1,
           rw (place-used e k (omega arith)) (r .2),
-          place-used e (k + 1) (omega arith) ∙ ap (spot n lab d s) (add-one k) ∙ r .3 ∙ ap (flip (r .0)) (sym (place-used e k (omega arith))),
+          place-used e (k + 1) (omega arith) ∙ ap (spot n lab d s) (add-one k) ∙ r .3
+          ∙ ap (flip (r .0)) (sym (place-used e k (omega arith))),
         );
-        works = λ k h. rw (place-used e k h) (works-at (spot n lab d s k) (K .works k h));
+        works = λ k h. rw (place-used e k h) (works-at (spot n lab d s k) (W .works k h));
         unused = place-unused e;
       }
 
@@ -123,8 +126,8 @@ module _ (K : Cabinet) (T : Table K) (s d : ℕ) (hs : Works K s) (hd : Works K 
   -- a walk that delivers
   module _ (m : ℕ) (D : Delivers n lab d s m) where
     is-delivered : walkOf K s d ≡ ended ending.Delivered
-    unfolding finished
-    is-delivered = is-walk ∙ rw (D .ended)
+    unfolding stops
+    is-delivered = is-walk Deliver (D .ended) refl
 
     delivered-stepped : Stepped K d s (walkOf K s d)
     delivered-stepped = rw is-delivered (stepped ending.Delivered (D .kept))
@@ -141,21 +144,23 @@ module _ (K : Cabinet) (T : Table K) (s d : ℕ) (hs : Works K s) (hd : Works K 
   -- a walk that halts
   module _ (H : Halts n lab d s) where
     is-halted : walkOf K s d ≡ ended ending.Halted
-    unfolding finished
-    is-halted = is-walk ∙ rw (H .ended)
+    unfolding stops
+    is-halted = is-walk Halted (H .ended) refl
 
     halted-stepped : Stepped K d s (walkOf K s d)
     halted-stepped = rw is-halted (stepped ending.Halted (H .kept))
 
     halted-stuck : Stuck K d (walkOf K s d)
     unfolding last turn
-    halted-stuck = rw is-halted (record { ending = refl; decided = rw (end-place ending.Halted) (H .ended); why = rw (end-place ending.Halted) why })
+    halted-stuck =
+        rw is-halted (record { ending = refl; decided = rw (end-place ending.Halted) (H .ended); why = rw (end-place ending.Halted) why })
       where
-        why : (i : ℕ) → i < n → apart i (spot n lab d s (hops n lab d s)) d ≡ true → broken K (flip i (spot n lab d s (hops n lab d s))) ≡ true
+        why : (i : ℕ) → i < n → apart i (spot n lab d s (hops n lab d s)) d ≡ true → out K (flip i (spot n lab d s (hops n lab d s))) ≡ true
         why i h a =
             let x = flip i (spot n lab d s (hops n lab d s)) in
             let l : x < 2 ^ n = flip-lt n i (spot n lab d s (hops n lab d s)) h (H .kept .works (hops n lab d s) (omega arith) .0) in
-            ⊎-elim (λ (t : broken K x ≡ true). t) (λ (t : broken K x ≡ false). absurd (omega (arith, H .why i h a, T .working x l t))) (either (broken K x))
+            ⊎-elim (λ (t : out K x ≡ true). t) (λ (t : out K x ≡ false). absurd (omega (arith, H .why i h a, T .working x l t)))
+            (either (out K x))
 
   -- ---- the demand
 
@@ -167,42 +172,52 @@ module _ (K : Cabinet) (T : Table K) (s d : ℕ) (hs : Works K s) (hd : Works K 
 
   by-distance : (SomeSafe K → ⊥) → Delivers n lab d s 0 ⊎ Halts n lab d s
   by-distance none =
-      delivers-or-halts n lab (T .good) d (hd .0) (T .working d (hd .0) (hd .1)) s (hs .0) (T .working s (hs .0) (hs .1)) (λ x h e. none (x, h, e))
+      delivers-or-halts n lab (T .good) d (hd .0) (T .working d (hd .0) (hd .1)) s (hs .0) (T .working s (hs .0) (hs .1))
+      (λ x h e. none (x, h, e))
 
   at-most : SomeSafe K → walkOf K s d .hops ≤ dist s d + 2 * lab s
   at-most x = let D = by-rank x in omega (arith, delivered-hops (lab s) D, D .few)
 
   -- whichever way it ends
   data Ended : Type 0 where
-    delivered : (m : ℕ) → Delivers n lab d s m → Ended
+    delivered : (m : ℕ) → m ≤ lab s → Delivers n lab d s m → Ended
     halted : Halts n lab d s → Ended
 
   how : Ended
   how = go (find (2 ^ n) (λ x. eqb (lab x) 0))
     where
       go : ((x : ℕ) × (x < 2 ^ n) × (eqb (lab x) 0 ≡ true)) ⊎ ((x : ℕ) → x < 2 ^ n → eqb (lab x) 0 ≡ false) → Ended
-      go (inl r) = delivered (lab s) (by-rank (r .0, r .1, eqb-true (lab (r .0)) 0 (r .2)))
-      go (inr f) = ⊎-elim (λ (D : Delivers n lab d s 0). delivered 0 D) (λ (H : Halts n lab d s). halted H) (by-distance (λ x. eqb-false (lab (x .0)) 0 (f (x .0) (x .1)) (x .2)))
+      go (inl r) = delivered (lab s) (omega arith) (by-rank (r .0, r .1, eqb-true (lab (r .0)) 0 (r .2)))
+      go (inr f) =
+          ⊎-elim (λ (D : Delivers n lab d s 0). delivered 0 (omega arith) D) (λ (H : Halts n lab d s). halted H)
+          (by-distance (λ x. eqb-false (lab (x .0)) 0 (f (x .0) (x .1)) (x .2)))
 
   meets-demand : Demand3 K s d
   meets-demand =
       record {
         stepped = walk-stepped how;
         arrives = λ x. delivered-arrives (lab s) (by-rank x);
-        exact = ⊎-elim (λ (e : lab s ≡ 0). let D = by-rank (s, hs .0, e) in omega (arith, delivered-hops (lab s) D, D .few)) (λ (e : lab d ≡ 0). let D = to-safe e in omega (arith, delivered-hops 0 D, D .few));
+        exact = ⊎-elim (λ (e : lab s ≡ 0). let D = by-rank (s, hs .0, e) in omega (arith, delivered-hops (lab s) D, D .few))
+            (λ (e : lab d ≡ 0). let D = to-safe e in omega (arith, delivered-hops 0 D, D .few));
         ordinary = λ x e. omega (arith, at-most x);
         strong = λ x e. omega (arith, at-most x);
-        none-safe = λ none. ⊎-elim (λ (D : Delivers n lab d s 0). inl (delivered-arrives 0 D, omega (arith, delivered-hops 0 D, D .few))) (λ (H : Halts n lab d s). inr (halted-stuck H)) (by-distance none);
-        never-refused = λ k e. not-refused k e how;
+        none-safe = λ none. ⊎-elim (λ (D : Delivers n lab d s 0). inl (delivered-arrives 0 D, omega (arith, delivered-hops 0 D, D .few)))
+            (λ (H : Halts n lab d s). inr (halted-stuck H)) (by-distance none);
+        even = λ e. walk-even e how;
+        never-refused = λ k e. never k e how;
       }
     where
       walk-stepped : Ended → Stepped K d s (walkOf K s d)
-      walk-stepped (delivered m D) = delivered-stepped m D
+      walk-stepped (delivered m l D) = delivered-stepped m D
       walk-stepped (halted H) = halted-stepped H
 
-      not-refused : (k : ℕ) → walkOf K s d .ending ≡ ending.Refused k → Ended → ⊥
-      not-refused k e (delivered m D) = let q = delivered-arrives m D .ending in let z : _≡_ {A = ℕ} 0 1 = cc in omega arith
-      not-refused k e (halted H) = let q = halted-stuck H .ending in let z : _≡_ {A = ℕ} 0 1 = cc in omega arith
+      walk-even : walkOf K s d .ending ≡ ending.Delivered → Ended → (e : ℕ) × (e ≤ lab s) × (walkOf K s d .hops ≡ dist s d + 2 * e)
+      walk-even e (delivered m l D) = (D .extra, omega (arith, D .few), delivered-hops m D)
+      walk-even e (halted H) = let q = halted-stuck H .ending in let z : _≡_ {A = ℕ} 0 1 = cc in absurd (omega arith)
+
+      never : (k : ℕ) → walkOf K s d .ending ≡ ending.Refused k → Ended → ⊥
+      never k e (delivered m l D) = let q = delivered-arrives m D .ending in let z : _≡_ {A = ℕ} 0 1 = cc in omega arith
+      never k e (halted H) = let q = halted-stuck H .ending in let z : _≡_ {A = ℕ} 0 1 = cc in omega arith
 
 pub demand3 : (K : Cabinet) → Accepted K → (s d : ℕ) → Works K s → Works K d → Demand3 K s d
 demand3 K ok = meets-demand K (table K ok)

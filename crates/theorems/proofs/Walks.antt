@@ -1,6 +1,6 @@
 -- A walk each of whose decisions makes progress: it keeps to the nodes that work, its measure falls with each hop, and its hops and the
 -- distance that is left differ from the distance at the start by an even number. So it ends before n + 4 hops are done, where a decision is
--- no hop. The three theorems at the end take the measure from Progress: the rank where some node is safe, else the distance.
+-- no hop. The three theorems at the end take the measure from the scans: the rank where some node is safe, else the distance.
 use mathlib.Core.Path.{_≡_, refl, ap, _∙_}
 use mathlib.Core.Logic.{_⊎_, inl, inr, ⊎-elim, _≢_}
 use mathlib.Core.Bool.{Bool, true, false}
@@ -11,21 +11,21 @@ use borrow.Author.Tests.{ltb-true, ltb-false}
 use Rattle.cube.specs.Cube.{flip, apart, dist}
 use Rattle.cube.proofs.Bools.{either, clash}
 use Rattle.cube.proofs.Count.{count-bound, Least, the-least}
-use Rattle.cube.proofs.Cube.{dist-count, dist-self, dist-fall, dist-rise}
-use Rattle.labels.specs.Good.{Good}
+use Rattle.cube.proofs.Cube.{dist-count, dist-self, dist-zero, dist-fall, dist-rise}
+use Rattle.rule.specs.Good.{Good}
+use Rattle.scans.specs.Progress.{Inside, Progress, rank}
+use Rattle.scans.proofs.Progress.{rank-le, by-rank, to-safe, in-the-dark}
 use Rattle.route.specs.Hop.{hop}
 use Rattle.route.specs.Walk.{onto, stops, spot, turn, hops, last}
 use Rattle.route.specs.declared.Decision.{Decision}
 use Rattle.route.specs.declared.Decision.the-variants.{Deliver, Hop, Halted}
-use Rattle.promises.proofs.Progress.{rank, rank-le, Next, arrive, stuck, move, Inside, next, next-safe, next-none}
+use Rattle.route.proofs.Steps.{spot-zero}
+use Rattle.theorems.specs.Picked.{Picked, arrived, took, stopped}
+use Rattle.theorems.proofs.Decision.{picked}
 
 -- ---- any walk: its steps are the decisions' own
 
 module _ (n : ℕ) (lab : ℕ → ℕ) (d s : ℕ) where
-  pub spot-zero : spot n lab d s 0 ≡ s
-  unfolding spot
-  spot-zero = refl
-
   spot-suc : (k i : ℕ) → turn n lab d s k ≡ Hop i → spot n lab d s (suc k) ≡ flip i (spot n lab d s k)
   unfolding spot turn onto
   spot-suc k i e = ap (λ h. onto h (spot n lab d s k)) e
@@ -50,29 +50,44 @@ stops-is x e f = ap stops e ∙ f
 
 -- ---- a walk that makes progress
 
-module _ (n : ℕ) (lab : ℕ → ℕ) (d : ℕ) (hd : d < 2 ^ n) (μ : ℕ → ℕ) (Stuck : ℕ → Type 0)
-    (step : (x : ℕ) → Inside n lab x → Next n lab d (Inside n lab) μ Stuck x) (s : ℕ) (ps : Inside n lab s) (fuel : μ s ≤ n + 4) where
+module _ (n : ℕ) (lab : ℕ → ℕ) (d : ℕ) (hd : d < 2 ^ n) (measure : ℕ → ℕ) (Stuck : ℕ → Type 0) (P : Progress n lab d measure Stuck) where
+  -- what the decision at c does
+  data Next (c : ℕ) : Type 0 where
+    arrive : c ≡ d → hop n lab c d ≡ Deliver → Next c
+    stuck : hop n lab c d ≡ Halted → Stuck c → Next c
+    move : (i : ℕ) → i < n → hop n lab c d ≡ Hop i → Inside n lab (flip i c) → measure (flip i c) < measure c → Next c
+
+  next : (c : ℕ) → Inside n lab c → Next c
+  next c p = go (picked n lab c d)
+    where
+      go : Picked n lab c d → Next c
+      go (arrived e h) = arrive (dist-zero n c d (p .0) hd e) h
+      go (took s i far h k) = move i (k .dimension) h (P .inside c s i p far k) (P .falls c s i p far k)
+      go (stopped far h m) = stuck h (P .stuck c p far m)
+
+module _ (n : ℕ) (lab : ℕ → ℕ) (d : ℕ) (hd : d < 2 ^ n) (measure : ℕ → ℕ) (Stuck : ℕ → Type 0) (P : Progress n lab d measure Stuck)
+    (s : ℕ) (ps : Inside n lab s) (fuel : measure s ≤ n + 4) where
   -- after k hops
   record On (k : ℕ) : Type 0 where
     inside : Inside n lab (spot n lab d s k)
-    room : k + μ (spot n lab d s k) ≤ μ s
+    room : k + measure (spot n lab d s k) ≤ measure s
     extra : ℕ
     even : k + dist (spot n lab d s k) d ≡ dist s d + 2 * extra
 
   -- what one hop does
-  record Hopped (k : ℕ) : Type 0 where
+  record Made (k : ℕ) : Type 0 where
     i : ℕ
     dim : i < n
     decided : turn n lab d s k ≡ Hop i
     inside : Inside n lab (flip i (spot n lab d s k))
-    falls : μ (flip i (spot n lab d s k)) < μ (spot n lab d s k)
+    falls : measure (flip i (spot n lab d s k)) < measure (spot n lab d s k)
     is : spot n lab d s (suc k) ≡ flip i (spot n lab d s k)
 
-  hopped : (k : ℕ) → k < hops n lab d s → On k → Hopped k
+  made : (k : ℕ) → k < hops n lab d s → On k → Made k
   unfolding turn stops
-  hopped k h o = go (step (spot n lab d s k) (o .inside))
+  made k h o = go (next n lab d hd measure Stuck P (spot n lab d s k) (o .inside))
     where
-      go : Next n lab d (Inside n lab) μ Stuck (spot n lab d s k) → Hopped k
+      go : Next n lab d hd measure Stuck P (spot n lab d s k) → Made k
       go (arrive _ e) = absurd (clash (stops-is Deliver e refl) (hops-on n lab d s k h))
       go (stuck e _) = absurd (clash (stops-is Halted e refl) (hops-on n lab d s k h))
       go (move i hi e q l) = record { i = i; dim = hi; decided = e; inside = q; falls = l; is = spot-suc n lab d s k i e }
@@ -81,31 +96,35 @@ module _ (n : ℕ) (lab : ℕ → ℕ) (d : ℕ) (hd : d < 2 ^ n) (μ : ℕ → 
   on zero h =
       record {
         inside = rw (spot-zero n lab d s) ps;
-        room = omega (arith, ap μ (spot-zero n lab d s));
+        room = omega (arith, ap measure (spot-zero n lab d s));
         extra = 0;
         even = omega (arith, ap (λ x. dist x d) (spot-zero n lab d s));
       }
-  on (suc k) h = go (on k (omega arith)) (hopped k (omega arith) (on k (omega arith)))
+  on (suc k) h = go (on k (omega arith)) (made k (omega arith) (on k (omega arith)))
     where
-      go : On k → Hopped k → On (suc k)
+      go : On k → Made k → On (suc k)
       go o r =
           let m = left (either (apart (r .i) (spot n lab d s k) d)) in
-          record { inside = rw (r .is) (r .inside); room = omega (arith, ap μ (r .is)); extra = m .0; even = m .1 }
+          record { inside = rw (r .is) (r .inside); room = omega (arith, ap measure (r .is)); extra = m .0; even = m .1 }
         where
           left : (apart (r .i) (spot n lab d s k) d ≡ true) ⊎ (apart (r .i) (spot n lab d s k) d ≡ false)
               → (m : ℕ) × (suc k + dist (spot n lab d s (suc k)) d ≡ dist s d + 2 * m)
-          left (inl a) = (o .extra, omega (arith, o .even, ap (λ x. dist x d) (r .is), dist-fall n (r .i) (spot n lab d s k) d (o .inside .0) hd (r .dim) a))
-          left (inr a) = (suc (o .extra), omega (arith, o .even, ap (λ x. dist x d) (r .is), dist-rise n (r .i) (spot n lab d s k) d (o .inside .0) hd (r .dim) a))
+          left (inl a) =
+              let f = dist-fall n (r .i) (spot n lab d s k) d (o .inside .0) hd (r .dim) a in
+              (o .extra, omega (arith, o .even, ap (λ x. dist x d) (r .is)))
+          left (inr a) =
+              let f = dist-rise n (r .i) (spot n lab d s k) d (o .inside .0) hd (r .dim) a in
+              (suc (o .extra), omega (arith, o .even, ap (λ x. dist x d) (r .is)))
 
   -- how it ends
   end : ((last n lab d s ≡ Deliver) × (spot n lab d s (hops n lab d s) ≡ d)) ⊎ ((last n lab d s ≡ Halted) × Stuck (spot n lab d s (hops n lab d s)))
   unfolding last turn stops
-  end = go (step (spot n lab d s (hops n lab d s)) (o .inside)) (either (ltb (hops n lab d s) (n + 4)))
+  end = go (next n lab d hd measure Stuck P (spot n lab d s (hops n lab d s)) (o .inside)) (either (ltb (hops n lab d s) (n + 4)))
     where
       o : On (hops n lab d s)
       o = on (hops n lab d s) (omega arith)
 
-      go : Next n lab d (Inside n lab) μ Stuck (spot n lab d s (hops n lab d s))
+      go : Next n lab d hd measure Stuck P (spot n lab d s (hops n lab d s))
           → (ltb (hops n lab d s) (n + 4) ≡ true) ⊎ (ltb (hops n lab d s) (n + 4) ≡ false)
           → ((last n lab d s ≡ Deliver) × (spot n lab d s (hops n lab d s) ≡ d)) ⊎ ((last n lab d s ≡ Halted) × Stuck (spot n lab d s (hops n lab d s)))
       go (arrive q e) _ = inl (e, q)
@@ -141,19 +160,19 @@ dist-le n s d hs hd = omega (arith, dist-count n s d hs hd, count-bound n (λ i.
 
 module _ (n : ℕ) (lab : ℕ → ℕ) (G : Good n lab) (d : ℕ) (hd : d < 2 ^ n) (wd : lab d ≤ 2) (s : ℕ) (hs : s < 2 ^ n) (ws : lab s ≤ 2) where
   -- what each theorem takes from its measure
-  module _ (μ : ℕ → ℕ) (Stuck : ℕ → Type 0) (step : (x : ℕ) → Inside n lab x → Next n lab d (Inside n lab) μ Stuck x) (fuel : μ s ≤ n + 4) where
-    abbrev here : (k : ℕ) → k ≤ hops n lab d s → On n lab d hd μ Stuck step s (hs, ws) fuel k
-    here = on n lab d hd μ Stuck step s (hs, ws) fuel
+  module _ (measure : ℕ → ℕ) (Stuck : ℕ → Type 0) (P : Progress n lab d measure Stuck) (fuel : measure s ≤ n + 4) where
+    abbrev here : (k : ℕ) → k ≤ hops n lab d s → On n lab d hd measure Stuck P s (hs, ws) fuel k
+    here = on n lab d hd measure Stuck P s (hs, ws) fuel
 
     kept : Kept n lab d s
     kept =
         record {
           works = λ k h. here k h .inside;
-          steps = λ k h. let r = hopped n lab d hd μ Stuck step s (hs, ws) fuel k h (here k (omega arith)) in (r .i, r .dim, r .decided, r .is);
+          steps = λ k h. let r = made n lab d hd measure Stuck P s (hs, ws) fuel k h (here k (omega arith)) in (r .i, r .dim, r .decided, r .is);
         }
 
-    arrived : (m : ℕ) → μ s ≤ dist s d + (m + m + 1) → last n lab d s ≡ Deliver → spot n lab d s (hops n lab d s) ≡ d → Delivers n lab d s m
-    arrived m h e t =
+    delivered : (m : ℕ) → measure s ≤ dist s d + (m + m + 1) → last n lab d s ≡ Deliver → spot n lab d s (hops n lab d s) ≡ d → Delivers n lab d s m
+    delivered m h e t =
         let o = here (hops n lab d s) (omega arith) in
         record {
           ended = e;
@@ -164,35 +183,40 @@ module _ (n : ℕ) (lab : ℕ → ℕ) (G : Good n lab) (d : ℕ) (hd : d < 2 ^ 
           kept = kept;
         }
 
-  fuel : dist s d ≤ n + 4
-  fuel = omega (arith, dist-le n s d hs hd)
+    -- it is delivered, or stuck
+    outcome : (m : ℕ) → measure s ≤ dist s d + (m + m + 1)
+        → Delivers n lab d s m ⊎ ((last n lab d s ≡ Halted) × Stuck (spot n lab d s (hops n lab d s)))
+    outcome m h =
+        ⊎-elim (λ (e : (last n lab d s ≡ Deliver) × (spot n lab d s (hops n lab d s) ≡ d)). inl (delivered m h (e .0) (e .1)))
+        (λ (e : (last n lab d s ≡ Halted) × Stuck (spot n lab d s (hops n lab d s))). inr e)
+        (end n lab d hd measure Stuck P s (hs, ws) fuel)
+
+  near : dist s d ≤ n + 4
+  near = omega (arith, dist-le n s d hs hd)
 
   -- some node is safe: delivered, with at most as many pairs of extra hops as the source's label (0 safe, 1 ordinarily, 2 strongly unsafe)
   pub delivers : (x : ℕ) → x < 2 ^ n → lab x ≡ 0 → Delivers n lab d s (lab s)
   delivers x hx ex =
-      ⊎-elim (λ e. arrived (rank lab d) (λ _. ⊥) (next n lab G d hd wd x hx ex) ranked (lab s) (omega (arith, rank-le lab d s)) (e .0) (e .1)) (λ e. absurd (e .1))
-      (end n lab d hd (rank lab d) (λ _. ⊥) (next n lab G d hd wd x hx ex) s (hs, ws) ranked)
-    where
-      ranked : rank lab d s ≤ n + 4
-      ranked = omega (arith, rank-le lab d s, dist-le n s d hs hd)
+      let far = rank-le lab d s in
+      ⊎-elim (λ (D : Delivers n lab d s (lab s)). D) (λ (e : (last n lab d s ≡ Halted) × ⊥). absurd (e .1))
+      (outcome (rank lab d) (λ _. ⊥) (by-rank n lab G d hd wd x hx ex) (omega (arith, dist-le n s d hs hd)) (lab s) (omega arith))
 
   -- the destination is safe: delivered in exactly the distance
   pub delivers-safe : lab d ≡ 0 → Delivers n lab d s 0
   delivers-safe ed =
-      ⊎-elim (λ e. arrived (λ x. dist x d) (λ _. ⊥) (next-safe n lab G d hd wd ed) fuel 0 (omega arith) (e .0) (e .1)) (λ e. absurd (e .1))
-      (end n lab d hd (λ x. dist x d) (λ _. ⊥) (next-safe n lab G d hd wd ed) s (hs, ws) fuel)
+      ⊎-elim (λ (D : Delivers n lab d s 0). D) (λ (e : (last n lab d s ≡ Halted) × ⊥). absurd (e .1))
+      (outcome (λ x. dist x d) (λ _. ⊥) (to-safe n lab G d hd wd ed) near 0 (omega arith))
 
   -- no node is safe: delivered in exactly the distance, or halted
   pub delivers-or-halts : ((x : ℕ) → x < 2 ^ n → lab x ≢ 0) → Delivers n lab d s 0 ⊎ Halts n lab d s
-  delivers-or-halts none = go (end n lab d hd (λ x. dist x d) Stuck step s (hs, ws) fuel)
+  delivers-or-halts none =
+      ⊎-elim (λ (D : Delivers n lab d s 0). inl D)
+      (λ (e : (last n lab d s ≡ Halted) × Stuck (spot n lab d s (hops n lab d s))).
+          inr (record { ended = e .0; why = e .1; kept = kept (λ x. dist x d) Stuck dark near }))
+      (outcome (λ x. dist x d) Stuck dark near 0 (omega arith))
     where
       Stuck : ℕ → Type 0
       Stuck x = (i : ℕ) → i < n → apart i x d ≡ true → 2 < lab (flip i x)
 
-      step : (x : ℕ) → Inside n lab x → Next n lab d (Inside n lab) (λ x. dist x d) Stuck x
-      step = next-none n lab G d hd wd none
-
-      go : ((last n lab d s ≡ Deliver) × (spot n lab d s (hops n lab d s) ≡ d)) ⊎ ((last n lab d s ≡ Halted) × Stuck (spot n lab d s (hops n lab d s)))
-          → Delivers n lab d s 0 ⊎ Halts n lab d s
-      go (inl e) = inl (arrived (λ x. dist x d) Stuck step fuel 0 (omega arith) (e .0) (e .1))
-      go (inr e) = inr (record { ended = e .0; why = e .1; kept = kept (λ x. dist x d) Stuck step fuel })
+      dark : Progress n lab d (λ x. dist x d) Stuck
+      dark = in-the-dark n lab G d hd wd none

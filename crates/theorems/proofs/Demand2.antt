@@ -1,0 +1,86 @@
+-- Demand 2, of the bytes that labelling writes: byte 0 stands exactly at the safe nodes, so what holds of these holds of the bytes.
+use mathlib.Core.Bool.{Bool, true, false, not}
+use mathlib.Core.Logic.{⊎-elim}
+use mathlib.Core.Path.{_≡_, sym, ap, _∙_}
+use Prim.Native.Nat.{ℕ, _^_, _≤_, _<_}
+use native.Mathlib.Omega.{arith}
+use lib.Dec.{eqb}
+use borrow.Author.Tests.{eq-eqb, eqb-true}
+use Rattle.cube.specs.Cube.{flip}
+use Rattle.cube.proofs.Bools.{either, clash, is-false}
+use Rattle.cube.proofs.Count.{count-same}
+use Rattle.cube.proofs.Cube.{flip-lt}
+use Rattle.rule.specs.Cabinet.{Cabinet, out, outByte, roundsOf, ruleOf}
+use Rattle.rule.specs.Closed.{Closed, Largest}
+use Rattle.rule.specs.Rounds.{Rested}
+use Rattle.rule.specs.Rule.{label, safe}
+use Rattle.rule.proofs.Bytes.{out-byte, zero-safe, safe-zero, byte-out}
+use Rattle.rule.proofs.Cabinet.{label-in, out-high, table-good}
+use Rattle.rule.proofs.Largest.{safe-largest}
+use Rattle.rule.proofs.Rounds.{rested}
+use Rattle.theorems.specs.Demand2.{Demand2}
+use Rattle.theorems.specs.Words.{labelAt}
+
+module _ (K : Cabinet) where
+  abbrev n : ℕ
+  n = K .n
+
+  abbrev S : ℕ → Bool
+  S = safe n (ruleOf K) (out K)
+
+  abbrev L : Largest n (ruleOf K) (out K)
+  L = safe-largest n (ruleOf K) (out K)
+
+  abbrev C : Closed n (ruleOf K) (out K) S
+  C = L .closed
+
+  abbrev R : Rested n (ruleOf K) (out K)
+  R = rested n (ruleOf K) (out K)
+
+  zero-is : (x : ℕ) → x < 2 ^ n → labelAt K x ≡ 0 → S x ≡ true
+  unfolding label
+  zero-is x h e = zero-safe n (out K) (outByte K) S (C .works) (out-high K) x (sym (label-in K x h) ∙ e)
+
+  is-zero : (x : ℕ) → x < 2 ^ n → S x ≡ true → labelAt K x ≡ 0
+  unfolding label
+  is-zero x h e = label-in K x h ∙ safe-zero n (out K) (outByte K) S (C .works) (out-high K) x h e
+
+  zero-same : (x : ℕ) → x < 2 ^ n → eqb (labelAt K x) 0 ≡ S x
+  zero-same x h =
+      ⊎-elim (λ (t : S x ≡ true). eq-eqb (labelAt K x) 0 (is-zero x h t) ∙ sym t)
+      (λ (t : S x ≡ false). is-false (λ u. clash (zero-is x h (eqb-true (labelAt K x) 0 u)) t) ∙ sym t)
+      (either (S x))
+
+  pub faulty : (x : ℕ) → x < 2 ^ n → out K x ≡ true → labelAt K x ≡ 3
+  unfolding label
+  faulty x h e = label-in K x h ∙ out-byte n (out K) (outByte K) S x e
+
+  pub works : (x : ℕ) → x < 2 ^ n → out K x ≡ false → labelAt K x ≤ 2
+  unfolding label
+  works x h e = omega (arith, below)
+    where
+      below : ¬ (3 ≤ labelAt K x)
+      below l = clash (byte-out n (out K) (outByte K) S (C .works) (out-high K) x (omega (arith, label-in K x h))) e
+
+  pub demand2 : Demand2 K
+  unfolding roundsOf
+  demand2 =
+      record {
+        closed = record {
+          works = λ x h e. C .works x h (sym (zero-same x h) ∙ e);
+          few-out = λ x h e. C .few-out x h (sym (zero-same x h) ∙ e);
+          few-outside = λ x h e. omega (
+            arith,
+            C .few-outside x h (sym (zero-same x h) ∙ e),
+            count-same n (λ i. not (eqb (labelAt K (flip i x)) 0)) (λ i. not (S (flip i x))) (λ i l. ap not (zero-same (flip i x) (flip-lt n i x l h))),
+          );
+        };
+        largest = λ H closed x h e. is-zero x h (L .largest H closed x h e);
+        faulty = faulty;
+        works = works;
+        ordinary = table-good K .ordinary;
+        strong = table-good K .strong;
+        loud = R .loud;
+        still = R .still;
+        ceiling = R .ceiling;
+      }

@@ -1,0 +1,1 @@
+// Demands 2 and 3, without code: of the label bytes that labelling writes, the hop that is decided with them, and the walk that they lead.
