@@ -1,34 +1,30 @@
 -- Every part of an answer is small, so that the packed number does not wrap: a refusal is at most 12, a dimension below 12, a hop count at most 16.
+-- A walk that is not refused was lent a row of 34 bytes.
 use mathlib.Core.Path.{_≡_, refl}
-use mathlib.Core.Logic.{_⊎_, inl, inr}
-use mathlib.Core.Bool.{true, false, not, _&&_}
-use mathlib.Core.List.{List, _++_}
+use mathlib.Core.Bool.{true, false}
+use mathlib.Core.List.{List}
 use Prim.Native.Nat.{ℕ, _+_, _≤_, _<_}
 use native.Mathlib.Omega.{arith}
 use lib.Dec.{eqb}
-use lib.ListN.{length}
 use borrow.Author.Tests.{eqb-true, not-false}
-use Rattle.cube.specs.Cube.{flip}
-use Rattle.cube.specs.Refusal.{first}
-use Rattle.cube.specs.Tables.{isDimension, labelIn, tab}
-use Rattle.cube.proofs.Bools.{either, by-cases}
-use Rattle.cube.proofs.Refusal.{first-le}
+use Rattle.cube.specs.Tables.{tab}
+use Rattle.cube.proofs.Bools.{by-cases}
 use Rattle.cube.proofs.Count.{the-least}
-use Rattle.labels.specs.Cabinet.{Cabinet}
+use Rattle.cube.proofs.Refusal.{first-le, first-none}
+use Rattle.cube.proofs.Tables.{dimension-is}
+use Rattle.rule.specs.Cabinet.{Cabinet}
+use Rattle.rule.proofs.Cabinet.{rounds-few}
 use Rattle.labels.specs.Labelling as L
-use Rattle.labels.proofs.Refusal.{accepted as label-accepted, refusal-le, rounds-few}
+use Rattle.labels.proofs.Refusal.{fitting, refusal-le}
 use Rattle.route.specs.Hop as H
 use Rattle.route.specs.Walk as W
 use Rattle.route.specs.declared.Decision.{Decision}
 use Rattle.route.specs.declared.Decision.the-variants.{Deliver, Hop, Halted}
 use Rattle.route.specs.declared.Walked.{Walked}
 use Rattle.route.proofs.Local.{hop-dim}
-use Rattle.route.proofs.Refusals.{hop-good, start-good}
-use Rattle.hcube.specs.Answers.{accepted, rowAfter, rowByte, walkedFor}
+use Rattle.route.proofs.Refusals.{hop-good}
+use Rattle.hcube.specs.Answers.{hasRow, rowAfter, rowByte}
 use Rattle.hcube.specs.Fits.{HopFits, LabelFits, RowFits, WalkFits}
-
-abbrev Few : ℕ → Type 0
-Few x = x ≤ 12
 
 -- ---- labelling
 
@@ -36,83 +32,69 @@ pub label-small : (K : Cabinet) (m : ℕ) → LabelFits (L.labelled K m)
 unfolding L.labelled
 label-small K m =
     by-cases LabelFits (eqb (L.labelRefusal K m) 0)
-    (λ e. (omega arith, omega (arith, rounds-few K m (label-accepted K m (eqb-true (L.labelRefusal K m) 0 e) .0))))
+    (λ e. (omega arith, omega (arith, rounds-few K (fitting K m (eqb-true (L.labelRefusal K m) 0 e) .small))))
     (λ _. (omega (arith, refusal-le K m), omega arith))
 
 -- ---- the hop
 
-module _ (n c d : ℕ) (l : List ℕ) where
-  hop-refusal : Few (H.hopRefusal n c d l)
+module _ (n c d m : ℕ) (lab : ℕ → ℕ) where
+  hop-refusal : H.hopRefusal n c d m lab ≤ 12
   unfolding H.hopRefusal
-  hop-refusal = first-le 12 (H.placeTests n c d (length l) ++ H.nearTests n (labelIn l c) (λ i. labelIn l (flip i c))) refl
+  hop-refusal = first-le 12 (H.hopTests n c d m lab) refl
 
-  decision-small : (x : Decision) → n ≤ 12 → H.hop n (labelIn l) c d ≡ x → H.decisionValue x < 65536
+  decision-small : (x : Decision) → n ≤ 12 → H.hop n lab c d ≡ x → H.decisionValue x < 65536
   decision-small Deliver h e = omega arith
-  decision-small (Hop i) h e = omega (arith, hop-dim n (labelIn l) c d i e)
+  decision-small (Hop i) h e = omega (arith, hop-dim n lab c d i e)
   decision-small Halted h e = omega arith
 
-  pub hop-small : HopFits (H.hopped n c d l)
+  pub hop-small : HopFits (H.hopped n c d m lab)
   unfolding H.hopped
   hop-small =
-      by-cases HopFits (eqb (H.hopRefusal n c d l) 0)
-      (λ e. (omega arith, decision-small (H.hop n (labelIn l) c d) (hop-good n c d l (eqb-true (H.hopRefusal n c d l) 0 e) .small) refl))
+      by-cases HopFits (eqb (H.hopRefusal n c d m lab) 0)
+      (λ e. (omega arith, decision-small (H.hop n lab c d) (hop-good n c d m lab (eqb-true (H.hopRefusal n c d m lab) 0 e) .small) refl))
       (λ _. (omega (arith, hop-refusal), omega arith))
 
 -- ---- the walk
 
-module _ (n s d : ℕ) (l : List ℕ) where
-  start-refusal : Few (W.startRefusal n s d l)
-  unfolding W.startRefusal
-  start-refusal = first-le 12 (H.placeTests n s d (length l) ++ W.tableTests n s d l) refl
+module _ (n s d m room : ℕ) (lab : ℕ → ℕ) where
+  walk-refusal : W.walkRefusal n s d m room lab ≤ 12
+  unfolding W.walkRefusal
+  walk-refusal = first-le 12 (W.walkTests n s d m room lab) refl
 
-  hops-few : n ≤ 12 → W.hops n (labelIn l) d s < 65536
+  -- where nothing is refused, the dimension and the row's length are good
+  lent : W.walkRefusal n s d m room lab ≡ 0 → (n ≤ 12) × (room ≡ W.rowBytes)
+  unfolding W.walkRefusal
+  lent e =
+      let t = first-none 12 (W.walkTests n s d m room lab) refl e in
+      (dimension-is n (not-false _ (t .0)) .1, eqb-true _ _ (not-false _ (t .1 .1 .0)))
+
+  hops-few : n ≤ 12 → W.hops n lab d s < 65536
   unfolding W.hops
-  hops-few h = omega (arith, the-least (n + 4) (λ k. W.stops (W.turn n (labelIn l) d s k)) .within)
+  hops-few h = omega (arith, the-least (n + 4) (λ k. W.stops (W.turn n lab d s k)) .within)
 
-  refused-fits : (k : ℕ) → Few k → WalkFits (W.refused k)
-  unfolding W.refused
-  refused-fits k h = (omega arith, omega arith)
+  ending-few : (x : Decision) → W.refusalOf (W.endingOf x) < 256
+  ending-few Deliver = omega arith
+  ending-few (Hop i) = omega arith
+  ending-few Halted = omega arith
 
-  finished-fits : (r : List ℕ) (h : ℕ) (x : Decision) → h < 65536 → WalkFits (W.finished r h x)
-  unfolding W.finished
-  finished-fits r h Deliver q = (omega arith, q)
-  finished-fits r h (Hop i) q = refused-fits 8 (omega arith)
-  finished-fits r h Halted q = (omega arith, q)
+  pub walk-small : WalkFits (W.walked n s d m room lab)
+  unfolding W.walked W.walkFrom W.refused
+  walk-small =
+      by-cases WalkFits (eqb (W.walkRefusal n s d m room lab) 0)
+      (λ e. (ending-few (W.last n lab d s), hops-few (lent (eqb-true (W.walkRefusal n s d m room lab) 0 e) .0)))
+      (λ _. (omega (arith, walk-refusal), omega arith))
 
-  pub walk-small : (m : ℕ) → WalkFits (walkedFor n s d l m)
-  unfolding walkedFor W.walked W.walkFrom
-  walk-small m =
-      by-cases WalkFits (isDimension n && not (eqb m 34)) (λ _. refused-fits 2 (omega arith))
-      (λ _. by-cases WalkFits (eqb (W.startRefusal n s d l) 0)
-      (λ e. finished-fits (W.row n (labelIn l) d s) (W.hops n (labelIn l) d s) (W.last n (labelIn l) d s) (hops-few (start-good n s d l (eqb-true (W.startRefusal n s d l) 0 e) .small)))
-      (λ _. refused-fits (W.startRefusal n s d l) start-refusal))
+  pub row-fits : RowFits (W.walked n s d m room lab) room
+  unfolding W.walked W.refused
+  row-fits =
+      by-cases (λ w. RowFits w room) (eqb (W.walkRefusal n s d m room lab) 0)
+      (λ e _. lent (eqb-true (W.walkRefusal n s d m room lab) 0 e) .1)
+      (λ _ h. let z : _≡_ {A = ℕ} 0 1 = cc in absurd (omega arith))
 
-  -- ---- the row: a walk that is not refused has its 34 bytes
-
-  refused-row : (k m : ℕ) → RowFits (W.refused k) m
-  unfolding W.refused
-  refused-row k m e = let z : _≡_ {A = ℕ} 0 1 = cc in absurd (omega arith)
-
-  pub row-fits : (m : ℕ) → RowFits (walkedFor n s d l m) m
-  unfolding walkedFor W.walked W.startRefusal first
-  row-fits m = by-cases (λ w. RowFits w m) (isDimension n && not (eqb m 34)) (λ _. refused-row 2 m) (λ e. known (either (isDimension n)) e)
-    where
-      known : (isDimension n ≡ true) ⊎ (isDimension n ≡ false) → (isDimension n && not (eqb m 34)) ≡ false → RowFits (W.walked n s d l) m
-      known (inl a) e = λ _. eqb-true m 34 (not-false (eqb m 34) (rw a at e))
-      known (inr a) e = rw a (refused-row 1 m)
-
-pub row-refused : (n s d : ℕ) (l : List ℕ) (m : ℕ) → (isDimension n && not (eqb m 34)) ≡ true → W.refused 2 ≡ walkedFor n s d l m
-unfolding walkedFor
-row-refused n s d l m e = rw e
-
-pub row-given : (n s d : ℕ) (l : List ℕ) (m : ℕ) → (isDimension n && not (eqb m 34)) ≡ false → W.walked n s d l ≡ walkedFor n s d l m
-unfolding walkedFor
-row-given n s d l m e = rw e
-
-pub written : (w : Walked) (before : List ℕ) → accepted (w .ending) ≡ true → tab 34 (rowByte (w .row)) ≡ rowAfter w before
+pub written : (w : Walked) (before : List ℕ) → hasRow (w .ending) ≡ true → tab W.rowBytes (rowByte (w .row)) ≡ rowAfter w before
 unfolding rowAfter
 written w before e = rw e
 
-pub kept : (w : Walked) (before : List ℕ) → accepted (w .ending) ≡ false → before ≡ rowAfter w before
+pub kept : (w : Walked) (before : List ℕ) → hasRow (w .ending) ≡ false → before ≡ rowAfter w before
 unfolding rowAfter
 kept w before e = rw e

@@ -1,11 +1,10 @@
 -- What C is answered, and what the row's buffer then holds: document 01's number of the answer that the library's own function gives.
-use mathlib.Core.Bool.{Bool, true, false, cond, not, _&&_}
+use mathlib.Core.Bool.{Bool, true, false, cond}
 use mathlib.Core.List.{List}
 use Prim.Native.Nat.{ℕ, _+_, _*_, _/_, _%_}
 use lib.Dec.{eqb}
-use lib.ListN.{getD}
-use Rattle.cube.specs.Answer.{packed}
-use Rattle.cube.specs.Tables.{isDimension, tab}
+use lib.ListN.{getD, length}
+use Rattle.cube.specs.Tables.{labelIn, tab}
 use Rattle.labels.specs.Labelling as L
 use Rattle.labels.specs.declared.Labelled.{Labelled}
 use Rattle.notice.specs.Notice as N
@@ -16,6 +15,10 @@ use Rattle.route.specs.declared.Ending.{Ending}
 use Rattle.route.specs.declared.Ending.the-variants as ending
 use Rattle.route.specs.declared.Hopped.{Hopped}
 use Rattle.route.specs.declared.Walked.{Walked}
+
+-- one number for the refusal, the kind and the value. An accepted answer has refusal 0; a refusal has kind 0 and value 0
+abbrev pub packed : (refusal kind value : ℕ) → ℕ
+packed refusal kind value = refusal * 16777216 + kind * 65536 + value
 
 -- labelling: kind 0, the value is the round count
 abbrev pub labelNumber : Labelled → ℕ
@@ -36,19 +39,20 @@ packedNotice refusal dimension count taken = refusal * 281474976710656 + dimensi
 abbrev pub noticeNumber : Noticed → ℕ
 noticeNumber a = packedNotice (N.refusalOf a) (N.dimensionOf a) (N.countOf a) (N.takenOf a)
 
--- the walk with a row of m bytes: refused with 2 where m is not 34, directly after the label table
-unfoldable pub walkedFor : (n s d : ℕ) (labels : List ℕ) (m : ℕ) → Walked
-walkedFor n s d labels m = cond (isDimension n && not (eqb m 34)) (W.refused 2) (W.walked n s d labels)
+-- the walk with the tables that C lends
+abbrev pub walkedBy : (n s d : ℕ) (labels row : List ℕ) → Walked
+walkedBy n s d labels row = W.walked n s d (length labels) (length row) (labelIn labels)
 
 -- byte k of a row: two bytes a node, low byte first
 unfoldable pub rowByte : (row : List ℕ) (k : ℕ) → ℕ
 rowByte row k = cond (eqb (k % 2) 0) (getD row (k / 2) 0 % 256) (getD row (k / 2) 0 / 256 % 256)
 
-abbrev pub accepted : Ending → Bool
-accepted ending.Delivered = true
-accepted ending.Halted = true
-accepted (ending.Refused k) = false
+-- a walk that ended so has a row to write
+abbrev pub hasRow : Ending → Bool
+hasRow ending.Delivered = true
+hasRow ending.Halted = true
+hasRow (ending.Refused k) = false
 
 -- the row's buffer afterwards: all 34 bytes written, or every byte kept
 unfoldable pub rowAfter : Walked → (before : List ℕ) → List ℕ
-rowAfter w before = cond (accepted (w .ending)) (tab 34 (rowByte (w .row))) before
+rowAfter w before = cond (hasRow (w .ending)) (tab W.rowBytes (rowByte (w .row))) before

@@ -9,7 +9,7 @@ use Rattle.route.specs.Hop as H
 use Rattle.route.specs.Walk as W
 use Rattle.route.specs.declared.Hopped.{Hopped}
 use Rattle.route.specs.declared.Walked.{Walked}
-use Rattle.hcube.specs.Answers.{accepted}
+use Rattle.hcube.specs.Answers.{hasRow}
 
 abbrev pub LabelFits : Labelled → Type 0
 LabelFits a = (L.refusalOf a < 256) × (L.valueOf a < 65536)
@@ -21,4 +21,4 @@ abbrev pub WalkFits : Walked → Type 0
 WalkFits w = (W.refusalOf (w .ending) < 256) × (w .hops < 65536)
 
 abbrev pub RowFits : Walked → (m : ℕ) → Type 0
-RowFits w m = accepted (w .ending) ≡ true → m ≡ 34
+RowFits w m = hasRow (w .ending) ≡ true → m ≡ W.rowBytes

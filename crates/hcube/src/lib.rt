@@ -1,17 +1,16 @@
 // What C calls: plain numbers and byte slices in, one number out. include/hcube.h is the C side of it. C's numbers are widened and never
 // narrowed, so none is mistaken for a smaller one.
 ghost use Prim.Native.Nat.{_<_, _≤_};
-ghost use Rattle.cube.specs.Answer.{packed};
-ghost use Rattle.cube.specs.Tables.{tab};
-ghost use Rattle.hcube.specs.Answers.{accepted, hopNumber, labelNumber, noticeNumber, packedNotice, rowAfter, rowByte, walkNumber, walkedFor};
+ghost use Rattle.cube.specs.Tables.{labelIn, tab};
+ghost use Rattle.hcube.specs.Answers.{hasRow, hopNumber, labelNumber, noticeNumber, packed, packedNotice, rowAfter, rowByte, walkNumber, walkedBy};
 ghost use Rattle.hcube.specs.Fits.{RowFits, WalkFits};
-ghost use Rattle.labels.specs.Cabinet.{cabinet};
 ghost use Rattle.labels.specs.Labelling.{labelled, labelsAfter};
 ghost use Rattle.notice.specs.Notice.{noticed, tableAfter};
 ghost use Rattle.route.specs.Hop.{decisionKind, decisionValue, hopped};
+ghost use Rattle.route.specs.Walk.{rowBytes};
+ghost use Rattle.rule.specs.Cabinet.{cabinet};
 ghost use lib.ListN.{length};
 ghost use mathlib.Core.Path.{_≡_};
-use cube::is_dimension;
 use labels::Labelled;
 use notice::Noticed;
 use route::Decision;
@@ -55,7 +54,7 @@ fn pack_decision(x: Decision) -> u32
 // Decides one hop at c for d.
 #[no_mangle]
 pub extern "C" fn hcube_hop(n: u32, c: u32, d: u32, labels: &[u8]) -> u32
-    ensures { λ r. ⌜ r ≡ hopNumber (hopped n c d (now (labels .entry))) ⌝ }
+    ensures { λ r. ⌜ r ≡ hopNumber (hopped n c d (length (now (labels .entry))) (labelIn (now (labels .entry)))) ⌝ }
 {
     let answer = route::hop(n as usize, c as usize, d as usize, labels);
     match answer {
@@ -78,28 +77,14 @@ fn row_byte(row: &[u16; 17], k: usize) -> u8
 
 // All 34 bytes of a row.
 fn put_row(row: &[u16; 17], out: &mut [u8])
-    requires { ⌜ length (now out) ≡ 34 ⌝ }
-    ensures { λ _. ⌜ now (out .exit) ≡ tab 34 (rowByte (now (row .entry))) ⌝ }
+    requires { ⌜ length (now out) ≡ rowBytes ⌝ }
+    ensures { λ _. ⌜ now (out .exit) ≡ tab rowBytes (rowByte (now (row .entry))) ⌝ }
 {
     let mut k: usize = 0;
-    while k < 34 {
+    while k < out.len() {
         out[k] = row_byte(row, k);
         k += 1;
     }
-}
-
-// The walk with a row of m bytes for C: any other length than 34 is refused with 2.
-fn walk_for(n: usize, s: usize, d: usize, labels: &[u8], m: usize) -> Walked
-    ensures { λ r. ⌜ r ≡ walkedFor n s d (now (labels .entry)) m ⌝ }
-{
-    if is_dimension(n) & (m != 34) {
-        return Walked {
-            row: [0u16; 17],
-            hops: 0,
-            ending: Ending::Refused(2),
-        };
-    }
-    route::walk(n, s, d, labels)
 }
 
 // A walk by how it ended and its hop count, which is 0 where it is refused.
@@ -117,8 +102,8 @@ fn pack_walk(walked: Walked) -> u32
 }
 
 // Whether a walk that ended so has a row to write.
-fn is_accepted(ending: Ending) -> bool
-    ensures { λ r. ⌜ r ≡ accepted ending ⌝ }
+fn has_row(ending: Ending) -> bool
+    ensures { λ r. ⌜ r ≡ hasRow ending ⌝ }
 {
     match ending {
         Ending::Delivered => true,
@@ -134,7 +119,7 @@ fn write_row(walked: Walked, row: &mut [u8])
 {
     let nodes = walked.row;
     let ending = walked.ending;
-    if is_accepted(ending) {
+    if has_row(ending) {
         put_row(&nodes, row);
     }
 }
@@ -142,10 +127,10 @@ fn write_row(walked: Walked, row: &mut [u8])
 // Walks from s to d: the row of nodes goes to the lent buffer, and none of it where the walk is refused.
 #[no_mangle]
 pub extern "C" fn hcube_walk(n: u32, s: u32, d: u32, labels: &[u8], row: &mut [u8]) -> u32
-    ensures answer { λ r. ⌜ r ≡ walkNumber (walkedFor n s d (now (labels .entry)) (length (now (row .entry)))) ⌝ }
-    ensures row { λ r. ⌜ now (row .exit) ≡ rowAfter (walkedFor n s d (now (labels .entry)) (length (now (row .entry)))) (now (row .entry)) ⌝ }
+    ensures answer { λ r. ⌜ r ≡ walkNumber (walkedBy n s d (now (labels .entry)) (now (row .entry))) ⌝ }
+    ensures row { λ r. ⌜ now (row .exit) ≡ rowAfter (walkedBy n s d (now (labels .entry)) (now (row .entry))) (now (row .entry)) ⌝ }
 {
-    let walked = walk_for(n as usize, s as usize, d as usize, labels, row.len());
+    let walked = route::walk_for(n as usize, s as usize, d as usize, labels, row.len());
     write_row(walked, row);
     pack_walk(walked)
 }

@@ -2,6 +2,8 @@
 use mathlib.Core.Path.{sym, ap, _∙_}
 use native.Mathlib.Omega.{arith}
 use borrow.Author.Needs.{needs}
+use lib.ListN.{length}
+use Rattle.cube.specs.Tables.{labelIn}
 use Rattle.hcube.specs.Answers.{hopNumber}
 use Rattle.hcube.proofs.Small.{hop-small}
 use Rattle.hcube.proofs.hcube_hop.Statement.{statement}
@@ -16,7 +18,7 @@ enum-known-answer c = search needs
 pack-requires : tie.Need-pack-requires
 pack-requires c κs =
     let a = c .before .before .before .before .before .args in
-    let f = hop-small (a .n) (a .c) (a .d) (a .labels .now) in
+    let f = hop-small (a .n) (a .c) (a .d) (length (a .labels .now)) (labelIn (a .labels .now)) in
     (rw (sym (c .before .before .before .hop .ensures) ∙ c .before .answer .given .1) at (f .0), (omega arith, omega arith))
 
 enum-known-answer-2 : tie.Need-enum-known-answer-2
@@ -25,7 +27,7 @@ enum-known-answer-2 c = search needs
 pack-decision-requires : tie.Need-pack-decision-requires
 pack-decision-requires c κs =
     let a = c .before .before .before .before .before .args in
-    let f = hop-small (a .n) (a .c) (a .d) (a .labels .now) in
+    let f = hop-small (a .n) (a .c) (a .d) (length (a .labels .now)) (labelIn (a .labels .now)) in
     rw (sym (c .before .before .before .hop .ensures) ∙ c .before .answer2 .given .1) at (f .1)
 
 returns : tie.Need-returns

@@ -2,7 +2,7 @@
 use mathlib.Core.Path.{sym, ap, _∙_}
 use native.Mathlib.Omega.{arith}
 use lib.ListN.{length}
-use Rattle.labels.specs.Cabinet.{cabinet}
+use Rattle.rule.specs.Cabinet.{cabinet}
 use Rattle.hcube.specs.Answers.{labelNumber}
 use Rattle.hcube.proofs.Small.{label-small}
 use borrow.Author.Needs.{needs}

@@ -5,12 +5,13 @@ use borrow.Author.Needs.{needs}
 use Rattle.hcube.proofs.write_row.Statement.{statement}
 use Rattle.hcube.proofs.write_row.Tie as tie
 
-is-accepted-requires : tie.Need-is-accepted-requires
-is-accepted-requires c κs = search needs
+has-row-requires : tie.Need-has-row-requires
+has-row-requires c κs = search needs
 
 put-row-requires : tie.Need-put-row-requires
 put-row-requires c κs =
-    let s = c .before .before .before .before .before .before in s .pre (sym (c .before .before .before .is-accepted .ensures) ∙ c .before .before .if1 .taken)
+    let s = c .before .before .before .before .before .before in
+    s .pre (sym (c .before .before .before .has-row .ensures) ∙ c .before .before .if1 .taken)
 
 same-length : tie.Need-same-length
 same-length c = search needs
@@ -19,13 +20,13 @@ returns : tie.Need-returns
 returns c =
     let s = c .before .before .before .before .before .before .before .before .before in
     let t = c .before .before .before .before .before in
-    c .before .before .put-row .ensures ∙ written (s .args .walked) (s .args .row .now) (sym (t .before .is-accepted .ensures) ∙ t .if1 .taken)
+    c .before .before .put-row .ensures ∙ written (s .args .walked) (s .args .row .now) (sym (t .before .has-row .ensures) ∙ t .if1 .taken)
 
 returns-2 : tie.Need-returns-2
 returns-2 c =
     let s = c .before .before .before .before in
-    kept (s .args .walked) (s .args .row .now) (sym (c .before .is-accepted .ensures) ∙ c .if1 .left)
+    kept (s .args .walked) (s .args .row .now) (sym (c .before .has-row .ensures) ∙ c .if1 .left)
 
 pub write-row-spec : {M : Type 1} → statement M
 write-row-spec =
-    tie.close (tie.spec is-accepted-requires put-row-requires same-length returns returns-2)
+    tie.close (tie.spec has-row-requires put-row-requires same-length returns returns-2)
