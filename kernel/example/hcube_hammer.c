@@ -12,6 +12,7 @@
 #include <linux/slab.h>
 #include <linux/version.h>
 
+#include "hcube_hammer.h"
 #include "stored.h"
 
 #define HAMMER_FILE "hcube_hammer"

@@ -1,4 +1,7 @@
-/* What the module knows of the stored answers. answers.h, which make_answers writes, has the answers. */
+/*
+ * What the module knows of the stored answers, and the comparing with them (stored.c). answers.h, which make_answers
+ * writes, has the answers.
+ */
 #ifndef STORED_H
 #define STORED_H
 
@@ -46,8 +49,5 @@ bool hcube_pair_is_right(const struct hcube_cube *cube, const uint8_t *labels, u
 
 /* How many of all pairs are not. */
 size_t hcube_wrong_pairs(const struct hcube_cube *cube, const uint8_t *labels);
-
-int hcube_hammer_start(void);
-void hcube_hammer_stop(void);
 
 #endif
