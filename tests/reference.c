@@ -160,10 +160,10 @@ uint32_t ref_hop(uint32_t n, uint32_t c, uint32_t d,
         return packed(2, 0, 0);
     if (c >= nodes_of(n) || d >= nodes_of(n))
         return packed(5, 0, 0);
-    if (labels[c] > 3)
+    if (labels[c] > LAST_LABEL)
         return packed(4, 0, 0);
     for (uint32_t i = 0; i < n; i++)
-        if (labels[c ^ (1u << i)] > 3)
+        if (labels[c ^ (1u << i)] > LAST_LABEL)
             return packed(4, 0, 0);
     if (labels[c] == FAULTY)
         return packed(6, 0, 0);
@@ -206,12 +206,12 @@ uint32_t ref_walk(uint32_t n, uint32_t s, uint32_t d,
         return packed(1, 0, 0);
     if (labels_len != nodes_of(n))
         return packed(2, 0, 0);
-    if (row_len != 34)
+    if (row_len != ROW_BYTES)
         return packed(2, 0, 0);
     if (s >= nodes_of(n) || d >= nodes_of(n))
         return packed(5, 0, 0);
     for (uint32_t k = 0; k < nodes_of(n); k++)
-        if (labels[k] > 3)
+        if (labels[k] > LAST_LABEL)
             return packed(4, 0, 0);
     if (labels[s] == FAULTY)
         return packed(6, 0, 0);

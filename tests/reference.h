@@ -13,7 +13,11 @@
 #define MOST_NODES 4096
 #define MOST_FAULT_BYTES 512
 #define ROW_PLACES 17
+#define ROW_BYTES (2 * ROW_PLACES)
 #define MOST_INPUT 16384
+
+/* The largest byte that is a label. */
+#define LAST_LABEL 3
 
 uint32_t ref_label(uint32_t n, const uint8_t *faults, size_t faults_len,
                    uint8_t *labels, size_t labels_len);

@@ -43,27 +43,32 @@ static unsigned read_addresses(const uint8_t *bytes, size_t len, size_t *place,
     return 0;
 }
 
+static uint64_t refused(uint64_t refusal)
+{
+    return refusal << 48;
+}
+
 uint64_t ref_read_notice(const uint8_t *bytes, size_t len,
                          uint8_t *faults, size_t faults_len)
 {
     uint8_t faulty[MOST_NODES] = {0};
     size_t place = 0;
     uint32_t n = 0, count = 0;
-    uint64_t refusal = ref_number(bytes, len, &place, &n);
+    unsigned refusal = ref_number(bytes, len, &place, &n);
     if (refusal)
-        return refusal << 48;
+        return refused(refusal);
     if (n < 1 || n > 12)
-        return (uint64_t)1 << 48;
+        return refused(1);
     if (faults_len != ref_fault_bytes(n))
-        return (uint64_t)2 << 48;
+        return refused(2);
     refusal = ref_number(bytes, len, &place, &count);
     if (refusal)
-        return refusal << 48;
+        return refused(refusal);
     if (count > (uint32_t)1 << n)
-        return (uint64_t)11 << 48;
+        return refused(11);
     refusal = read_addresses(bytes, len, &place, n, count, faulty);
     if (refusal)
-        return refusal << 48;
+        return refused(refusal);
     memset(faults, 0, faults_len);
     for (uint32_t k = 0; k < (uint32_t)1 << n; k++)
         if (faulty[k])
@@ -73,21 +78,28 @@ uint64_t ref_read_notice(const uint8_t *bytes, size_t len,
 
 /* ---- the listing program */
 
+static unsigned nodes_with(uint8_t label, uint32_t n, const uint8_t *labels)
+{
+    unsigned count = 0;
+    for (uint32_t k = 0; k < 1u << n; k++)
+        if (labels[k] == label)
+            count++;
+    return count;
+}
+
 static void print_first_line(uint32_t n, const uint8_t *labels, unsigned rounds,
                              FILE *out)
 {
-    unsigned count[4] = {0, 0, 0, 0};
-    for (uint32_t k = 0; k < 1u << n; k++)
-        count[labels[k]]++;
     fprintf(out, "cube %u faulty %u safe %u ordinary %u strong %u rounds %u\n",
-            (unsigned)n, count[3], count[0], count[1], count[2], rounds);
+            (unsigned)n, nodes_with(3, n, labels), nodes_with(0, n, labels),
+            nodes_with(1, n, labels), nodes_with(2, n, labels), rounds);
 }
 
 static void print_pair(uint32_t n, uint32_t s, uint32_t d, const uint8_t *labels,
                        FILE *out)
 {
-    uint8_t row[34];
-    uint32_t answer = ref_walk(n, s, d, labels, (size_t)1 << n, row, 34);
+    uint8_t row[ROW_BYTES];
+    uint32_t answer = ref_walk(n, s, d, labels, (size_t)1 << n, row, sizeof row);
     uint32_t refusal = answer >> 24, hops = answer & 0xffff;
     fprintf(out, "%u %u ", (unsigned)s, (unsigned)d);
     if (refusal) {

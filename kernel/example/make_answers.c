@@ -7,7 +7,7 @@
 #include <stdio.h>
 #include <string.h>
 
-enum { NODES = 64, ROW_BYTES = 34, UNTOUCHED = 0xaa };
+enum { NODES = 64, UNTOUCHED = 0xaa };
 
 struct cube {
 	const char *name;
