@@ -8,9 +8,8 @@
 #include <string.h>
 #include <unistd.h>
 
-#include "../include/hcube.h"
+#include "cases.h"
 #include "lent.h"
-#include "reference.h"
 
 struct seen seen;
 
@@ -70,102 +69,121 @@ void expect(int holds, const char *why, ...)
     printf("\n");
 }
 
-/* ---- the four questions */
+/* ---- library against reference */
 
 static struct lent read_only, writable;
 static uint8_t wanted[MOST_LENT];
 
+/* One more of this number, if there is room for it; if not, the case fails. */
+static void count_one(unsigned long *counts, size_t room, const char *what,
+                      uint64_t number)
+{
+    if (number < room)
+        counts[number]++;
+    else
+        expect(0, "%s: there is no room to count %llu", what,
+               (unsigned long long)number);
+}
+#define SEEN(counts, number)                                                   \
+    count_one(seen.counts, COUNT(seen.counts), #counts, number)
+
 static void count_labels(uint32_t n, uint32_t answer, const uint8_t *labels)
 {
-    seen.refusal[0][answer >> 24]++;
-    if (answer >> 24)
+    uint32_t rounds = HCUBE_VALUE(answer);
+    SEEN(refusal[LABEL], HCUBE_REFUSAL(answer));
+    if (HCUBE_REFUSAL(answer))
         return;
-    seen.cube[0][n]++;
-    seen.rounds[(answer & 0xffff) < 9 ? answer & 0xffff : 9]++;
+    SEEN(cube[LABEL], n);
+    SEEN(rounds, rounds < 9 ? rounds : 9);
     for (uint32_t k = 0; k < 1u << n; k++)
-        seen.label[labels[k]]++;
+        SEEN(label, labels[k]);
 }
 
-uint32_t check_label(uint32_t n, const uint8_t *faults, size_t faults_len,
-                     uint8_t *labels, size_t labels_len)
+uint32_t check_label(struct label_question asked)
 {
+    struct label_question lent = asked;
     uint32_t answer, want;
     int same;
-    lend(&read_only, faults, faults_len);
-    lend(&writable, labels, labels_len);
-    memcpy(wanted, labels, labels_len);
-    want = ref_label(n, faults, faults_len, wanted, labels_len);
-    answer = hcube_label(n, read_only.bytes, faults_len, writable.bytes,
-                         labels_len);
-    expect(answer == want, "label n=%u: %08x, not %08x", n, answer, want);
-    same = lent_is(&read_only, faults) && lent_is(&writable, wanted);
-    expect(same, "label n=%u (%08x): wrong bytes", n, want);
-    count_labels(n, want, wanted);
-    memcpy(labels, writable.bytes, labels_len);
+    lend(&read_only, asked.faults, asked.faults_len);
+    lend(&writable, asked.labels, asked.labels_len);
+    lent.faults = read_only.bytes;
+    lent.labels = writable.bytes;
+    memcpy(wanted, asked.labels, asked.labels_len);
+    want = ref_label(asked.n, asked.faults, asked.faults_len, wanted,
+                     asked.labels_len);
+    answer = ask_label(lent);
+    expect(answer == want, "label n=%u: %08x, not %08x", asked.n, answer, want);
+    same = lent_is(&read_only, asked.faults) && lent_is(&writable, wanted);
+    expect(same, "label n=%u (%08x): wrong bytes", asked.n, want);
+    count_labels(asked.n, want, wanted);
+    memcpy(asked.labels, writable.bytes, asked.labels_len);
     return answer;
 }
 
-static void count_hop(uint32_t n, uint32_t c, uint32_t d, uint32_t answer,
-                      const uint8_t *labels)
+static void count_hop(struct hop_question asked, uint32_t answer)
 {
     uint32_t dimension = 0;
-    seen.refusal[1][answer >> 24]++;
-    if (answer >> 24)
+    SEEN(refusal[HOP], HCUBE_REFUSAL(answer));
+    if (HCUBE_REFUSAL(answer))
         return;
-    seen.cube[1][n]++;
-    seen.hop_kind[answer >> 16]++;
-    seen.scan[ref_scan(n, c, d, labels, &dimension)]++;
-    if (answer >> 16 == 1)
-        seen.dimension[dimension]++;
+    SEEN(cube[HOP], asked.n);
+    SEEN(hop_kind, HCUBE_KIND(answer));
+    SEEN(scan, ref_scan(asked.n, asked.c, asked.d, asked.labels, &dimension));
+    if (HCUBE_KIND(answer) == HCUBE_HOP)
+        SEEN(dimension, dimension);
 }
 
-uint32_t check_hop(uint32_t n, uint32_t c, uint32_t d,
-                   const uint8_t *labels, size_t labels_len)
+uint32_t check_hop(struct hop_question asked)
 {
+    struct hop_question lent = asked;
     uint32_t answer, want;
-    lend(&read_only, labels, labels_len);
-    want = ref_hop(n, c, d, labels, labels_len);
-    answer = hcube_hop(n, c, d, read_only.bytes, labels_len);
-    expect(answer == want, "hop n=%u %u to %u: %08x, not %08x", n, c, d, answer,
-           want);
-    expect(lent_is(&read_only, labels), "hop n=%u: a byte changed", n);
-    count_hop(n, c, d, want, labels);
+    lend(&read_only, asked.labels, asked.labels_len);
+    lent.labels = read_only.bytes;
+    want = ref_hop(asked.n, asked.c, asked.d, asked.labels, asked.labels_len);
+    answer = ask_hop(lent);
+    expect(answer == want, "hop n=%u %u to %u: %08x, not %08x", asked.n, asked.c,
+           asked.d, answer, want);
+    expect(lent_is(&read_only, asked.labels), "hop n=%u: a byte changed",
+           asked.n);
+    count_hop(asked, want);
     return answer;
 }
 
 static void count_walk(uint32_t n, uint32_t answer)
 {
-    uint32_t hops = answer & 0xffff;
-    seen.refusal[2][answer >> 24]++;
-    if (answer >> 24)
+    uint32_t hops = HCUBE_VALUE(answer);
+    SEEN(refusal[WALK], HCUBE_REFUSAL(answer));
+    if (HCUBE_REFUSAL(answer))
         return;
-    seen.cube[2][n]++;
-    seen.walk_kind[answer >> 16]++;
-    if (answer >> 16)
+    SEEN(cube[WALK], n);
+    SEEN(walk_kind, HCUBE_KIND(answer));
+    if (HCUBE_KIND(answer) != HCUBE_WALK_DELIVERED)
         return;
-    seen.walk_hops[hops]++;
+    SEEN(walk_hops, hops);
     if (hops == n + 4)
-        seen.longest[n]++;
+        SEEN(longest, n);
 }
 
-uint32_t check_walk(uint32_t n, uint32_t s, uint32_t d,
-                    const uint8_t *labels, size_t labels_len,
-                    uint8_t *row, size_t row_len)
+uint32_t check_walk(struct walk_question asked)
 {
+    struct walk_question lent = asked;
     uint32_t answer, want;
     int same;
-    lend(&read_only, labels, labels_len);
-    lend(&writable, row, row_len);
-    memcpy(wanted, row, row_len);
-    want = ref_walk(n, s, d, labels, labels_len, wanted, row_len);
-    answer = hcube_walk(n, s, d, read_only.bytes, labels_len, writable.bytes,
-                        row_len);
-    expect(answer == want, "walk n=%u %u to %u: %08x, not %08x", n, s, d, answer,
-           want);
-    same = lent_is(&read_only, labels) && lent_is(&writable, wanted);
-    expect(same, "walk n=%u %u to %u (%08x): wrong bytes", n, s, d, want);
-    count_walk(n, want);
-    memcpy(row, writable.bytes, row_len);
+    lend(&read_only, asked.labels, asked.labels_len);
+    lend(&writable, asked.row, asked.row_len);
+    lent.labels = read_only.bytes;
+    lent.row = writable.bytes;
+    memcpy(wanted, asked.row, asked.row_len);
+    want = ref_walk(asked.n, asked.s, asked.d, asked.labels, asked.labels_len,
+                    wanted, asked.row_len);
+    answer = ask_walk(lent);
+    expect(answer == want, "walk n=%u %u to %u: %08x, not %08x", asked.n, asked.s,
+           asked.d, answer, want);
+    same = lent_is(&read_only, asked.labels) && lent_is(&writable, wanted);
+    expect(same, "walk n=%u %u to %u (%08x): wrong bytes", asked.n, asked.s,
+           asked.d, want);
+    count_walk(asked.n, want);
+    memcpy(asked.row, writable.bytes, asked.row_len);
     return answer;
 }
 
@@ -185,9 +203,9 @@ uint64_t check_notice(const uint8_t *bytes, size_t len,
     same = lent_is(&read_only, bytes) && lent_is(&writable, wanted);
     expect(same, "notice of %lu bytes (%016llx): wrong bytes",
            (unsigned long)len, (unsigned long long)want);
-    seen.refusal[3][want >> 48]++;
-    if (want >> 48 == 0)
-        seen.cube[3][want >> 32]++;
+    SEEN(refusal[NOTICE], HCUBE_NOTICE_REFUSAL(want));
+    if (HCUBE_NOTICE_REFUSAL(want) == 0)
+        SEEN(cube[NOTICE], HCUBE_NOTICE_DIMENSION(want));
     memcpy(faults, writable.bytes, faults_len);
     return answer;
 }

@@ -8,6 +8,8 @@
 #include <stddef.h>
 #include <stdint.h>
 
+#include "questions.h"
+
 /* A named group of checks. end_group prints `ok NAME: N cases` or `FAIL ...`. */
 void begin_group(const char *name);
 void end_group(void);
@@ -15,32 +17,28 @@ int failed_groups(void);
 /* One more case of the group; when it does not hold, the text says why. */
 void expect(int holds, const char *why, ...);
 
-/* Each calls library and reference on guarded copies of the buffers and expects
+/* Each asks library and reference on guarded copies of the buffers and expects
  * the same answer, the same bytes in each buffer, and every other byte kept.
  * The caller's own writable buffer then has what the library left in it. The
  * library's answer is returned. */
-uint32_t check_label(uint32_t n, const uint8_t *faults, size_t faults_len,
-                     uint8_t *labels, size_t labels_len);
-uint32_t check_hop(uint32_t n, uint32_t c, uint32_t d,
-                   const uint8_t *labels, size_t labels_len);
-uint32_t check_walk(uint32_t n, uint32_t s, uint32_t d,
-                    const uint8_t *labels, size_t labels_len,
-                    uint8_t *row, size_t row_len);
+uint32_t check_label(struct label_question asked);
+uint32_t check_hop(struct hop_question asked);
+uint32_t check_walk(struct walk_question asked);
 uint64_t check_notice(const uint8_t *bytes, size_t len,
                       uint8_t *faults, size_t faults_len);
 
 /* What the checks have seen so far. */
 struct seen {
-    unsigned long refusal[4][13];  /* by question: label, hop, walk, notice */
-    unsigned long hop_kind[3];     /* deliver, hop, halted */
-    unsigned long dimension[12];   /* that a hop crossed */
-    unsigned long scan[6];         /* that decided a hop; 0: none did */
-    unsigned long walk_kind[2];    /* delivered, halted */
-    unsigned long walk_hops[17];   /* of delivered walks */
-    unsigned long longest[13];     /* delivered in n + 4 hops, by n */
-    unsigned long rounds[10];      /* 9: nine or more */
-    unsigned long label[4];        /* bytes that labelling wrote */
-    unsigned long cube[4][13];     /* accepted calls by question and n */
+    unsigned long refusal[QUESTIONS][MOST_REFUSAL + 1];
+    unsigned long cube[QUESTIONS][13]; /* accepted calls, by n */
+    unsigned long hop_kind[3];         /* deliver, hop, halted */
+    unsigned long dimension[12];       /* that a hop crossed */
+    unsigned long scan[6];             /* that decided a hop; 0: none did */
+    unsigned long walk_kind[2];        /* delivered, halted */
+    unsigned long walk_hops[17];       /* of delivered walks */
+    unsigned long longest[13];         /* delivered in n + 4 hops, by n */
+    unsigned long rounds[10];          /* 9: nine or more */
+    unsigned long label[MOST_LABEL + 1]; /* bytes that labelling wrote */
 };
 extern struct seen seen;
 

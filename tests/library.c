@@ -9,56 +9,60 @@
 #include "check.h"
 #include "groups.h"
 
-/* Expects at least `least` cases of what is counted. */
-static void came_up(const char *what, unsigned number, unsigned long count,
-                    unsigned long least)
+#define LEAST 20ul /* times that each must come up */
+
+/* A number that there is no room to count did not come up. */
+static void came_up(const char *what, const unsigned long *counts, size_t room,
+                    unsigned number)
 {
+    unsigned long count = number < room ? counts[number] : 0;
     printf(" %u:%lu", number, count);
-    expect(count >= least, "%s %u came up %lu times", what, number, count);
+    expect(count >= LEAST, "%s %u came up %lu times", what, number, count);
 }
 
-static void refusals_came_up(const char *question, unsigned row,
-                             const unsigned *numbers, unsigned count)
+/* The question was accepted, and refused with each of its refusals. */
+static void refusals_came_up(unsigned question)
 {
-    printf("  refusals of %s:", question);
-    for (unsigned k = 0; k < count; k++)
-        came_up(question, numbers[k], seen.refusal[row][numbers[k]], 20);
+    const char *name = questions[question].name;
+    const unsigned *refusal = questions[question].refusals;
+    printf("  refusals of %s:", name);
+    do
+        came_up(name, seen.refusal[question], COUNT(seen.refusal[question]),
+                *refusal);
+    while (*refusal++);
     printf("\n");
 }
 
 static void counts_came_up(const char *what, const unsigned long *counts,
-                           unsigned first, unsigned last)
+                           size_t room, unsigned first, unsigned last)
 {
     printf("  %s:", what);
     for (unsigned k = first; k <= last; k++)
-        came_up(what, k, counts[k], 20);
+        came_up(what, counts, room, k);
     printf("\n");
 }
+#define CAME_UP(what, counts, first, last)                                     \
+    counts_came_up(what, seen.counts, COUNT(seen.counts), first, last)
 
 static void check_coverage(void)
 {
-    static const unsigned label[] = {0, 1, 2, 3}, hop[] = {0, 1, 2, 5, 4, 6};
-    static const unsigned walk[] = {0, 1, 2, 5, 4, 6, 7, 8};
-    static const unsigned notice[] = {0, 9, 10, 1, 2, 11, 12};
     begin_group("coverage of refusals");
-    refusals_came_up("label", 0, label, 4);
-    refusals_came_up("hop", 1, hop, 6);
-    refusals_came_up("walk", 2, walk, 8);
-    refusals_came_up("notice", 3, notice, 7);
+    for (unsigned question = 0; question < QUESTIONS; question++)
+        refusals_came_up(question);
     end_group();
     begin_group("coverage of endings, scans and rounds");
-    counts_came_up("kind of hop", seen.hop_kind, 0, 2);
-    counts_came_up("scan", seen.scan, 0, 5);
-    counts_came_up("dimension crossed", seen.dimension, 0, 11);
-    counts_came_up("kind of walk", seen.walk_kind, 0, 1);
-    counts_came_up("hops of a walk", seen.walk_hops, 0, 16);
-    counts_came_up("walk of n + 4 hops, n", seen.longest, 4, 12);
-    counts_came_up("rounds", seen.rounds, 0, 9);
-    counts_came_up("label", seen.label, 0, 3);
-    counts_came_up("labelled n", seen.cube[0], 1, 12);
-    counts_came_up("hop at n", seen.cube[1], 1, 12);
-    counts_came_up("walk at n", seen.cube[2], 1, 12);
-    counts_came_up("notice of n", seen.cube[3], 1, 12);
+    CAME_UP("kind of hop", hop_kind, 0, 2);
+    CAME_UP("scan", scan, 0, 5);
+    CAME_UP("dimension crossed", dimension, 0, 11);
+    CAME_UP("kind of walk", walk_kind, 0, 1);
+    CAME_UP("hops of a walk", walk_hops, 0, 16);
+    CAME_UP("walk of n + 4 hops, n", longest, 4, 12);
+    CAME_UP("rounds", rounds, 0, 9);
+    CAME_UP("label", label, 0, LAST_LABEL);
+    CAME_UP("labelled n", cube[LABEL], 1, 12);
+    CAME_UP("hop at n", cube[HOP], 1, 12);
+    CAME_UP("walk at n", cube[WALK], 1, 12);
+    CAME_UP("notice of n", cube[NOTICE], 1, 12);
     end_group();
 }
 

@@ -32,9 +32,9 @@ static unsigned hops_to(uint32_t n, uint32_t s, uint32_t d)
 
 static void check_here(uint32_t n, uint32_t s, uint32_t d)
 {
-    uint8_t row[34];
+    uint8_t row[ROW_BYTES];
     memset(row, 0xee, sizeof row);
-    check_walk(n, s, d, labels, (size_t)1 << n, row, sizeof row);
+    check_walk(fit_walk(n, s, d, labels, row));
 }
 
 /* Gives nodes beside the way other labels until it has the wanted number of
@@ -49,7 +49,7 @@ static int grow(uint32_t n, uint32_t s, uint32_t d, unsigned wanted_hops)
         uint8_t old = labels[k];
         if (k == s || k == d)
             continue;
-        labels[k] = (uint8_t)random_below(4);
+        labels[k] = (uint8_t)random_below(LAST_LABEL + 1);
         now = hops_to(n, s, d);
         if (now < hops || now > wanted_hops) {
             labels[k] = old;

@@ -29,8 +29,8 @@ static void good_notice(uint32_t n)
     random_bytes(bytes + len, after);
     random_bytes(read, table);
     answer = check_notice(bytes, len + after, read, table);
-    expect(answer >> 32 == n && (answer & 0xffff) == len,
-           "n = %u: taken %u of %u", n, (unsigned)(answer & 0xffff),
+    expect(answer == NOTICE_READ(n, HCUBE_NOTICE_COUNT(answer), len),
+           "n = %u: taken %u of %u", n, (unsigned)HCUBE_NOTICE_TAKEN(answer),
            (unsigned)len);
     expect(!memcmp(read, faults, table), "n = %u: another table", n);
 }
@@ -59,7 +59,8 @@ void check_notices(void)
         good_notice(1 + k % 12);
     random_bytes(bytes, MOST_LENT);
     memcpy(bytes, "\x03\x01\x07", 3);
-    expect(check_notice(bytes, MOST_LENT, read, 1) == 0x300010003u, "long input");
+    expect(check_notice(bytes, MOST_LENT, read, 1) == NOTICE_READ(3, 1, 3),
+           "long input");
     end_group();
     begin_group("damaged notices");
     for (unsigned k = 0; k < 24000; k++)
@@ -69,28 +70,48 @@ void check_notices(void)
 
 /* ---- each order of two refusals, left to right */
 
+#define BYTES(text) .bytes = text, .len = sizeof text - 1
+
+/* An input with both refusals, the first to be tested first. */
 static const struct {
     unsigned first, second;
-    size_t table, len;
+    size_t table; /* length of the fault table: 2 fits n = 4 */
     const char *bytes;
+    size_t len;
 } notice_orders[] = {
-    {9, 1, 2, 1, "\x8d"},              {9, 1, 2, 1, "\x80"},
-    {9, 2, 3, 1, "\x84"},              {9, 2, 0, 0, ""},
-    {10, 1, 2, 2, "\x8d\x00"},         {10, 1, 2, 2, "\x80\x81"},
-    {10, 2, 3, 2, "\x84\x00"},         {1, 2, 0, 2, "\x00\x00"},
-    {1, 2, 3, 2, "\x0d\x00"},          {1, 9, 1, 1, "\x00"},
-    {1, 9, 512, 1, "\x0d"},            {1, 10, 1, 3, "\x0d\x81\x00"},
-    {1, 11, 1, 2, "\x00\x02"},         {1, 12, 1, 3, "\x00\x01\x01"},
-    {2, 9, 1, 1, "\x04"},              {2, 9, 3, 1, "\x04"},
-    {2, 9, 0, 1, "\x01"},              {2, 10, 1, 3, "\x04\x81\x00"},
-    {2, 11, 3, 2, "\x04\x11"},         {2, 12, 1, 3, "\x04\x01\x10"},
-    {9, 11, 2, 2, "\x04\x91"},         {10, 11, 2, 3, "\x04\x91\x00"},
-    {10, 11, 2, 3, "\x04\xff\xff"},    {11, 9, 2, 2, "\x04\x11"},
-    {11, 10, 2, 4, "\x04\x11\x81\x00"}, {11, 12, 2, 3, "\x04\x11\x10"},
-    {9, 12, 2, 3, "\x04\x01\x90"},     {10, 12, 2, 4, "\x04\x01\x90\x00"},
-    {12, 9, 2, 3, "\x04\x02\x10"},     {12, 10, 2, 5, "\x04\x02\x10\x81\x00"},
-    {10, 9, 2, 4, "\x04\x02\x81\x00"}, {12, 9, 2, 4, "\x04\x03\x0f\x00"},
-    {10, 12, 2, 6, "\x04\x02\x01\x81\x80\x10"},
+    {.first = 9, .second = 1, .table = 2, BYTES("\x8d")},
+    {.first = 9, .second = 1, .table = 2, BYTES("\x80")},
+    {.first = 9, .second = 2, .table = 3, BYTES("\x84")},
+    {.first = 9, .second = 2, .table = 0, BYTES("")},
+    {.first = 10, .second = 1, .table = 2, BYTES("\x8d\x00")},
+    {.first = 10, .second = 1, .table = 2, BYTES("\x80\x81")},
+    {.first = 10, .second = 2, .table = 3, BYTES("\x84\x00")},
+    {.first = 1, .second = 2, .table = 0, BYTES("\x00\x00")},
+    {.first = 1, .second = 2, .table = 3, BYTES("\x0d\x00")},
+    {.first = 1, .second = 9, .table = 1, BYTES("\x00")},
+    {.first = 1, .second = 9, .table = 512, BYTES("\x0d")},
+    {.first = 1, .second = 10, .table = 1, BYTES("\x0d\x81\x00")},
+    {.first = 1, .second = 11, .table = 1, BYTES("\x00\x02")},
+    {.first = 1, .second = 12, .table = 1, BYTES("\x00\x01\x01")},
+    {.first = 2, .second = 9, .table = 1, BYTES("\x04")},
+    {.first = 2, .second = 9, .table = 3, BYTES("\x04")},
+    {.first = 2, .second = 9, .table = 0, BYTES("\x01")},
+    {.first = 2, .second = 10, .table = 1, BYTES("\x04\x81\x00")},
+    {.first = 2, .second = 11, .table = 3, BYTES("\x04\x11")},
+    {.first = 2, .second = 12, .table = 1, BYTES("\x04\x01\x10")},
+    {.first = 9, .second = 11, .table = 2, BYTES("\x04\x91")},
+    {.first = 10, .second = 11, .table = 2, BYTES("\x04\x91\x00")},
+    {.first = 10, .second = 11, .table = 2, BYTES("\x04\xff\xff")},
+    {.first = 11, .second = 9, .table = 2, BYTES("\x04\x11")},
+    {.first = 11, .second = 10, .table = 2, BYTES("\x04\x11\x81\x00")},
+    {.first = 11, .second = 12, .table = 2, BYTES("\x04\x11\x10")},
+    {.first = 9, .second = 12, .table = 2, BYTES("\x04\x01\x90")},
+    {.first = 10, .second = 12, .table = 2, BYTES("\x04\x01\x90\x00")},
+    {.first = 12, .second = 9, .table = 2, BYTES("\x04\x02\x10")},
+    {.first = 12, .second = 10, .table = 2, BYTES("\x04\x02\x10\x81\x00")},
+    {.first = 10, .second = 9, .table = 2, BYTES("\x04\x02\x81\x00")},
+    {.first = 12, .second = 9, .table = 2, BYTES("\x04\x03\x0f\x00")},
+    {.first = 10, .second = 12, .table = 2, BYTES("\x04\x02\x01\x81\x80\x10")},
 };
 
 void check_notice_orders(void)
@@ -102,7 +123,7 @@ void check_notice_orders(void)
         random_bytes(read, 512);
         answer = check_notice(bytes, notice_orders[k].len, read,
                               notice_orders[k].table);
-        expect(answer == (uint64_t)notice_orders[k].first << 48,
+        expect(answer == NOTICE_REFUSED(notice_orders[k].first),
                "row %u: %016llx, where %u is before %u", (unsigned)k,
                (unsigned long long)answer, notice_orders[k].first,
                notice_orders[k].second);
@@ -119,9 +140,10 @@ void check_cut_notices(void)
         uint32_t n = 1 + k % 12;
         size_t len = random_notice(n), table = ref_fault_bytes(n);
         for (size_t cut = 0; cut < len; cut++)
-            expect(check_notice(bytes, cut, read, table) == (uint64_t)9 << 48,
+            expect(check_notice(bytes, cut, read, table) == NOTICE_REFUSED(9),
                    "n = %u: %u bytes of %u", n, (unsigned)cut, (unsigned)len);
-        expect(check_notice(bytes, len, read, table) >> 48 == 0, "n = %u", n);
+        expect(!HCUBE_NOTICE_REFUSAL(check_notice(bytes, len, read, table)),
+               "n = %u: all of it", n);
     }
     end_group();
 }
@@ -136,7 +158,8 @@ static uint64_t refusal_of(uint32_t n, uint32_t count, uint32_t first,
     at += put_number(count, bytes + at);
     at += put_number(first, bytes + at);
     memcpy(bytes + at, rest, rest_len);
-    return check_notice(bytes, at + rest_len, read, ref_fault_bytes(n)) >> 48;
+    return HCUBE_NOTICE_REFUSAL(
+        check_notice(bytes, at + rest_len, read, ref_fault_bytes(n)));
 }
 
 /* Every node faulty: the first address 0 and then nothing but zeros. */
@@ -144,16 +167,16 @@ static void every_node(uint32_t n)
 {
     size_t table = ref_fault_bytes(n);
     size_t at = put_number(n, bytes);
-    uint64_t nodes = (uint64_t)1 << n;
-    at += put_number(1u << n, bytes + at);
-    memset(bytes + at, 0, 1u << n);
+    uint32_t nodes = 1u << n;
+    at += put_number(nodes, bytes + at);
+    memset(bytes + at, 0, nodes);
     memset(read, 0, table);
-    expect(check_notice(bytes, at + (1u << n), read, table) ==
-               ((uint64_t)n << 32) + (nodes << 16) + at + nodes,
+    expect(check_notice(bytes, at + nodes, read, table) ==
+               NOTICE_READ(n, nodes, at + nodes),
            "n = %u: every node", n);
     expect(read[table - 1] == (n < 3 ? (1u << nodes) - 1 : 255), "last byte");
-    bytes[at + (1u << n) - 1] = 1;
-    expect(check_notice(bytes, at + (1u << n), read, table) >> 48 == 12,
+    bytes[at + nodes - 1] = 1;
+    expect(check_notice(bytes, at + nodes, read, table) == NOTICE_REFUSED(12),
            "n = %u: the last address is one too far", n);
 }
 

@@ -1,183 +1,189 @@
 /*
  * orders.c: for labelling, hop and walk, inputs to which two refusals apply at
- * once. The one that document 01 names first is given. A label table is written
- * as a row of digits, a byte each; its length is the row's.
+ * once. The one that document 01 names first is given.
  */
 #include <string.h>
 
 #include "cases.h"
 #include "check.h"
 #include "groups.h"
+#include "lent.h"
 
-static uint8_t labels[64], row[64];
-static int tried[13][13];
+/* An input with both refusals, the first to be tested first. What a row does not
+ * name is zero; lengths then fit n, or what n is once narrowed to a byte. */
+struct order {
+    unsigned first, second;
+    uint32_t n, s, d;   /* s: the walk's source, or the hop's current node */
+    uint8_t fault_byte; /* each byte of the fault table */
+    const char *labels; /* for hop and walk: a digit a byte, x for no label */
+    int faults_more, labels_more, row_more; /* bytes beyond what fits */
+};
 
-static size_t put_labels(const char *digits)
-{
-    size_t len = strlen(digits);
-    for (size_t k = 0; k < len; k++)
-        labels[k] = (uint8_t)(digits[k] - '0');
-    return len;
-}
-
-static void expect_first(const char *question, uint32_t answer, unsigned first,
-                         unsigned second)
-{
-    tried[first][second] = 1;
-    expect(answer == (uint32_t)first << 24, "%s: %08x, where %u is before %u",
-           question, answer, first, second);
-}
-
-/* Each pair of the row, an earlier and a later refusal, was tried. */
-static void expect_all_tried(const char *question, const unsigned *order,
-                             size_t count)
-{
-    for (size_t a = 0; a < count; a++)
-        for (size_t b = a + 1; b < count; b++)
-            expect(tried[order[a]][order[b]], "%s: %u and %u were not tried",
-                   question, order[a], order[b]);
-    memset(tried, 0, sizeof tried);
-}
+static uint8_t faults[MOST_LENT], labels[MOST_LENT], row[MOST_LENT];
 
 /* ---- labelling. 1 and 3 meet only where n is right once narrowed. */
 
-static const struct {
-    unsigned first, second;
-    uint32_t n;
-    uint8_t fault_byte;
-    size_t faults_len, labels_len;
-} label_orders[] = {
-    {1, 2, 0, 0, 2, 1},     {1, 2, 0, 0, 1, 2},     {1, 2, 13, 0, 1, 8},
-    {1, 2, 13, 0, 0, 0},    {1, 3, 257, 255, 1, 2}, {1, 3, 258, 255, 1, 4},
-    {1, 3, 0, 255, 1, 1},   {2, 3, 1, 4, 1, 3},     {2, 3, 1, 128, 1, 1},
-    {2, 3, 1, 4, 2, 2},     {2, 3, 2, 16, 1, 5},    {2, 3, 2, 16, 2, 4},
-    {2, 3, 2, 255, 2, 3},   {2, 3, 2, 255, 1, 0},   {2, 3, 1, 255, 0, 2},
+static const struct order label_orders[] = {
+    {.first = 1, .second = 2, .n = 0, .faults_more = 1},
+    {.first = 1, .second = 2, .n = 0, .labels_more = 1},
+    {.first = 1, .second = 2, .n = 13, .faults_more = -1, .labels_more = 1},
+    {.first = 1, .second = 2, .n = 13, .faults_more = -1024,
+     .labels_more = -8192},
+    {.first = 1, .second = 3, .n = 257, .fault_byte = 255},
+    {.first = 1, .second = 3, .n = 258, .fault_byte = 255},
+    {.first = 1, .second = 3, .n = 0, .fault_byte = 255},
+    {.first = 2, .second = 3, .n = 1, .fault_byte = 4, .labels_more = 1},
+    {.first = 2, .second = 3, .n = 1, .fault_byte = 128, .labels_more = -1},
+    {.first = 2, .second = 3, .n = 1, .fault_byte = 4, .faults_more = 1},
+    {.first = 2, .second = 3, .n = 2, .fault_byte = 16, .labels_more = 1},
+    {.first = 2, .second = 3, .n = 2, .fault_byte = 16, .faults_more = 1},
+    {.first = 2, .second = 3, .n = 2, .fault_byte = 255, .faults_more = 1,
+     .labels_more = -1},
+    {.first = 2, .second = 3, .n = 2, .fault_byte = 255, .labels_more = -4},
+    {.first = 2, .second = 3, .n = 1, .fault_byte = 255, .faults_more = -1},
 };
 
-static void label_order(void)
+static uint32_t label_answer(const struct order *order)
 {
-    static const unsigned order[] = {1, 2, 3};
-    uint8_t faults[8];
-    for (size_t k = 0; k < COUNT(label_orders); k++) {
-        memset(faults, label_orders[k].fault_byte, sizeof faults);
-        expect_first("label",
-                     check_label(label_orders[k].n, faults,
-                                 label_orders[k].faults_len, labels,
-                                 label_orders[k].labels_len),
-                     label_orders[k].first, label_orders[k].second);
-    }
-    expect_all_tried("label", order, COUNT(order));
+    struct label_question asked = fit_label(order->n & 255, faults, labels);
+    memset(faults, order->fault_byte, sizeof faults);
+    asked.n = order->n;
+    asked.faults_len += (size_t)order->faults_more;
+    asked.labels_len += (size_t)order->labels_more;
+    return check_label(asked);
 }
 
 /* ---- hop. n = 260 is 4 once narrowed. */
 
-static const struct {
-    unsigned first, second;
-    uint32_t n, c, d;
-    const char *labels;
-} hop_orders[] = {
-    {1, 2, 0, 0, 0, "00"},
-    {1, 2, 13, 0, 0, "0"},
-    {1, 2, 13, 0, 0, ""},
-    {1, 5, 260, 16, 0, "0000000000000000"},
-    {1, 5, 0, 0, 1, "0"},
-    {1, 4, 260, 0, 1, "4444444444444444"},
-    {1, 4, 0, 0, 0, "4"},
-    {1, 6, 260, 0, 1, "3333333333333333"},
-    {1, 6, 0, 0, 0, "3"},
-    {2, 5, 2, 4, 0, "00000"},
-    {2, 5, 2, 0, 4, "000"},
-    {2, 4, 2, 0, 1, "44444"},
-    {2, 4, 2, 0, 1, "444"},
-    {2, 6, 2, 0, 1, "33333"},
-    {2, 6, 2, 0, 1, "333"},
-    {5, 4, 2, 0, 4, "4444"},
-    {5, 4, 2, 4, 0, "4444"},
-    {5, 6, 2, 0, 4, "3000"},
-    {5, 6, 2, 4, 0, "3333"},
-    {4, 6, 2, 0, 3, "3400"},
-    {4, 6, 2, 0, 0, "3040"},
-    {4, 6, 3, 7, 0, "00000403"},
+static const struct order hop_orders[] = {
+    {.first = 1, .second = 2, .n = 0, .labels = "00"},
+    {.first = 1, .second = 2, .n = 13, .labels = "0"},
+    {.first = 1, .second = 2, .n = 13, .labels = ""},
+    {.first = 1, .second = 5, .n = 260, .s = 16, .labels = "0000000000000000"},
+    {.first = 1, .second = 5, .n = 0, .d = 1, .labels = "0"},
+    {.first = 1, .second = 4, .n = 260, .d = 1, .labels = "xxxxxxxxxxxxxxxx"},
+    {.first = 1, .second = 4, .n = 0, .labels = "x"},
+    {.first = 1, .second = 6, .n = 260, .d = 1, .labels = "3333333333333333"},
+    {.first = 1, .second = 6, .n = 0, .labels = "3"},
+    {.first = 2, .second = 5, .n = 2, .s = 4, .labels = "00000"},
+    {.first = 2, .second = 5, .n = 2, .d = 4, .labels = "000"},
+    {.first = 2, .second = 4, .n = 2, .d = 1, .labels = "xxxxx"},
+    {.first = 2, .second = 4, .n = 2, .d = 1, .labels = "xxx"},
+    {.first = 2, .second = 6, .n = 2, .d = 1, .labels = "33333"},
+    {.first = 2, .second = 6, .n = 2, .d = 1, .labels = "333"},
+    {.first = 5, .second = 4, .n = 2, .d = 4, .labels = "xxxx"},
+    {.first = 5, .second = 4, .n = 2, .s = 4, .labels = "xxxx"},
+    {.first = 5, .second = 6, .n = 2, .d = 4, .labels = "3000"},
+    {.first = 5, .second = 6, .n = 2, .s = 4, .labels = "3333"},
+    {.first = 4, .second = 6, .n = 2, .d = 3, .labels = "3x00"},
+    {.first = 4, .second = 6, .n = 2, .labels = "30x0"},
+    {.first = 4, .second = 6, .n = 3, .s = 7, .labels = "00000x03"},
 };
 
-static void hop_order(void)
+/* Puts the digits into `labels`; how many there are. */
+static size_t put_labels(const char *digits)
 {
-    static const unsigned order[] = {1, 2, 5, 4, 6};
-    for (size_t k = 0; k < COUNT(hop_orders); k++) {
-        size_t len = put_labels(hop_orders[k].labels);
-        expect_first("hop",
-                     check_hop(hop_orders[k].n, hop_orders[k].c, hop_orders[k].d,
-                               labels, len),
-                     hop_orders[k].first, hop_orders[k].second);
-    }
-    expect_all_tried("hop", order, COUNT(order));
+    size_t len = strlen(digits);
+    for (size_t k = 0; k < len; k++)
+        labels[k] = (uint8_t)(digits[k] == 'x' ? LAST_LABEL + 1
+                                               : digits[k] - '0');
+    return len;
+}
+
+static uint32_t hop_answer(const struct order *order)
+{
+    struct hop_question asked =
+        fit_hop(order->n & 255, order->s, order->d, labels);
+    asked.n = order->n;
+    asked.labels_len = put_labels(order->labels);
+    return check_hop(asked);
 }
 
 /* ---- walk. 03300330 swings for ever from 0 to 3, and so does a faulty 8 above
  * it; a node that is one of these once narrowed stands for 5 beside 8. */
 
-static const struct {
-    unsigned first, second;
-    uint32_t n, s, d;
-    const char *labels;
-    size_t row_len;
-} walk_orders[] = {
-    {1, 2, 0, 0, 0, "00", 34},
-    {1, 2, 0, 0, 0, "0", 33},
-    {1, 2, 13, 0, 0, "0", 34},
-    {1, 5, 260, 16, 0, "0000000000000000", 34},
-    {1, 5, 260, 0, 16, "0000000000000000", 34},
-    {1, 4, 260, 0, 1, "0000000000000004", 34},
-    {1, 6, 260, 0, 1, "3000000000000000", 34},
-    {1, 7, 260, 0, 1, "0300000000000000", 34},
-    {1, 8, 260, 0, 3, "0330033033333333", 34},
-    {2, 5, 2, 4, 0, "00000", 34},
-    {2, 5, 2, 4, 0, "0000", 33},
-    {2, 5, 2, 0, 4, "0000", 35},
-    {2, 4, 2, 0, 1, "00004", 34},
-    {2, 4, 2, 0, 1, "0004", 33},
-    {2, 6, 2, 0, 1, "300", 34},
-    {2, 6, 2, 0, 1, "3000", 0},
-    {2, 7, 2, 0, 1, "03000", 34},
-    {2, 7, 2, 0, 1, "0300", 36},
-    {2, 8, 3, 0, 3, "033003300", 34},
-    {2, 8, 3, 0, 3, "03300330", 35},
-    {5, 4, 2, 4, 0, "0004", 34},
-    {5, 4, 2, 0, 4, "4000", 34},
-    {5, 6, 2, 0, 4, "3000", 34},
-    {5, 7, 2, 4, 1, "0300", 34},
-    {5, 8, 3, 65536, 3, "03300330", 34},
-    {5, 8, 3, 0, 8 + 3, "03300330", 34},
-    {4, 6, 2, 0, 1, "3004", 34},
-    {4, 6, 2, 0, 0, "3004", 34},
-    {4, 7, 2, 0, 1, "0304", 34},
-    {4, 8, 3, 0, 3, "03300334", 34},
-    {6, 7, 2, 0, 1, "3300", 34},
-    {6, 7, 2, 0, 0, "3000", 34},
-    {6, 8, 4, 8, 3, "0330033033333333", 34},
-    {7, 8, 3, 0, 3, "03330330", 34},
+static const struct order walk_orders[] = {
+    {.first = 1, .second = 2, .n = 0, .labels = "00"},
+    {.first = 1, .second = 2, .n = 0, .labels = "0", .row_more = -1},
+    {.first = 1, .second = 2, .n = 13, .labels = "0"},
+    {.first = 1, .second = 5, .n = 260, .s = 16, .labels = "0000000000000000"},
+    {.first = 1, .second = 5, .n = 260, .d = 16, .labels = "0000000000000000"},
+    {.first = 1, .second = 4, .n = 260, .d = 1, .labels = "000000000000000x"},
+    {.first = 1, .second = 6, .n = 260, .d = 1, .labels = "3000000000000000"},
+    {.first = 1, .second = 7, .n = 260, .d = 1, .labels = "0300000000000000"},
+    {.first = 1, .second = 8, .n = 260, .d = 3, .labels = "0330033033333333"},
+    {.first = 2, .second = 5, .n = 2, .s = 4, .labels = "00000"},
+    {.first = 2, .second = 5, .n = 2, .s = 4, .labels = "0000", .row_more = -1},
+    {.first = 2, .second = 5, .n = 2, .d = 4, .labels = "0000", .row_more = 1},
+    {.first = 2, .second = 4, .n = 2, .d = 1, .labels = "0000x"},
+    {.first = 2, .second = 4, .n = 2, .d = 1, .labels = "000x", .row_more = -1},
+    {.first = 2, .second = 6, .n = 2, .d = 1, .labels = "300"},
+    {.first = 2, .second = 6, .n = 2, .d = 1, .labels = "3000", .row_more = -34},
+    {.first = 2, .second = 7, .n = 2, .d = 1, .labels = "03000"},
+    {.first = 2, .second = 7, .n = 2, .d = 1, .labels = "0300", .row_more = 2},
+    {.first = 2, .second = 8, .n = 3, .d = 3, .labels = "033003300"},
+    {.first = 2, .second = 8, .n = 3, .d = 3, .labels = "03300330", .row_more = 1},
+    {.first = 5, .second = 4, .n = 2, .s = 4, .labels = "000x"},
+    {.first = 5, .second = 4, .n = 2, .d = 4, .labels = "x000"},
+    {.first = 5, .second = 6, .n = 2, .d = 4, .labels = "3000"},
+    {.first = 5, .second = 7, .n = 2, .s = 4, .d = 1, .labels = "0300"},
+    {.first = 5, .second = 8, .n = 3, .s = 65536, .d = 3, .labels = "03300330"},
+    {.first = 5, .second = 8, .n = 3, .d = 8 + 3, .labels = "03300330"},
+    {.first = 4, .second = 6, .n = 2, .d = 1, .labels = "300x"},
+    {.first = 4, .second = 6, .n = 2, .labels = "300x"},
+    {.first = 4, .second = 7, .n = 2, .d = 1, .labels = "030x"},
+    {.first = 4, .second = 8, .n = 3, .d = 3, .labels = "0330033x"},
+    {.first = 6, .second = 7, .n = 2, .d = 1, .labels = "3300"},
+    {.first = 6, .second = 7, .n = 2, .labels = "3000"},
+    {.first = 6, .second = 8, .n = 4, .s = 8, .d = 3, .labels = "0330033033333333"},
+    {.first = 7, .second = 8, .n = 3, .d = 3, .labels = "03330330"},
 };
 
-static void walk_order(void)
+static uint32_t walk_answer(const struct order *order)
 {
-    static const unsigned order[] = {1, 2, 5, 4, 6, 7, 8};
-    for (size_t k = 0; k < COUNT(walk_orders); k++) {
-        size_t len = put_labels(walk_orders[k].labels);
-        expect_first("walk",
-                     check_walk(walk_orders[k].n, walk_orders[k].s,
-                                walk_orders[k].d, labels, len, row,
-                                walk_orders[k].row_len),
-                     walk_orders[k].first, walk_orders[k].second);
+    struct walk_question asked =
+        fit_walk(order->n & 255, order->s, order->d, labels, row);
+    asked.n = order->n;
+    asked.labels_len = put_labels(order->labels);
+    asked.row_len += (size_t)order->row_more;
+    return check_walk(asked);
+}
+
+/* ---- all of them */
+
+static int is_tried(unsigned first, unsigned second, const struct order *orders,
+                    size_t count)
+{
+    for (size_t k = 0; k < count; k++)
+        if (orders[k].first == first && orders[k].second == second)
+            return 1;
+    return 0;
+}
+
+/* Asks all, and expects that each pair of the question's refusals is among them. */
+static void check_order(const struct question *question,
+                        uint32_t (*answer_to)(const struct order *),
+                        const struct order *orders, size_t count)
+{
+    for (size_t k = 0; k < count; k++) {
+        uint32_t answer = answer_to(&orders[k]);
+        expect(answer == REFUSED(orders[k].first),
+               "%s: %08x, where %u is before %u", question->name, answer,
+               orders[k].first, orders[k].second);
     }
-    expect_all_tried("walk", order, COUNT(order));
+    for (const unsigned *a = question->refusals; *a; a++)
+        for (const unsigned *b = a + 1; *b; b++)
+            expect(is_tried(*a, *b, orders, count),
+                   "%s: %u and %u were not tried", question->name, *a, *b);
 }
 
 void check_orders(void)
 {
     begin_group("each order of two refusals");
     memset(row, 0xee, sizeof row);
-    label_order();
-    hop_order();
-    walk_order();
+    check_order(&questions[LABEL], label_answer, label_orders,
+                COUNT(label_orders));
+    check_order(&questions[HOP], hop_answer, hop_orders, COUNT(hop_orders));
+    check_order(&questions[WALK], walk_answer, walk_orders, COUNT(walk_orders));
     end_group();
 }

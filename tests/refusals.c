@@ -1,12 +1,11 @@
 /*
- * refusals.c: labelling, hop and walk on inputs that are refused: every length,
- * numbers that would fit once narrowed, and each order of two refusals.
+ * refusals.c: labelling, hop and walk on inputs that are refused: random damage,
+ * lengths of every kind, and numbers that would fit once narrowed.
  */
 #define _DEFAULT_SOURCE /* MAP_ANONYMOUS, MAP_NORESERVE */
 #include <string.h>
 #include <sys/mman.h>
 
-#include "../include/hcube.h"
 #include "cases.h"
 #include "check.h"
 #include "groups.h"
@@ -52,16 +51,44 @@ static size_t any_length(size_t exact)
     }
 }
 
-/* Some bytes above 3: none, one at a place near c, or one anywhere. */
+/* Some bytes that are no label: none, one at a place near c, or one anywhere. */
 static void damage_labels(uint32_t n, uint32_t c)
 {
     uint32_t nodes = 1u << n, k = random_below(nodes);
     if (random_below(4) == 0)
-        labels[(c ^ 1u << random_below(n)) & (nodes - 1)] = 4;
+        labels[(c ^ 1u << random_below(n)) & (nodes - 1)] = LAST_LABEL + 1;
     if (random_below(8) == 0)
-        labels[k] = (uint8_t)(4 + random_below(252));
+        labels[k] = (uint8_t)(LAST_LABEL + 1 + random_below(255 - LAST_LABEL));
     if (random_below(8) == 0)
         labels[c & (nodes - 1)] = random_below(2) ? 255 : 3;
+}
+
+/* `fitting` is the dimension that the tables are made for. */
+static void damaged_label(uint32_t n, uint32_t fitting)
+{
+    struct label_question asked = fit_label(fitting, faults, labels);
+    random_faults(fitting, random_density(fitting), faults);
+    if (random_below(4) == 0)
+        faults[0] |= (uint8_t)(1u << random_below(8));
+    asked.n = n;
+    asked.faults_len = any_length(asked.faults_len);
+    asked.labels_len = any_length(asked.labels_len);
+    check_label(asked);
+}
+
+static void damaged_hop_and_walk(uint32_t n, uint32_t fitting)
+{
+    uint32_t s = any_node(fitting), d = any_node(fitting);
+    struct hop_question hop = fit_hop(fitting, s, d, labels);
+    struct walk_question walk = fit_walk(fitting, s, d, labels, row);
+    random_labels(fitting, LAST_LABEL, labels);
+    damage_labels(fitting, s);
+    hop.n = walk.n = n;
+    hop.labels_len = any_length(hop.labels_len);
+    check_hop(hop);
+    walk.labels_len = any_length(walk.labels_len);
+    walk.row_len = any_length(walk.row_len);
+    check_walk(walk);
 }
 
 void check_damaged(void)
@@ -69,16 +96,8 @@ void check_damaged(void)
     begin_group("24,000 damaged tables");
     for (unsigned k = 0; k < 24000; k++) {
         uint32_t n = any_dimension(), fitting = 1 + (n - 1) % 12;
-        size_t nodes = (size_t)1 << fitting, bytes = ref_fault_bytes(fitting);
-        uint32_t s = any_node(fitting), d = any_node(fitting);
-        random_faults(fitting, random_density(fitting), faults);
-        if (random_below(4) == 0)
-            faults[0] |= (uint8_t)(1u << random_below(8));
-        check_label(n, faults, any_length(bytes), labels, any_length(nodes));
-        random_labels(fitting, 3, labels);
-        damage_labels(fitting, s);
-        check_hop(n, s, d, labels, any_length(nodes));
-        check_walk(n, s, d, labels, any_length(nodes), row, any_length(34));
+        damaged_label(n, fitting);
+        damaged_hop_and_walk(n, fitting);
     }
     end_group();
 }
@@ -96,38 +115,61 @@ static size_t length_number(unsigned k, size_t exact)
 
 static void lengths_of(uint32_t n)
 {
-    size_t nodes = (size_t)1 << n, bytes = ref_fault_bytes(n);
+    struct hop_question hop = fit_hop(n, 0, 1, labels);
+    struct walk_question walk = fit_walk(n, 0, 1, labels, row);
+    struct label_question label = fit_label(n, faults, row);
+    size_t nodes = hop.labels_len, bytes = label.faults_len;
+    memset(labels, 0, sizeof labels);
     for (unsigned a = 0; a < LENGTHS; a++) {
-        size_t first = length_number(a, nodes);
-        memset(labels, 0, sizeof labels);
-        check_hop(n, 0, 1, labels, first);
+        hop.labels_len = length_number(a, nodes);
+        walk.labels_len = label.labels_len = hop.labels_len;
+        check_hop(hop);
         for (unsigned b = 0; b < LENGTHS; b++) {
-            check_walk(n, 0, 1, labels, first, row, length_number(b, 34));
+            walk.row_len = length_number(b, ROW_BYTES);
+            check_walk(walk);
             random_faults(n, 200, faults);
-            check_label(n, faults, length_number(b, bytes), row, first);
+            label.faults_len = length_number(b, bytes);
+            check_label(label);
         }
     }
 }
 
-/* A length that is right in its low 32 bits alone. */
+/* Each buffer of n = 3 in turn is `big` and too long: right in the low 32 bits
+ * of its length alone. */
+static void lengths_with(uint8_t *big, size_t beyond)
+{
+    uint8_t small[ROW_BYTES] = {0};
+    struct label_question label = fit_label(3, big, small);
+    struct hop_question hop = fit_hop(3, 0, 1, big);
+    struct walk_question walk = fit_walk(3, 0, 1, big, small);
+    label.faults_len += beyond;
+    hop.labels_len += beyond;
+    walk.labels_len += beyond;
+    expect(ask_label(label) == REFUSED(2), "fault table");
+    expect(ask_hop(hop) == REFUSED(2), "hop");
+    expect(ask_walk(walk) == REFUSED(2), "walk");
+    label = fit_label(3, small, big);
+    walk = fit_walk(3, 0, 1, small, big);
+    label.labels_len += beyond;
+    walk.row_len += beyond;
+    expect(ask_label(label) == REFUSED(2), "label table");
+    expect(ask_walk(walk) == REFUSED(2), "row");
+    big[0] = 3;
+    expect(hcube_read_notice(big, beyond, small, 1) == NOTICE_READ(3, 0, 2),
+           "notice");
+    expect(hcube_read_notice(big, 2, big + 8, beyond + 1) == NOTICE_REFUSED(2),
+           "notice's table");
+}
+
 static void lengths_beyond_32_bits(void)
 {
     size_t beyond = (size_t)1 << 32;
     uint8_t *big = mmap(NULL, beyond + 4096, PROT_READ | PROT_WRITE,
                         MAP_PRIVATE | MAP_ANONYMOUS | MAP_NORESERVE, -1, 0);
-    uint8_t small[34] = {0};
     expect(big != MAP_FAILED, "no address space of 4 GiB");
     if (big == MAP_FAILED)
         return;
-    expect(hcube_label(3, big, beyond + 1, small, 8) == 2u << 24, "fault table");
-    expect(hcube_label(3, small, 1, big, beyond + 8) == 2u << 24, "label table");
-    expect(hcube_hop(3, 0, 1, big, beyond + 8) == 2u << 24, "hop");
-    expect(hcube_walk(3, 0, 1, big, beyond + 8, small, 34) == 2u << 24, "walk");
-    expect(hcube_walk(3, 0, 1, small, 8, big, beyond + 34) == 2u << 24, "row");
-    big[0] = 3;
-    expect(hcube_read_notice(big, beyond, small, 1) == 0x300000002u, "notice");
-    expect(hcube_read_notice(big, 2, big + 8, beyond + 1) >> 48 == 2,
-           "notice's table");
+    lengths_with(big, beyond);
     munmap(big, beyond + 4096);
 }
 
@@ -143,27 +185,46 @@ void check_lengths(void)
 
 /* ---- numbers that would be good once narrowed to 8 or 16 bits */
 
+/* Asked with the tables of n = 4, whatever n is given: nobody is faulty. */
+static uint32_t label_at_4(uint32_t n)
+{
+    struct label_question asked = fit_label(4, faults, row);
+    asked.n = n;
+    return check_label(asked);
+}
+
+static uint32_t hop_at_4(uint32_t n, uint32_t c, uint32_t d)
+{
+    struct hop_question asked = fit_hop(4, c, d, labels);
+    asked.n = n;
+    return check_hop(asked);
+}
+
+static uint32_t walk_at_4(uint32_t n, uint32_t s, uint32_t d)
+{
+    struct walk_question asked = fit_walk(4, s, d, labels, row);
+    asked.n = n;
+    return check_walk(asked);
+}
+
 void check_plain_numbers(void)
 {
     static const uint32_t more[] = {16, 256, 65536, 65536 * 3, 1u << 24,
                                     1u << 31, 0u - 16};
     begin_group("numbers tested before they are narrowed");
+    memset(faults, 0, sizeof faults);
     memset(labels, 0, sizeof labels);
     for (unsigned k = 0; k < COUNT(more); k++) {
-        faults[0] = 0;
-        expect(check_label(3 + more[k], faults, 1, row, 8) == 1u << 24, "label");
-        expect(check_hop(4 + more[k], 0, 1, labels, 16) == 1u << 24, "hop");
-        expect(check_walk(4 + more[k], 0, 1, labels, 16, row, 34) == 1u << 24,
-               "walk");
-        expect(check_hop(4, more[k], 1, labels, 16) == 5u << 24, "c");
-        expect(check_hop(4, 1, more[k] + 2, labels, 16) == 5u << 24, "d");
-        expect(check_walk(4, more[k] + 3, 1, labels, 16, row, 34) == 5u << 24,
-               "source");
-        expect(check_walk(4, 1, more[k], labels, 16, row, 34) == 5u << 24,
-               "destination");
+        expect(label_at_4(4 + more[k]) == REFUSED(1), "label");
+        expect(hop_at_4(4 + more[k], 0, 1) == REFUSED(1), "hop");
+        expect(walk_at_4(4 + more[k], 0, 1) == REFUSED(1), "walk");
+        expect(hop_at_4(4, more[k], 1) == REFUSED(5), "c");
+        expect(hop_at_4(4, 1, more[k] + 2) == REFUSED(5), "d");
+        expect(walk_at_4(4, more[k] + 3, 1) == REFUSED(5), "source");
+        expect(walk_at_4(4, 1, more[k]) == REFUSED(5), "destination");
     }
-    expect(check_hop(0xffffffffu, 0, 0, labels, 16) == 1u << 24, "n");
-    expect(check_hop(4, 0xffffffffu, 0, labels, 16) == 5u << 24, "c");
-    expect(check_walk(4, 0, 0xffffffffu, labels, 16, row, 34) == 5u << 24, "d");
+    expect(hop_at_4(0xffffffffu, 0, 0) == REFUSED(1), "n");
+    expect(hop_at_4(4, 0xffffffffu, 0) == REFUSED(5), "c");
+    expect(walk_at_4(4, 0, 0xffffffffu) == REFUSED(5), "d");
     end_group();
 }

@@ -18,15 +18,15 @@ static uint8_t faults[MOST_FAULT_BYTES], labels[MOST_NODES];
 static uint32_t label_table(uint32_t n)
 {
     random_bytes(labels, (size_t)1 << n);
-    return check_label(n, faults, ref_fault_bytes(n), labels, (size_t)1 << n);
+    return check_label(fit_label(n, faults, labels));
 }
 
 static void hop_and_walk(uint32_t n, uint32_t s, uint32_t d)
 {
-    uint8_t row[34];
+    uint8_t row[ROW_BYTES];
     random_bytes(row, sizeof row);
-    check_hop(n, s, d, labels, (size_t)1 << n);
-    check_walk(n, s, d, labels, (size_t)1 << n, row, sizeof row);
+    check_hop(fit_hop(n, s, d, labels));
+    check_walk(fit_walk(n, s, d, labels, row));
 }
 
 static void all_pairs(uint32_t n)
@@ -42,26 +42,30 @@ static void some_pairs(uint32_t n, unsigned count)
         hop_and_walk(n, random_below(1u << n), random_below(1u << n));
 }
 
+/* Puts the label table of this number; 0 if there are not so many. */
+static int put_labels(uint32_t n, unsigned number)
+{
+    for (uint32_t k = 0; k < 1u << n; k++, number /= LAST_LABEL + 1)
+        labels[k] = (uint8_t)(number % (LAST_LABEL + 1));
+    return number == 0;
+}
+
 /* Every fault table up to n = 3 with every pair, and every byte that is none
- * since an unused bit is set; every label table of bytes 0 to 3 up to n = 2
- * with every pair. */
+ * since an unused bit is set; every label table up to n = 2 with every pair. */
 void check_small_cubes(void)
 {
     begin_group("all fault tables to n = 3, all pairs");
     for (uint32_t n = 1; n <= 3; n++)
         for (unsigned table = 0; table < 256; table++) {
             faults[0] = (uint8_t)table;
-            if (label_table(n) >> 24 == 0)
+            if (HCUBE_REFUSAL(label_table(n)) == 0)
                 all_pairs(n);
         }
     end_group();
     begin_group("all label tables to n = 2, all pairs");
     for (uint32_t n = 1; n <= 2; n++)
-        for (unsigned table = 0; table < 1u << (2u << n); table++) {
-            for (unsigned k = 0; k < 1u << n; k++)
-                labels[k] = table >> 2 * k & 3;
+        for (unsigned number = 0; put_labels(n, number); number++)
             all_pairs(n);
-        }
     end_group();
 }
 
@@ -118,7 +122,7 @@ void check_random_tables(void)
 static void mixed_labels(uint32_t n)
 {
     unsigned safe = random_below(100);
-    random_labels(n, 3, labels);
+    random_labels(n, LAST_LABEL, labels);
     for (uint32_t k = 0; k < 1u << n; k++)
         if (random_below(100) < safe)
             labels[k] = random_below(100) < 50 ? 0 : 3;
@@ -143,13 +147,13 @@ void check_hop_reads(void)
     for (unsigned k = 0; k < 6000; k++) {
         uint32_t n = 1 + k % 12, c = random_below(1u << n);
         uint32_t d = random_below(1u << n), answer;
-        random_labels(n, random_below(10) ? 3 : 4, labels);
-        answer = check_hop(n, c, d, labels, (size_t)1 << n);
+        random_labels(n, LAST_LABEL + (random_below(10) == 0), labels);
+        answer = check_hop(fit_hop(n, c, d, labels));
         random_bytes(other, (size_t)1 << n);
         other[c] = labels[c];
         for (uint32_t i = 0; i < n; i++)
             other[c ^ 1u << i] = labels[c ^ 1u << i];
-        expect(check_hop(n, c, d, other, (size_t)1 << n) == answer,
+        expect(check_hop(fit_hop(n, c, d, other)) == answer,
                "n = %u, at %u for %u: by another byte", n, c, d);
     }
     end_group();
@@ -164,11 +168,10 @@ void check_label_buffer(void)
         uint32_t n = 1 + k % 12, answer;
         random_faults(n, random_density(n), faults);
         memset(first, 0, sizeof first);
-        answer = check_label(n, faults, ref_fault_bytes(n), first, (size_t)1 << n);
+        answer = check_label(fit_label(n, faults, first));
         for (unsigned fill = 1; fill <= 6; fill++) {
             memset(labels, fill < 6 ? (int)fill : 255, sizeof labels);
-            expect(check_label(n, faults, ref_fault_bytes(n), labels,
-                               (size_t)1 << n) == answer,
+            expect(check_label(fit_label(n, faults, labels)) == answer,
                    "n = %u: another answer over %u", n, fill);
             expect(!memcmp(labels, first, (size_t)1 << n),
                    "n = %u: other labels over %u", n, fill);

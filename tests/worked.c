@@ -7,7 +7,6 @@
 #include "check.h"
 #include "groups.h"
 
-#define REFUSED(k) ((uint32_t)(k) << 24)
 #define HALTED(hops) (0x10000u + (hops))
 
 /* Labels of the table at hand; its dimension. */
@@ -23,7 +22,7 @@ static void label(uint32_t dimension, unsigned faults, uint32_t rounds)
     table[0] = (uint8_t)faults;
     table[1] = (uint8_t)(faults >> 8);
     memset(labels, 0xee, sizeof labels);
-    answer = check_label(n, table, n == 4 ? 2 : 1, labels, (size_t)1 << n);
+    answer = check_label(fit_label(n, table, labels));
     expect(answer == rounds, "labels of %04x: answer %08x", faults, answer);
 }
 
@@ -37,21 +36,21 @@ static void labels_are(const char *digits)
 /* Walks and expects this answer and these places; unused places are zero. */
 static void walk(uint32_t s, uint32_t d, uint32_t answer, const char *places)
 {
-    uint8_t row[34], want[34];
+    uint8_t row[ROW_BYTES], want[ROW_BYTES];
     uint32_t got;
     memset(row, 0xee, sizeof row);
-    memset(want, answer >> 24 ? 0xee : 0, sizeof want);
+    memset(want, HCUBE_REFUSAL(answer) ? 0xee : 0, sizeof want);
     for (size_t k = 0; places[k]; k++)
         want[2 * k] = (uint8_t)(places[k] >= 'a' ? places[k] - 'a' + 10
                                                  : places[k] - '0');
-    got = check_walk(n, s, d, labels, (size_t)1 << n, row, sizeof row);
+    got = check_walk(fit_walk(n, s, d, labels, row));
     expect(got == answer, "walk %u to %u: %08x", s, d, got);
     expect(!memcmp(row, want, sizeof row), "walk %u to %u: row", s, d);
 }
 
 static void hop(uint32_t c, uint32_t d, uint32_t answer)
 {
-    uint32_t got = check_hop(n, c, d, labels, (size_t)1 << n);
+    uint32_t got = check_hop(fit_hop(n, c, d, labels));
     expect(got == answer, "hop at %u for %u: %08x", c, d, got);
 }
 
@@ -128,9 +127,9 @@ static void groups(void)
     memset(faults, 0xee, sizeof faults);
     expect(check_notice(good, 4, faults, 32) == 0x800010004u, "C8 01 is 200");
     expect(faults[25] == 1, "node 200 is faulty");
-    expect(check_notice(zero, 2, faults, 32) >> 48 == 10, "81 00");
-    expect(check_notice(high, 2, faults, 32) >> 48 == 10, "81 81");
-    expect(check_notice(zero, 1, faults, 32) >> 48 == 9, "81");
+    expect(check_notice(zero, 2, faults, 32) == NOTICE_REFUSED(10), "81 00");
+    expect(check_notice(high, 2, faults, 32) == NOTICE_REFUSED(10), "81 81");
+    expect(check_notice(zero, 1, faults, 32) == NOTICE_REFUSED(9), "81");
 }
 
 void check_worked_numbers(void)

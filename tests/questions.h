@@ -1,0 +1,72 @@
+/*
+ * questions.h: what is asked of the library, each question with all that it is
+ * handed. A test that says nothing of a parameter leaves it as fit_label,
+ * fit_hop or fit_walk gives it.
+ */
+#ifndef QUESTIONS_H
+#define QUESTIONS_H
+
+#include <stddef.h>
+#include <stdint.h>
+
+#include "../include/hcube.h"
+#include "reference.h"
+
+/* The largest label and refusal that there is room to count, whether or not
+ * they come up yet. One above them fails the test that meets it. */
+#define MOST_LABEL 4
+#define MOST_REFUSAL 19
+
+enum { LABEL, HOP, WALK, NOTICE, QUESTIONS };
+
+/* Name and refusals of each question; 0 ends the row. Labelling, hop and walk
+ * test theirs in this order; a notice is read from left to right. */
+extern const struct question {
+    const char *name;
+    unsigned refusals[MOST_REFUSAL + 1];
+} questions[QUESTIONS];
+
+/* What a question is handed. */
+struct label_question {
+    uint32_t n;
+    const uint8_t *faults;
+    size_t faults_len;
+    uint8_t *labels;
+    size_t labels_len;
+};
+
+struct hop_question {
+    uint32_t n, c, d;
+    const uint8_t *labels;
+    size_t labels_len;
+};
+
+struct walk_question {
+    uint32_t n, s, d;
+    const uint8_t *labels;
+    size_t labels_len;
+    uint8_t *row;
+    size_t row_len;
+};
+
+/* Questions in which each length is the one that n asks for. A test of refusals
+ * then changes what is to be refused. */
+struct label_question fit_label(uint32_t n, const uint8_t *faults,
+                                uint8_t *labels);
+struct hop_question fit_hop(uint32_t n, uint32_t c, uint32_t d,
+                            const uint8_t *labels);
+struct walk_question fit_walk(uint32_t n, uint32_t s, uint32_t d,
+                              const uint8_t *labels, uint8_t *row);
+
+/* Each asks the library alone, with the buffers themselves. */
+uint32_t ask_label(struct label_question asked);
+uint32_t ask_hop(struct hop_question asked);
+uint32_t ask_walk(struct walk_question asked);
+
+/* Whole answers. A refusal has zero in every other field. */
+#define REFUSED(refusal) ((uint32_t)(refusal) << 24)
+#define NOTICE_REFUSED(refusal) ((uint64_t)(refusal) << 48)
+#define NOTICE_READ(n, count, taken)                                           \
+    (((uint64_t)(n) << 32) + ((uint64_t)(count) << 16) + (uint64_t)(taken))
+
+#endif
