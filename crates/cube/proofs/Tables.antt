@@ -62,6 +62,14 @@ table-room n = go (either (leb 3 n))
 pub node-room : (n k m : ℕ) → m ≡ tableLen n → k < 2 ^ n → k / 8 < m
 node-room n k m e h = omega (arith, table-room n)
 
+-- a fault table has at most 512 bytes
+pub table-few : (n : ℕ) → n ≤ 12 → tableLen n ≤ 512
+table-few n h = go (either (leb 3 n))
+  where
+    go : (leb 3 n ≡ true) ⊎ (leb 3 n ≡ false) → tableLen n ≤ 512
+    go (inl a) = omega (arith, table-full n (leb-true 3 n a), nodes-few n h)
+    go (inr a) = omega (arith, leb-false 3 n a, len-small n (omega (arith, leb-false 3 n a)))
+
 -- ---- the unused bits
 
 pub unused-none : (n : ℕ) (t : List ℕ) → 3 ≤ n → length t ≡ tableLen n → unusedSet n t ≡ false

@@ -1,22 +1,23 @@
 -- Demand 1: the answer and what each buffer holds afterwards go by one refusal number, so a refused answer means that the old content was chosen.
-use mathlib.Core.Bool.{not, _&&_}
+use mathlib.Core.Bool.{true, false, not}
 use mathlib.Core.List.{List}
-use mathlib.Core.Path.{_≡_, refl, _∙_}
+use mathlib.Core.Path.{_≡_, refl, ap, _∙_}
 use Prim.Native.Nat.{ℕ, zero, suc, _*_}
 use native.Mathlib.Omega.{arith}
 use lib.Dec.{eqb}
 use lib.ListN.{getD, length, replicate}
-use borrow.Author.Tests.{ne-eqb}
-use Rattle.cube.specs.Tables.{isDimension, labelIn}
+use borrow.Author.Tests.{eqb-true, ne-eqb, not-false}
+use Rattle.cube.specs.Tables.{tab}
 use Rattle.cube.proofs.Bools.{by-cases}
-use Rattle.hcube.specs.Answers.{rowAfter, walkNumber, walkedFor}
-use Rattle.labels.specs.Cabinet.{Cabinet}
+use Rattle.cube.proofs.Refusal.{first-none}
+use Rattle.hcube.specs.Answers.{hasRow, rowAfter, rowByte, walkNumber}
+use Rattle.rule.specs.Cabinet.{Cabinet}
 use Rattle.labels.specs.Labelling.{labelRefusal, labelled, labelsAfter}
-use Rattle.labels.proofs.Refusal.{of-refused}
 use Rattle.labels.specs.declared.Labelled.the-variants as labelled
+use Rattle.labels.proofs.Refusal.{of-refused}
 use Rattle.notice.proofs.Named as named
-use Rattle.route.specs.Hop.{hop, hopped}
-use Rattle.route.specs.Walk.{finished, refused, row, hops, last, startRefusal, walkFrom, walked}
+use Rattle.route.specs.Hop.{hopped}
+use Rattle.route.specs.Walk.{endingOf, last, refused, row, rowBytes, stops, walkFrom, walkRefusal, walkTests, walked}
 use Rattle.route.specs.declared.Decision.{Decision}
 use Rattle.route.specs.declared.Decision.the-variants.{Deliver, Hop, Halted}
 use Rattle.route.specs.declared.Ending.the-variants as ending
@@ -44,23 +45,36 @@ zeros zero i = refl
 zeros (suc n) zero = refl
 zeros (suc n) (suc i) = zeros n i
 
-refused-blank : (m : ℕ) → Blank (refused m)
-unfolding refused
-refused-blank m k e = record { count = refl; zeros = zeros 17 }
+-- a decision that ends the walk is no refusal
+ends-well : (x : Decision) → stops x ≡ true → hasRow (endingOf x) ≡ true
+unfolding stops
+ends-well Deliver e = refl
+ends-well (Hop i) e = let z : _≡_ {A = ℕ} 0 1 = cc in absurd (omega arith)
+ends-well Halted e = refl
 
-finished-blank : (r : List ℕ) (h : ℕ) (x : Decision) → Blank (finished r h x)
-unfolding finished
-finished-blank r h Deliver k e = let z : _≡_ {A = ℕ} 0 1 = cc in absurd (omega arith)
-finished-blank r h (Hop i) k e = refused-blank 8 k e
-finished-blank r h Halted k e = let z : _≡_ {A = ℕ} 0 1 = cc in absurd (omega arith)
+module _ (n s d m room : ℕ) (lab : ℕ → ℕ) where
+  -- where nothing is refused, the last decision is no hop
+  has-row : walkRefusal n s d m room lab ≡ 0 → hasRow (walkFrom n lab d s .ending) ≡ true
+  unfolding walkRefusal walkFrom
+  has-row e =
+      let t = first-none 12 (walkTests n s d m room lab) refl e in
+      ends-well (last n lab d s) (not-false _ (t .1 .1 .1 .1 .1 .1 .1 .0))
 
-walk-blank : (n s d : ℕ) (labels : List ℕ) (m : ℕ) → Blank (walkedFor n s d labels m)
-unfolding walkedFor walked walkFrom
-walk-blank n s d labels m =
-    by-cases Blank (isDimension n && not (eqb m 34)) (λ _. refused-blank 2)
-    (λ _. by-cases Blank (eqb (startRefusal n s d labels) 0)
-    (λ _. finished-blank (row n (labelIn labels) d s) (hops n (labelIn labels) d s) (last n (labelIn labels) d s))
-    (λ _. refused-blank (startRefusal n s d labels)))
+  walk-blank : Blank (walked n s d m room lab)
+  unfolding walked refused
+  walk-blank =
+      by-cases Blank (eqb (walkRefusal n s d m room lab) 0)
+      (λ z k e. let h = has-row (eqb-true (walkRefusal n s d m room lab) 0 z) in let q : _≡_ {A = ℕ} 0 1 = cc (ap hasRow e) in absurd (omega arith))
+      (λ _ k e. record { count = refl; zeros = zeros 17 })
+
+  walk-answered : walkRefusal n s d m room lab ≡ 0 → walked n s d m room lab ≡ walkFrom n lab d s
+  unfolding walked
+  walk-answered e = rw e
+
+  row-written : (before : List ℕ) → walkRefusal n s d m room lab ≡ 0
+      → rowAfter (walked n s d m room lab) before ≡ tab rowBytes (rowByte (row n lab d s))
+  unfolding rowAfter walkFrom
+  row-written before e = rw (walk-answered e, has-row e)
 
 row-kept : (w : Walked) (before : List ℕ) (k : ℕ) → w .ending ≡ ending.Refused k → rowAfter w before ≡ before
 unfolding rowAfter
@@ -70,18 +84,20 @@ walk-number : (w : Walked) (k : ℕ) → Blank w → w .ending ≡ ending.Refuse
 walk-number w k b e = let z = b k e .count in rw (e) (omega arith)
 
 pub demand1 : Demand1
-unfolding labelled labelsAfter hopped labelIn
+unfolding labelled labelsAfter hopped
 demand1 =
     record {
       labels-kept = labels-kept;
       table-kept = named.kept;
-      row-kept = λ n s d labels before. row-kept (walkedFor n s d labels (length before)) before;
+      row-kept = λ n s d m lab before. row-kept (walked n s d m (length before) lab) before;
       label-number = λ k. omega arith;
       hop-number = λ k. omega arith;
-      walk-number = λ n s d labels m k. walk-number (walkedFor n s d labels m) k (walk-blank n s d labels m);
-      walk-zeros = λ n s d labels m k i e. walk-blank n s d labels m k e .zeros i;
+      walk-number = λ n s d m room lab k. walk-number (walked n s d m room lab) k (walk-blank n s d m room lab);
+      walk-zeros = λ n s d m room lab k i e. walk-blank n s d m room lab k e .zeros i;
       notice-number = λ k. omega arith;
       label-answered = λ K m e. rw e;
       labels-written = λ K before e. rw e;
-      hop-answered = λ n c d labels e. rw e;
+      hop-answered = λ n c d m lab e. rw e;
+      walk-answered = walk-answered;
+      row-written = λ n s d m lab before. row-written n s d m (length before) lab before;
     }

@@ -1,9 +1,3 @@
-pub mod Decision
-pub mod Toward
-pub mod Progress
-pub mod Walks
 pub mod Demand1
-pub mod Demand2
-pub mod Demand3
 pub mod Settled
 pub mod Worked

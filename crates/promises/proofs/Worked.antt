@@ -2,19 +2,21 @@
 use mathlib.Core.List.{List, [], _∷_}
 use mathlib.Core.Path.{_≡_, refl, ap, _∙_}
 use Prim.Native.Nat.{ℕ}
+use lib.Count.{ones}
 use Rattle.cube.specs.Count.{count, least, some}
 use Rattle.cube.specs.Cube.{bit, flip, apart, dist}
 use Rattle.cube.specs.Refusal.{first}
 use Rattle.cube.specs.Tables.{tab, isDimension, tableLen, nodeBit, unusedSet, labelIn}
-use Rattle.labels.specs.Cabinet.{Cabinet}
-use Rattle.labels.specs.Labelling.{labelRefusal, roundsOf, labelsOf, labelled}
-use Rattle.labels.specs.Rule.{meets, newly, marked, quiet, working, rounds, safe, labelOf, label}
-use Rattle.route.specs.Hop.{leads, hits, lowest, scan, answer, decide, hop}
-use Rattle.route.specs.Walk.{onto, stops, spot, turn, hops, last, row, startRefusal, refused, finished, walkFrom, walked}
+use Rattle.rule.specs.Cabinet.{Cabinet, labelsOf, roundsOf}
+use Rattle.rule.specs.Rule.{meets, newly, marked, quiet, working, rounds, safe, labelOf, label}
+use Rattle.scans.specs.Scans.{suits, takes, lowest, firstScan}
+use Rattle.labels.specs.Labelling.{labelRefusal, labelled}
+use Rattle.route.specs.Hop.{answer, decide, hop}
+use Rattle.route.specs.Walk.{onto, stops, spot, turn, hops, last, row, rowBytes, refused, walkFrom, walkRefusal, walked}
 use Rattle.route.specs.declared.Walked.{Walked}
-use Rattle.promises.specs.Demand3.{walkOf}
+use Rattle.theorems.specs.Words.{walkOf}
 use Rattle.promises.specs.Worked.{k4, q3, those, visited, Worked}
-use lib.Count.{ones}
+use lib.ListN.{length}
 
 k4-labels : labelsOf k4 ≡ 1 ∷ 0 ∷ 3 ∷ 0 ∷ 3 ∷ 0 ∷ 1 ∷ 0 ∷ 3 ∷ 0 ∷ 1 ∷ 0 ∷ 1 ∷ 0 ∷ 2 ∷ 3 ∷ []
 unfolding labelsOf label labelOf safe rounds working quiet newly meets marked count least some flip tab nodeBit bit
@@ -24,12 +26,15 @@ q3-labels : labelsOf q3 ≡ 2 ∷ 3 ∷ 3 ∷ 2 ∷ 3 ∷ 2 ∷ 2 ∷ 2 ∷ []
 unfolding labelsOf label labelOf safe rounds working quiet newly meets marked count least some flip tab nodeBit bit
 q3-labels = refl
 
--- a walk on the labels of a table is the walk on what they compute to
-on : {w : Walked} (K : Cabinet) (s d : ℕ) (labels : List ℕ) → labelsOf K ≡ labels → walked (K .n) s d labels ≡ w → walkOf K s d ≡ w
-on K s d labels e f = ap (walked (K .n) s d) e ∙ f
+-- a walk on the labels of a cabinet is the walk on what they compute to
+on : {w : Walked} (K : Cabinet) (s d : ℕ) (labels : List ℕ) → labelsOf K ≡ labels → walked (K .n) s d (length labels) rowBytes (labelIn labels) ≡ w
+    → walkOf K s d ≡ w
+on K s d labels e f = ap (λ (l : List ℕ). walked (K .n) s d (length l) rowBytes (labelIn l)) e ∙ f
 
 pub worked : Worked
-unfolding those visited walked walkFrom finished refused first startRefusal row last hops turn spot stops onto hop decide answer scan lowest hits leads apart dist ones labelIn tab isDimension tableLen unusedSet nodeBit bit flip some least count labelled labelRefusal roundsOf labelsOf label labelOf safe rounds working quiet newly meets marked
+unfolding those visited walked walkRefusal walkFrom refused first row last hops turn spot stops onto hop decide answer firstScan lowest takes suits apart dist
+  ones labelIn tab isDimension tableLen unusedSet nodeBit bit flip some least count labelled labelRefusal roundsOf labelsOf label labelOf safe rounds
+  working quiet newly meets marked
 worked =
     record {
       k4-faulty = refl;

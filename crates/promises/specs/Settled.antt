@@ -7,15 +7,16 @@ use lib.ListN.{drop, length}
 use denote.Ref.{RefT, now}
 use Rattle.groups.specs.Number.{numberAt}
 use Rattle.groups.specs.declared.Number.{Number}
-use Rattle.hcube.specs.Answers.{hopNumber, labelNumber, noticeNumber, rowAfter, walkNumber, walkedFor}
-use Rattle.labels.specs.Cabinet.{cabinet}
+use Rattle.cube.specs.Tables.{labelIn}
+use Rattle.hcube.specs.Answers.{hopNumber, labelNumber, noticeNumber, rowAfter, walkNumber, walkedBy}
+use Rattle.rule.specs.Cabinet.{Cabinet}
 use Rattle.labels.specs.Labelling.{labelled, labelsAfter}
 use Rattle.labels.specs.declared.Labelled.{Labelled}
 use Rattle.notice.specs.Notice.{noticed, tableAfter, tailAt}
 use Rattle.notice.specs.declared.Noticed.{Noticed}
 use Rattle.reader.specs.Reader.{placeAfter}
 use Rattle.route.specs.Hop.{hopped}
-use Rattle.route.specs.Walk.{walked}
+use Rattle.route.specs.Walk.{rowBytes, walked}
 use Rattle.route.specs.declared.Hopped.{Hopped}
 use Rattle.route.specs.declared.Walked.{Walked}
 
@@ -35,10 +36,11 @@ pub record Settled : Type 0 where
       (bytes : List ℕ) (block offset : ℕ)
       → OneEach (λ (r : List ℕ) (place : ℕ × ℕ). (r ≡ drop (tailAt bytes) bytes) × (place ≡ (block, offset + tailAt bytes)))
   pub labels-label :
-      (n : ℕ) (faults labels : List ℕ)
-      → OneEach (λ (r : Labelled) (after : List ℕ). (r ≡ labelled (cabinet n faults) (length labels)) × (after ≡ labelsAfter (cabinet n faults) labels))
-  pub route-hop : (n c d : ℕ) (labels : List ℕ) → One (λ (r : Hopped). r ≡ hopped n c d labels)
-  pub route-walk : (n s d : ℕ) (labels : List ℕ) → One (λ (r : Walked). r ≡ walked n s d labels)
+      (K : Cabinet) (labels : List ℕ)
+      → OneEach (λ (r : Labelled) (after : List ℕ). (r ≡ labelled K (length labels)) × (after ≡ labelsAfter K labels))
+  pub route-hop : (n c d : ℕ) (labels : List ℕ) → One (λ (r : Hopped). r ≡ hopped n c d (length labels) (labelIn labels))
+  pub route-walk : (n s d : ℕ) (labels : List ℕ) → One (λ (r : Walked). r ≡ walked n s d (length labels) rowBytes (labelIn labels))
+  pub route-walk-for : (n s d : ℕ) (labels : List ℕ) (room : ℕ) → One (λ (r : Walked). r ≡ walked n s d (length labels) room (labelIn labels))
   -- the reader's bytes are the caller's own reference, not only equal bytes
   pub reader-new : (bytes : RefT (List ℕ)) → OneEach (λ (r : RefT (List ℕ)) (at : ℕ). (r ≡ bytes) × (at ≡ 0))
   -- the answer, and the reader afterwards: the same bytes, and the place
@@ -47,13 +49,12 @@ pub record Settled : Type 0 where
       → OneEach (λ (r : Number) (after : RefT (List ℕ) × ℕ). (r ≡ numberAt (now bytes) at) × (after ≡ (bytes, placeAfter (now bytes) at)))
   pub reader-next-at : (bytes : List ℕ) (at : ℕ) → OneEach (λ (r : Number) (place : ℕ). (r ≡ numberAt bytes at) × (place ≡ placeAfter bytes at))
   pub hcube-label :
-      (n : ℕ) (faults labels : List ℕ)
-      → OneEach (λ (r : ℕ) (after : List ℕ). (r ≡ labelNumber (labelled (cabinet n faults) (length labels))) × (after ≡ labelsAfter (cabinet n faults) labels))
-  pub hcube-hop : (n c d : ℕ) (labels : List ℕ) → One (λ (r : ℕ). r ≡ hopNumber (hopped n c d labels))
+      (K : Cabinet) (labels : List ℕ)
+      → OneEach (λ (r : ℕ) (after : List ℕ). (r ≡ labelNumber (labelled K (length labels))) × (after ≡ labelsAfter K labels))
+  pub hcube-hop : (n c d : ℕ) (labels : List ℕ) → One (λ (r : ℕ). r ≡ hopNumber (hopped n c d (length labels) (labelIn labels)))
   pub hcube-walk :
       (n s d : ℕ) (labels row : List ℕ)
-      → OneEach (λ (r : ℕ) (after : List ℕ).
-      (r ≡ walkNumber (walkedFor n s d labels (length row))) × (after ≡ rowAfter (walkedFor n s d labels (length row)) row))
+      → OneEach (λ (r : ℕ) (after : List ℕ). (r ≡ walkNumber (walkedBy n s d labels row)) × (after ≡ rowAfter (walkedBy n s d labels row) row))
   pub hcube-read-notice :
       (bytes faults : List ℕ)
       → OneEach (λ (r : ℕ) (after : List ℕ). (r ≡ noticeNumber (noticed bytes faults)) × (after ≡ tableAfter bytes faults))

@@ -5,15 +5,14 @@ use mathlib.Core.Path.{_≡_}
 use Prim.Native.Nat.{ℕ, zero, suc}
 use lib.Dec.{eqb}
 use lib.ListN.{replicate}
-use Rattle.cube.specs.Tables.{labelIn, nodeBit}
-use Rattle.labels.specs.Cabinet.{Cabinet, broken, cabinet}
-use Rattle.labels.specs.Labelling.{labelled, labelsOf}
-use Rattle.labels.specs.Rule.{marked, safe}
+use Rattle.rule.specs.Cabinet.{Cabinet, cabinet, out}
+use Rattle.rule.specs.Rule.{marked, safe}
+use Rattle.labels.specs.Labelling.{labelled}
 use Rattle.labels.specs.declared.Labelled.the-variants.{Rounds}
 use Rattle.route.specs.declared.Ending.{Ending}
 use Rattle.route.specs.declared.Ending.the-variants.{Delivered, Halted}
 use Rattle.route.specs.declared.Walked.{Walked}
-use Rattle.promises.specs.Demand3.{walkOf}
+use Rattle.theorems.specs.Words.{labelAt, walkOf}
 
 abbrev pub k4 : Cabinet
 k4 = cabinet 4 (20 ∷ 129 ∷ [])
@@ -31,20 +30,20 @@ unfoldable pub visited : (nodes : List ℕ) (hops left : ℕ) → Ending → Wal
 visited nodes hops left e = record { row = nodes ++ replicate left 0; hops = hops; ending = e }
 
 pub record Worked : Type 0 where
-  pub k4-faulty : those 16 (broken k4) ≡ 2 ∷ 4 ∷ 8 ∷ 15 ∷ []
-  pub k4-round1 : those 16 (marked 4 3 (broken k4) 1) ≡ 0 ∷ 6 ∷ 10 ∷ 12 ∷ []
-  pub k4-round2 : those 16 (marked 4 3 (broken k4) 2) ≡ 0 ∷ 6 ∷ 10 ∷ 12 ∷ 14 ∷ []
+  pub k4-faulty : those 16 (out k4) ≡ 2 ∷ 4 ∷ 8 ∷ 15 ∷ []
+  pub k4-round1 : those 16 (marked 4 3 (out k4) 1) ≡ 0 ∷ 6 ∷ 10 ∷ 12 ∷ []
+  pub k4-round2 : those 16 (marked 4 3 (out k4) 2) ≡ 0 ∷ 6 ∷ 10 ∷ 12 ∷ 14 ∷ []
   pub k4-rounds : labelled k4 16 ≡ Rounds 2
-  pub k4-strong : those 16 (λ x. eqb (labelIn (labelsOf k4) x) 2) ≡ 14 ∷ []
+  pub k4-strong : those 16 (λ x. eqb (labelAt k4 x) 2) ≡ 14 ∷ []
   pub k4-13-0 : walkOf k4 13 0 ≡ visited (13 ∷ 9 ∷ 1 ∷ 0 ∷ []) 3 13 Delivered
   pub k4-6-0 : walkOf k4 6 0 ≡ visited (6 ∷ 7 ∷ 5 ∷ 1 ∷ 0 ∷ []) 4 12 Delivered
   pub k4-14-0 : walkOf k4 14 0 ≡ visited (14 ∷ 12 ∷ 13 ∷ 9 ∷ 1 ∷ 0 ∷ []) 5 11 Delivered
   pub k4-0-14 : walkOf k4 0 14 ≡ visited (0 ∷ 1 ∷ 3 ∷ 7 ∷ 6 ∷ 14 ∷ []) 5 11 Delivered
   pub k4-10-10 : walkOf k4 10 10 ≡ visited (10 ∷ []) 0 16 Delivered
-  pub q3-faulty : those 8 (broken q3) ≡ 1 ∷ 2 ∷ 4 ∷ []
-  pub q3-safe : those 8 (safe 3 3 (broken q3)) ≡ []
+  pub q3-faulty : those 8 (out q3) ≡ 1 ∷ 2 ∷ 4 ∷ []
+  pub q3-safe : those 8 (safe 3 3 (out q3)) ≡ []
   pub q3-rounds : labelled q3 8 ≡ Rounds 2
   pub q3-0-7 : walkOf q3 0 7 ≡ visited (0 ∷ []) 0 16 Halted
   pub q3-7-0 : walkOf q3 7 0 ≡ visited (7 ∷ 6 ∷ []) 1 15 Halted
   pub q3-7-3 : walkOf q3 7 3 ≡ visited (7 ∷ 3 ∷ []) 1 15 Delivered
-  pub one-safe : safe 1 3 (nodeBit (1 ∷ [])) 1 ≡ true
+  pub one-safe : safe 1 3 (out (cabinet 1 (1 ∷ []))) 1 ≡ true

@@ -3,7 +3,7 @@ use mathlib.Core.Path.{sym, _∙_}
 use native.Mathlib.Omega.{arith}
 use lib.ListN.{length-take}
 use Rattle.notice.proofs.Refusals.{parts}
-use Rattle.listing.proofs.Sizes.{nodes-few}
+use Rattle.cube.proofs.Tables.{nodes-few}
 use borrow.Author.Needs.{needs}
 use Rattle.listing.proofs.list_notice.Statement.{statement}
 use Rattle.listing.proofs.list_notice.Tie as tie

@@ -2,7 +2,7 @@
 use mathlib.Core.Path.{sym, _∙_}
 use native.Mathlib.Omega.{arith}
 use Rattle.cube.proofs.Tables.{dimension-is}
-use Rattle.listing.proofs.Sizes.{table-few}
+use Rattle.cube.proofs.Tables.{table-few}
 use borrow.Author.Needs.{needs}
 use Rattle.listing.proofs.wanted_len.Statement.{statement}
 use Rattle.listing.proofs.wanted_len.Tie as tie
