@@ -1,6 +1,5 @@
 -- The laws of a table of refusals. `Numbered m ts`: every number of it is one of 1 to m; of a table with its numbers written out this is `refl`.
 use mathlib.Core.Path.{_≡_, refl}
-use mathlib.Core.Logic.{_⊎_, inl, inr}
 use mathlib.Core.Bool.{Bool, true, false, cond, _&&_}
 use mathlib.Core.List.{List, [], _∷_, _++_}
 use Prim.Native.Nat.{ℕ, _≤_}

@@ -9,7 +9,7 @@ use native.Mathlib.Omega.{arith}
 use native.Mathlib.Nat.{mul-div-cancel, zero-lt-suc}
 use lib.Dec.{leb, eqb}
 use lib.ListN.{length, getD}
-use lib.Pow.{pow-add, pow-mono, pow-pos, pow-lt, shr-lt}
+use lib.Pow.{pow-add, pow-mono, pow-pos, shr-lt}
 use borrow.Author.Tests.{le-leb, lt-leb, eq-eqb, ne-eqb, leb-true, leb-false}
 use Rattle.cube.specs.Count.{some}
 use Rattle.cube.specs.Cube.{bit}

@@ -1,5 +1,5 @@
 -- Demand 1: the answer and what each buffer holds afterwards go by one refusal number, so a refused answer means that the old content was chosen.
-use mathlib.Core.Bool.{true, false, not}
+use mathlib.Core.Bool.{true}
 use mathlib.Core.List.{List}
 use mathlib.Core.Path.{_≡_, refl, ap, _∙_}
 use Prim.Native.Nat.{ℕ, zero, suc, _*_}

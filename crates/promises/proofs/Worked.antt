@@ -33,8 +33,8 @@ on K s d labels e f = ap (λ (l : List ℕ). walked (K .n) s d (length l) rowByt
 
 pub worked : Worked
 unfolding those visited walked walkRefusal walkFrom refused first row last hops turn spot stops onto hop decide answer firstScan lowest takes suits apart dist
-  ones labelIn tab isDimension tableLen unusedSet nodeBit bit flip some least count labelled labelRefusal roundsOf labelsOf label labelOf safe rounds
-  working quiet newly meets marked
+    ones labelIn tab isDimension tableLen unusedSet nodeBit bit flip some least count labelled labelRefusal roundsOf labelsOf label labelOf safe rounds
+    working quiet newly meets marked
 worked =
     record {
       k4-faulty = refl;

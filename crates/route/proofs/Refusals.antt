@@ -1,13 +1,12 @@
 -- The refusals of a hop and of a walk, from those that the code finds one after the other: first what needs no label, then what the labels give, and
 -- 8 where the walk would go on. Each question's table is these parts in a row, so the first part that refuses gives the number of the whole.
-use mathlib.Core.Path.{_≡_, refl, sym, ap, _∙_}
+use mathlib.Core.Path.{_≡_, refl, sym, _∙_}
 use mathlib.Core.Logic.{⊎-elim}
-use mathlib.Core.Bool.{Bool, true, false, cond, not}
+use mathlib.Core.Bool.{Bool, true, false, not}
 use mathlib.Core.List.{List, [], _∷_, _++_}
 use Prim.Native.Nat.{ℕ, _^_}
-use native.Mathlib.Omega.{arith}
 use lib.Dec.{eqb, leb}
-use borrow.Author.Tests.{eq-eqb, ne-eqb, eqb-true, leb-false, not-false}
+use borrow.Author.Tests.{ne-eqb, eqb-true, leb-false, not-false}
 use Rattle.cube.specs.Cube.{flip}
 use Rattle.cube.specs.Refusal.{Test, first, _⇒_}
 use Rattle.cube.specs.Tables.{isDimension}
@@ -15,8 +14,8 @@ use Rattle.cube.proofs.Bools.{either, or-false}
 use Rattle.cube.proofs.Refusal.{None, first-none, first-passes, first-stops}
 use Rattle.cube.proofs.Tables.{dimension-is}
 use Rattle.route.specs.Helpers.{Placed, nearTests, placeRefusal, placeTests, startRefusal, tableTests, walkOrRefusal}
-use Rattle.route.specs.Hop.{hop, hopRefusal, hopTests, hopped}
-use Rattle.route.specs.Walk.{last, refused, rowBytes, stops, walkFrom, walkRefusal, walked}
+use Rattle.route.specs.Hop.{hop, hopRefusal, hopped}
+use Rattle.route.specs.Walk.{last, refused, rowBytes, stops, walkRefusal, walked}
 use Rattle.route.specs.declared.Decision.{Decision}
 use Rattle.route.specs.declared.Hopped.the-variants.{Decided, Refused}
 
@@ -107,7 +106,9 @@ module _ (n s d m room : ℕ) (lab : ℕ → ℕ) where
 
   pub walk-starts : startRefusal n s d m room lab ≡ 0 → walkOrRefusal n lab d s ≡ walked n s d m room lab
   unfolding walked walkRefusal startRefusal walkOrRefusal first
-  walk-starts e = ⊎-elim (λ (t : stops (last n lab d s) ≡ true). rw (f, t)) (λ (t : stops (last n lab d s) ≡ false). rw (f, t)) (either (stops (last n lab d s)))
+  walk-starts e =
+      ⊎-elim (λ (t : stops (last n lab d s) ≡ true). rw (f, t)) (λ (t : stops (last n lab d s) ≡ false). rw (f, t))
+      (either (stops (last n lab d s)))
     where
       f : first (before ++ eight) ≡ first eight
       f = first-passes before eight (first-none 7 before refl e)

@@ -16,7 +16,6 @@ use Rattle.cube.proofs.Cube.{dist-self, dist-zero}
 use Rattle.scans.specs.Scans.{firstScan, forward, lowest, noScan, scanAt, scanOf, spare, suits, takes}
 use Rattle.route.specs.Helpers.{across, among, chosen}
 use Rattle.route.specs.Hop.{answer, decide}
-use Rattle.route.specs.declared.Choice.{Choice}
 use Rattle.route.specs.declared.Decision.the-variants.{Deliver}
 use Rattle.route.proofs.Sets.{least-none, forward-set, spare-set}
 

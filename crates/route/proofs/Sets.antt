@@ -2,7 +2,7 @@
 -- dimension, and `x & (x - 1)` is the set without it. Where its neighbour's label is too high, the search in the rest finds what the search in the set does.
 use mathlib.Core.Path.{_≡_, refl, sym, ap, _∙_}
 use mathlib.Core.Logic.{_⊎_, inl, inr}
-use mathlib.Core.Bool.{Bool, true, false, Bool·beq, cond, xor, _&&_, and-false}
+use mathlib.Core.Bool.{Bool, true, false, Bool·beq, cond, _&&_, and-false}
 use Prim.Native.Nat.{ℕ, zero, suc, _-_, _/_, _%_, _^_, _≤_, _<_}
 use native.Mathlib.Decide.{ℕ-discrete}
 use native.Mathlib.Nat.{pow-suc}

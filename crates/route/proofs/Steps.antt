@@ -44,7 +44,9 @@ module _ (n : ℕ) (lab : ℕ → ℕ) (d s : ℕ) where
         towards = refl;
         here = spot-zero;
         going = λ j l. absurd (omega arith);
-        written = front-write (spot n lab d s) 0 (replicate 17 0) (replicate 17 0) s (omega arith) (front-zero (spot n lab d s) (replicate 17 0)) (sym spot-zero);
+        written =
+            front-write (spot n lab d s) 0 (replicate 17 0) (replicate 17 0) s (omega arith) (front-zero (spot n lab d s) (replicate 17 0))
+            (sym spot-zero);
       }
 
   module _ (places : List ℕ) (m : Message) (w : Walking n lab d s places m) where

@@ -143,26 +143,44 @@ fn chosen(n: usize, c: usize, d: usize, own: u8, near: &[u8; 12]) -> Choice
     let forward = c ^ d;
     let i1 = lowest(n, forward, near, 0);
     if i1 < n {
-        return Choice { scan: 1, dimension: i1 };
+        return Choice {
+            scan: 1,
+            dimension: i1,
+        };
     }
     let i2 = lowest(n, forward, near, 1);
     if i2 < n {
-        return Choice { scan: 2, dimension: i2 };
+        return Choice {
+            scan: 2,
+            dimension: i2,
+        };
     }
     let i3 = third(n, c, d, own, near);
     if i3 < n {
-        return Choice { scan: 3, dimension: i3 };
+        return Choice {
+            scan: 3,
+            dimension: i3,
+        };
     }
     let spare = forward ^ (nodes(n) - 1);
     let i4 = lowest(n, spare, near, 0);
     if i4 < n {
-        return Choice { scan: 4, dimension: i4 };
+        return Choice {
+            scan: 4,
+            dimension: i4,
+        };
     }
     let i5 = lowest(n, spare, near, 1);
     if i5 < n {
-        return Choice { scan: 5, dimension: i5 };
+        return Choice {
+            scan: 5,
+            dimension: i5,
+        };
     }
-    Choice { scan: NO_SCAN, dimension: n }
+    Choice {
+        scan: NO_SCAN,
+        dimension: n,
+    }
 }
 
 // The decision away from the destination, by what the scans picked.

@@ -1,6 +1,6 @@
 -- The label bytes of a cabinet: there is one for each node, the byte of a node that does not work is 3 or more, no byte is above the highest label, and
 -- the table is good.
-use mathlib.Core.Bool.{Bool, true}
+use mathlib.Core.Bool.{true}
 use mathlib.Core.Path.{_≡_, sym}
 use Prim.Native.Nat.{ℕ, _^_, _≤_, _<_}
 use native.Mathlib.Omega.{arith}

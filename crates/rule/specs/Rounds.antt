@@ -1,5 +1,5 @@
 -- The rounds come to rest, and the round count says when. Proved in proofs/Rounds.antt.
-use mathlib.Core.Bool.{Bool, true, false}
+use mathlib.Core.Bool.{Bool, true}
 use mathlib.Core.Path.{_≡_}
 use Prim.Native.Nat.{ℕ, _^_, _≤_, _<_}
 use Rattle.rule.specs.Rule.{marked, newly, quiet, rounds, working}

@@ -2,11 +2,11 @@
 -- what a scan asks of a dimension is read off its row.
 use mathlib.Core.Path.{_≡_, refl}
 use mathlib.Core.Logic.{_⊎_, ⊎-elim, ⊎-map}
-use mathlib.Core.Bool.{true, false, _&&_, _||_, Bool·beq}
+use mathlib.Core.Bool.{true, false, _&&_, Bool·beq}
 use Prim.Native.Nat.{ℕ, zero, suc, _≤_, _<_}
 use native.Mathlib.Omega.{arith}
 use lib.Dec.{leb, ltb, eqb}
-use borrow.Author.Tests.{ltb-true, le-ltb, ltb-false, leb-true, leb-false, eqb-true, eq-eqb, le-leb}
+use borrow.Author.Tests.{ltb-true, ltb-false, leb-true, leb-false, eqb-true, eq-eqb, le-leb}
 use Rattle.cube.specs.Cube.{flip, apart, dist}
 use Rattle.cube.proofs.Bools.{beq-same, beq-true, clash, and-true, or-true, or-left, or-right}
 use Rattle.cube.proofs.Count.{Least, the-least}

@@ -14,7 +14,7 @@ use Rattle.cube.proofs.Cube.{flip-lt, flip-flip, dist-fall, dist-rise, dist-sym
 use Rattle.rule.specs.Good.{Good}
 use Rattle.scans.specs.Picks.{Misses, NonePicks, Picks, takesAt}
 use Rattle.scans.specs.Progress.{Inside, Progress, rank}
-use Rattle.scans.specs.Scans.{noScan}
+use Rattle.scans.specs.Scans.{forward, noScan, scanOf, spare}
 use Rattle.scans.proofs.Picking.{row, hit, miss, no-zero, allowed3, why3, each-scan}
 use Rattle.scans.proofs.Toward.{safe-step, near-step, toward, theorem5}
 
@@ -67,8 +67,8 @@ module _ (n : ℕ) (lab : ℕ → ℕ) (G : Good n lab) (d : ℕ) (hd : d < 2 ^ 
         no e = let r = safe-step n lab G c d hc hd e h in omega (arith, r .3, miss n lab c d 1 (r .0) (m1 (r .0) (r .1)) refl (r .2))
 
     -- a forward scan and a spare one for the same labels take every neighbour with such a label
-    both-miss : (s t b : ℕ) → row n lab c d s ≡ record { side = true; top = b; allowed = true } → row n lab c d t ≡ record { side = false; top = b; allowed = true }
-        → Misses n lab c d s → Misses n lab c d t → (i : ℕ) → i < n → b < lab (flip i c)
+    both-miss : (s t b : ℕ) → row n lab c d s ≡ scanOf forward b true → row n lab c d t ≡ scanOf spare b true → Misses n lab c d s → Misses n lab c d t
+        → (i : ℕ) → i < n → b < lab (flip i c)
     both-miss s t b es et ms mt i hi =
         ⊎-elim
         (λ (a : apart i c d ≡ true). rw es at (miss n lab c d s i (ms i hi) (rw es) (a ∙ rw es)))
@@ -90,8 +90,8 @@ module _ (n : ℕ) (lab : ℕ → ℕ) (G : Good n lab) (d : ℕ) (hd : d < 2 ^ 
         ⊎-elim
         (λ (t : leb (dist c d) 2 ≡ true). omega (arith, rank-near lab d (flip i c) (omega (arith, leb-true (dist c d) 2 t)), rank-ge lab d c))
         (λ (t : leb (dist c d) 2 ≡ false).
-            let l = leb-false (dist c d) 2 t in
-            omega (arith, w l, rank-le lab d (flip i c), rank-far lab d c (omega arith)))
+        let l = leb-false (dist c d) 2 t in
+        omega (arith, w l, rank-le lab d (flip i c), rank-far lab d c (omega arith)))
         (either (leb (dist c d) 2))
 
     -- one farther, and to a better label

@@ -114,7 +114,7 @@ module _ (K : Cabinet) (T : Table K) (s d : ℕ) (hs : Works K s) (hd : Works K 
           r .1,
           rw (place-used e k (omega arith)) (r .2),
           place-used e (k + 1) (omega arith) ∙ ap (spot n lab d s) (add-one k) ∙ r .3
-          ∙ ap (flip (r .0)) (sym (place-used e k (omega arith))),
+              ∙ ap (flip (r .0)) (sym (place-used e k (omega arith))),
         );
         works = λ k h. rw (place-used e k h) (works-at (spot n lab d s k) (W .works k h));
         unused = place-unused e;

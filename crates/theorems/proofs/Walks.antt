@@ -212,7 +212,7 @@ module _ (n : ℕ) (lab : ℕ → ℕ) (G : Good n lab) (d : ℕ) (hd : d < 2 ^ 
   delivers-or-halts none =
       ⊎-elim (λ (D : Delivers n lab d s 0). inl D)
       (λ (e : (last n lab d s ≡ Halted) × Stuck (spot n lab d s (hops n lab d s))).
-          inr (record { ended = e .0; why = e .1; kept = kept (λ x. dist x d) Stuck dark near }))
+      inr (record { ended = e .0; why = e .1; kept = kept (λ x. dist x d) Stuck dark near }))
       (outcome (λ x. dist x d) Stuck dark near 0 (omega arith))
     where
       Stuck : ℕ → Type 0

@@ -84,7 +84,7 @@ returns c =
     let none-new = c .before .before .before .before .if1 .taken in (
       sym (end-rounds (cabinet _ _) _ _ (l .loop .inv) _ (start .pre .0) _ _ (w .sweep .ensures .0) (w .sweep .ensures .1) none-new),
       end-labels (cabinet _ _) _ _ (l .loop .inv) _ (start .pre .0) _ _ (w .sweep .ensures .0) (w .sweep .ensures .1) none-new _
-      (c .before .before .finish .ensures),
+          (c .before .before .finish .ensures),
     )
 
 pub label-nodes-spec : {M : Type 1} → statement M

@@ -43,7 +43,8 @@ nodes-requires c κs = omega (arith, dimension-is _ (dimension (c .before .befor
 returns-3 : tie.Need-returns-3
 unfolding labelRefusal first
 returns-3 c =
-    rw (dimension (c .before .before .before .before), eq-eqb _ _ (fault-length (c .before .before)), ne-eqb _ _ (λ q. c .if3 .taken (q ∙ sym (c .before .nodes .ensures))))
+    let s = c .before .before in
+    rw (dimension (s .before .before), eq-eqb _ _ (fault-length s), ne-eqb _ _ (λ q. c .if3 .taken (q ∙ sym (c .before .nodes .ensures))))
 
 unused-set-requires : tie.Need-unused-set-requires
 unused-set-requires c κs = search needs
@@ -52,13 +53,15 @@ returns-4 : tie.Need-returns-4
 unfolding labelRefusal first
 returns-4 c =
     let s = c .before .before in
-    rw (dimension (s .before .before .before .before), eq-eqb _ _ (fault-length (s .before .before)), eq-eqb _ _ (label-length s), sym (c .before .unused-set .ensures) ∙ c .if4 .taken)
+    let f = s .before .before in
+    rw (dimension (f .before .before), eq-eqb _ _ (fault-length f), eq-eqb _ _ (label-length s), sym (c .before .unused-set .ensures) ∙ c .if4 .taken)
 
 returns-5 : tie.Need-returns-5
 unfolding labelRefusal first
 returns-5 c =
     let s = c .before .before in
-    rw (dimension (s .before .before .before .before), eq-eqb _ _ (fault-length (s .before .before)), eq-eqb _ _ (label-length s), sym (c .before .unused-set .ensures) ∙ c .if4 .left)
+    let f = s .before .before in
+    rw (dimension (f .before .before), eq-eqb _ _ (fault-length f), eq-eqb _ _ (label-length s), sym (c .before .unused-set .ensures) ∙ c .if4 .left)
 
 pub label-refusal-spec : {M : Type 1} → statement M
 label-refusal-spec =

@@ -13,7 +13,8 @@ use Rattle.labels.proofs.sweep.Statement.{statement}
 use Rattle.labels.proofs.sweep.Tie as tie
 
 abbrev Inv-loop : tie.InvT-loop
-Inv-loop n rule labels₀ marked₀ x₀ labels marked x = Filled (oneWhere (fresh n rule labels₀) labels₀) labels₀ labels x × (marked ≡ count x (fresh n rule labels₀))
+Inv-loop n rule labels₀ marked₀ x₀ labels marked x =
+    Filled (oneWhere (fresh n rule labels₀) labels₀) labels₀ labels x × (marked ≡ count x (fresh n rule labels₀))
 
 abbrev μ-loop : tie.MeasureT-loop
 μ-loop n rule labels₀ marked₀ x₀ labels marked x = length labels₀ - x

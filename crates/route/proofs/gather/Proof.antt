@@ -73,7 +73,7 @@ returns c =
     let f : ℕ → ℕ = λ k. labelIn (s .args .labels .now) (flip k (s .args .c)) in
     let e : l .i ≡ n = omega arith in (
       l .inv .2 ∙ ap (λ (i : ℕ). front f i (replicate 12 0)) e
-      ∙ front-zeros f (λ i. ltb i n) n 12 (s .pre .0) (λ i h. lt-ltb i n h) (λ i h. le-ltb i n h),
+          ∙ front-zeros f (λ i. ltb i n) n 12 (s .pre .0) (λ i h. lt-ltb i n h) (λ i h. le-ltb i n h),
       l .inv .3 ∙ ap (λ (i : ℕ). largest i f) e,
     )
 
