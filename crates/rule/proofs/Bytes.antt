@@ -1,8 +1,8 @@
 -- What a label byte says, over any set S of safe nodes that work: every node has one of the four labels, 0 stands exactly at the nodes of
 -- S and `byte` exactly at those that do not work, 1 has a neighbour in S and 2 has none. `labelOf` goes by these very tests.
-use mathlib.Core.Path.{_≡_, _∙_}
+use mathlib.Core.Path.{_≡_}
 use mathlib.Core.Logic.{_⊎_, inl, inr}
-use mathlib.Core.Bool.{Bool, true, false, cond}
+use mathlib.Core.Bool.{Bool, true, false}
 use Prim.Native.Nat.{ℕ, _^_, _≤_, _<_}
 use native.Mathlib.Omega.{arith}
 use Rattle.cube.specs.Count.{some}
@@ -18,21 +18,17 @@ module _ (n : ℕ) (F : ℕ → Bool) (byte : ℕ → ℕ) (S : ℕ → Bool) wh
     is-ordinary : F x ≡ false → S x ≡ false → (i : ℕ) → i < n → S (flip i x) ≡ true → labelOf n F byte S x ≡ 1 → Label x
     is-strong : F x ≡ false → S x ≡ false → ((i : ℕ) → i < n → S (flip i x) ≡ false) → labelOf n F byte S x ≡ 2 → Label x
 
-  -- an unsafe node is ordinarily unsafe exactly where some neighbour is safe
-  pub unsafe-byte : (x : ℕ) → F x ≡ false → S x ≡ false → labelOf n F byte S x ≡ cond (some n (λ i. S (flip i x))) 1 2
-  unfolding labelOf
-  unsafe-byte x a b = rw (a, b)
-
   -- every node has one of the four labels
   pub four : (x : ℕ) → Label x
   unfolding labelOf
   four x = go (either (F x)) (either (S x)) (either (some n (λ i. S (flip i x))))
     where
-      go : (F x ≡ true) ⊎ (F x ≡ false) → (S x ≡ true) ⊎ (S x ≡ false) → (some n (λ i. S (flip i x)) ≡ true) ⊎ (some n (λ i. S (flip i x)) ≡ false) → Label x
+      go : (F x ≡ true) ⊎ (F x ≡ false) → (S x ≡ true) ⊎ (S x ≡ false)
+          → (some n (λ i. S (flip i x)) ≡ true) ⊎ (some n (λ i. S (flip i x)) ≡ false) → Label x
       go (inl a) _ _ = is-out a (rw (a, labelOf))
       go (inr a) (inl b) _ = is-safe a b (rw (a, labelOf, b))
-      go (inr a) (inr b) (inl c) = let r = some-found n (λ i. S (flip i x)) c in is-ordinary a b (r .0) (r .1) (r .2) (unsafe-byte x a b ∙ rw c)
-      go (inr a) (inr b) (inr c) = is-strong a b (none-some n (λ i. S (flip i x)) c) (unsafe-byte x a b ∙ rw c)
+      go (inr a) (inr b) (inl c) = let r = some-found n (λ i. S (flip i x)) c in is-ordinary a b (r .0) (r .1) (r .2) (rw (a, labelOf, b, c))
+      go (inr a) (inr b) (inr c) = is-strong a b (none-some n (λ i. S (flip i x)) c) (rw (a, labelOf, b, c))
 
   -- a node that does not work has its own byte
   pub out-byte : (x : ℕ) → F x ≡ true → labelOf n F byte S x ≡ byte x

@@ -1,14 +1,13 @@
 -- What the scans pick: the two searches of the definition, over the scans and over the dimensions, give the first scan and its lowest dimension; and
 -- what a scan asks of a dimension is read off its row.
 use mathlib.Core.Path.{_≡_, refl}
-use mathlib.Core.Logic.{_⊎_, ⊎-elim, ⊎-map}
 use mathlib.Core.Bool.{true, false, _&&_, Bool·beq}
 use Prim.Native.Nat.{ℕ, zero, suc, _≤_, _<_}
 use native.Mathlib.Omega.{arith}
-use lib.Dec.{leb, ltb, eqb}
-use borrow.Author.Tests.{ltb-true, ltb-false, leb-true, leb-false, eqb-true, eq-eqb, le-leb}
+use lib.Dec.{leb, ltb}
+use borrow.Author.Tests.{ltb-true, ltb-false, leb-true, leb-false}
 use Rattle.cube.specs.Cube.{flip, apart, dist}
-use Rattle.cube.proofs.Bools.{beq-same, beq-true, clash, and-true, or-true, or-left, or-right}
+use Rattle.cube.proofs.Bools.{beq-same, beq-true, clash, and-true}
 use Rattle.cube.proofs.Count.{Least, the-least}
 use Rattle.scans.specs.Picks.{Misses, NonePicks, Picks, firstScanAt, lowestAt, takesAt}
 use Rattle.scans.specs.Scans.{Scan, firstScan, lowest, noScan, scanAt, suits, takes}
@@ -52,18 +51,9 @@ module _ (n : ℕ) (lab : ℕ → ℕ) (c d : ℕ) where
   unfolding takes suits
   miss s i e o a = leb-false (lab (flip i c)) (row s .top) (rw (o, a, beq-same (row s .side)) at e)
 
-  -- there is no scan 0; the third is allowed at a strongly unsafe node, and near the destination
+  -- there is no scan 0
   pub no-zero : (i : ℕ) → takesAt lab c d 0 i ≡ true → ⊥
   no-zero i e = clash (hit 0 i e .0) refl
-
-  pub allowed3 : (lab c ≡ 2) ⊎ (dist c d ≤ 2) → row 3 .allowed ≡ true
-  allowed3 =
-      ⊎-elim (λ (p : lab c ≡ 2). or-left (leb (dist c d) 2) (eq-eqb (lab c) 2 p))
-      (λ (p : dist c d ≤ 2). or-right (eqb (lab c) 2) (le-leb (dist c d) 2 p))
-
-  pub why3 : row 3 .allowed ≡ true → (lab c ≡ 2) ⊎ (dist c d ≤ 2)
-  unfolding ⊎-map
-  why3 e = ⊎-map (eqb-true (lab c) 2) (leb-true (dist c d) 2) (or-true (eqb (lab c) 2) (leb (dist c d) 2) e)
 
 -- what holds of each scan by its number
 pub each-scan : (P : ℕ → Type 0) → P 0 → P 1 → P 2 → P 3 → P 4 → P 5 → (s : ℕ) → s < noScan → P s

@@ -2,20 +2,20 @@
 -- pick of any scan lowers it: scans 1 to 3 lead one nearer and, but for the last two hops, never to a worse label; scans 4 and 5 lead one farther
 -- and to a better label, which counts double. Where the destination is safe, or no node is, every pick is forward and l itself falls.
 use mathlib.Core.Path.{_≡_, refl, ap, _∙_}
-use mathlib.Core.Logic.{inl, inr, ⊎-elim, _≢_}
-use mathlib.Core.Bool.{true, false}
+use mathlib.Core.Logic.{⊎-elim, _≢_}
+use mathlib.Core.Bool.{Bool, true, false, _||_}
 use Prim.Native.Nat.{ℕ, zero, suc, _+_, _*_, _^_, _≤_, _<_}
 use native.Mathlib.Omega.{arith}
-use lib.Dec.{leb}
-use borrow.Author.Tests.{leb-true, leb-false, le-leb, lt-leb}
+use lib.Dec.{eqb, leb}
+use borrow.Author.Tests.{eq-eqb, eqb-true, leb-true, leb-false, le-leb, lt-leb}
 use Rattle.cube.specs.Cube.{flip, apart, dist}
-use Rattle.cube.proofs.Bools.{either}
+use Rattle.cube.proofs.Bools.{either, or-left, or-right}
 use Rattle.cube.proofs.Cube.{flip-lt, flip-flip, dist-fall, dist-rise, dist-sym, apart-sym, neighbour}
 use Rattle.rule.specs.Good.{Good}
 use Rattle.scans.specs.Picks.{Misses, NonePicks, Picks, takesAt}
 use Rattle.scans.specs.Progress.{Inside, Progress, rank}
 use Rattle.scans.specs.Scans.{forward, noScan, scanOf, spare}
-use Rattle.scans.proofs.Picking.{row, hit, miss, no-zero, allowed3, why3, each-scan}
+use Rattle.scans.proofs.Picking.{row, hit, miss, no-zero, each-scan}
 use Rattle.scans.proofs.Toward.{safe-step, near-step, toward, theorem5}
 
 module _ (lab : ℕ → ℕ) (d x : ℕ) where
@@ -40,6 +40,11 @@ module _ (lab : ℕ → ℕ) (d x : ℕ) where
   pub rank-le : rank lab d x ≤ dist x d + 2 * lab x
   rank-le = rank-within .1
 
+-- a test that is allowed for another reason, or near by: far off, for that reason
+far-off : (a : Bool) (l b : ℕ) → (a || leb l b) ≡ true → b < l → a ≡ true
+far-off true l b e h = refl
+far-off false l b e h = absurd (omega (arith, leb-true l b e))
+
 module _ (n : ℕ) (lab : ℕ → ℕ) (G : Good n lab) (d : ℕ) (hd : d < 2 ^ n) (wd : lab d ≤ 2) where
   -- ---- what scans that take nothing say of the label of c
 
@@ -52,7 +57,7 @@ module _ (n : ℕ) (lab : ℕ → ℕ) (G : Good n lab) (d : ℕ) (hd : d < 2 ^ 
         not-one e =
             let r = neighbour n c d hc hd e in
             let there = ap lab (ap (flip (r .0)) (r .3) ∙ flip-flip n (r .0) d (r .1) hd) in
-            omega (arith, miss n lab c d 3 (r .0) (m3 (r .0) (r .1)) (allowed3 n lab c d (inr (omega arith))) (r .2))
+            omega (arith, miss n lab c d 3 (r .0) (m3 (r .0) (r .1)) (or-right (eqb (lab c) 2) (le-leb (dist c d) 2 (omega arith))) (r .2))
 
     unsafe-at : 1 < dist c d → Misses n lab c d 2 → 0 < lab c
     unsafe-at h m2 = omega (arith, no)
@@ -118,8 +123,7 @@ module _ (n : ℕ) (lab : ℕ → ℕ) (G : Good n lab) (d : ℕ) (hd : d < 2 ^ 
         falls3 : Falls 3
         falls3 i hi e m =
             let r = hit n lab c d 3 i e in
-            let w = why3 n lab c d (r .0) in
-            (r .2, forward-falls i hi (r .1) (λ l. ⊎-elim (λ (q : lab c ≡ 2). omega arith) (λ (q : dist c d ≤ 2). absurd (omega arith)) w))
+            (r .2, forward-falls i hi (r .1) (λ l. let strong = eqb-true (lab c) 2 (far-off (eqb (lab c) 2) (dist c d) 2 (r .0) l) in omega arith))
 
         falls4 : Falls 4
         falls4 i hi e m =
@@ -204,7 +208,7 @@ module _ (n : ℕ) (lab : ℕ → ℕ) (G : Good n lab) (d : ℕ) (hd : d < 2 ^ 
       where
         halted : (c : ℕ) → Inside n lab c → 0 < dist c d → NonePicks n lab c d → (i : ℕ) → i < n → apart i c d ≡ true → 2 < lab (flip i c)
         halted c p far m i hi a =
-            miss n lab c d 3 i (m 3 (omega arith) i hi) (allowed3 n lab c d (inl (omega (arith, dark c (p .0))))) a
+            miss n lab c d 3 i (m 3 (omega arith) i hi) (or-left _ (eq-eqb (lab c) 2 (omega (arith, dark c (p .0))))) a
 
         step : (c : ℕ) → c < 2 ^ n → (s : ℕ) → s < noScan → Step c s
         step c hc =
