@@ -14,7 +14,7 @@ use Rattle.cube.specs.Cube.{dist}
 use Rattle.cube.proofs.Count.{below-suc, least-is}
 use Rattle.cube.proofs.Cube.{dist-self, dist-zero}
 use Rattle.scans.specs.Scans.{firstScan, forward, lowest, noScan, scanAt, scanOf, spare, suits, takes}
-use Rattle.route.specs.Helpers.{across, among, chosen}
+use Rattle.route.specs.Helpers.{across, inSet, chosen}
 use Rattle.route.specs.Hop.{answer, decide}
 use Rattle.route.specs.declared.Decision.the-variants.{Deliver}
 use Rattle.route.proofs.Sets.{least-none, forward-set, spare-set}
@@ -28,17 +28,17 @@ module _ (n c d own : ℕ) (near : ℕ → ℕ) where
   idle s f = least-none n (takes c d own near s) (λ i _. f i)
 
   -- scan s by its row: it is allowed, and the set is the dimensions of its side
-  pub forward-scan : (s t : ℕ) → scanAt (dist c d) own s ≡ scanOf forward t true → least n (among (bitXor c d) near t) ≡ lowest n c d own near s
+  pub forward-scan : (s t : ℕ) → scanAt (dist c d) own s ≡ scanOf forward t true → least n (inSet (bitXor c d) near t) ≡ lowest n c d own near s
   unfolding lowest takes
   forward-scan s t e = forward-set n c d near t ∙ ap (λ z. least n (suits c d near z)) (sym e)
 
   pub spare-scan : (s t : ℕ) → scanAt (dist c d) own s ≡ scanOf spare t true
-      → least n (among (bitXor (bitXor c d) (2 ^ n - 1)) near t) ≡ lowest n c d own near s
+      → least n (inSet (bitXor (bitXor c d) (2 ^ n - 1)) near t) ≡ lowest n c d own near s
   unfolding lowest takes
   spare-scan s t e = spare-set n c d near t ∙ ap (λ z. least n (suits c d near z)) (sym e)
 
   -- the third, by its test
-  pub third-open : (eqb own 2 || leb (dist c d) 2) ≡ true → least n (among (bitXor c d) near 2) ≡ lowest n c d own near 3
+  pub third-open : (eqb own 2 || leb (dist c d) 2) ≡ true → least n (inSet (bitXor c d) near 2) ≡ lowest n c d own near 3
   third-open e = forward-scan 3 2 (ap (scanOf forward 2) e)
 
   pub third-shut : (eqb own 2 || leb (dist c d) 2) ≡ false → n ≡ lowest n c d own near 3

@@ -17,7 +17,7 @@ use Rattle.cube.specs.Cube.{bit, flip, apart}
 use Rattle.cube.proofs.Bools.{and-both, beq-no, beq-yes, by-cases, xor-not}
 use Rattle.cube.proofs.Count.{Least, the-least, least-found, least-is, least-same, find}
 use Rattle.cube.proofs.Cube.{bit-low, bit-suc, bit-none, bit-xor, bit-flip-other, bits-same}
-use Rattle.route.specs.Helpers.{among}
+use Rattle.route.specs.Helpers.{inSet}
 use Rattle.scans.specs.Scans.{forward, spare, scanOf, suits}
 
 -- ---- the trailing zeros of a number are its lowest set bit
@@ -111,25 +111,25 @@ least-none n p f = least-is n p n (omega arith) f (λ h. absurd (omega arith))
 
 module _ (n x : ℕ) (near : ℕ → ℕ) (t : ℕ) where
   -- its lowest dimension, where the neighbour's label is low enough
-  pub taken : (i : ℕ) → LowestOf n x i → near i ≤ t → i ≡ least n (among x near t)
-  unfolding among
-  taken i f h = sym (least-is n (among x near t) i (omega (arith, f .inside)) (λ j l. rw (f .before j l)) (λ _. and-both (f .has) (le-leb (near i) t h)))
+  pub taken : (i : ℕ) → LowestOf n x i → near i ≤ t → i ≡ least n (inSet x near t)
+  unfolding inSet
+  taken i f h = sym (least-is n (inSet x near t) i (omega (arith, f .inside)) (λ j l. rw (f .before j l)) (λ _. and-both (f .has) (le-leb (near i) t h)))
 
   -- the search in the rest, where it is not
-  pub too-high : (i : ℕ) → t < near i → least n (among x near t) ≡ least n (among (flip i x) near t)
-  unfolding among
-  too-high i h = least-same n (among x near t) (among (flip i x) near t) same
+  pub too-high : (i : ℕ) → t < near i → least n (inSet x near t) ≡ least n (inSet (flip i x) near t)
+  unfolding inSet
+  too-high i h = least-same n (inSet x near t) (inSet (flip i x) near t) same
     where
-      same : (j : ℕ) → j < n → among x near t j ≡ among (flip i x) near t j
+      same : (j : ℕ) → j < n → inSet x near t j ≡ inSet (flip i x) near t j
       same j _ =
           elim (ℕ-discrete j i) [
             | yes e ↦ rw (e, lt-leb (near i) t h) (and-false (bit i x) ∙ sym (and-false (bit i (flip i x))))
             | no k ↦ ap (λ (b : Bool). b && leb (near j) t) (sym (bit-flip-other j i x k))
           ]
 
-  pub none : x ≡ 0 → n ≡ least n (among x near t)
-  unfolding among
-  none e = sym (least-none n (among x near t) (λ j _. rw (e, bit-none j)))
+  pub none : x ≡ 0 → n ≡ least n (inSet x near t)
+  unfolding inSet
+  none e = sym (least-none n (inSet x near t) (λ j _. rw (e, bit-none j)))
 
 -- ---- the sets of the scans: the forward dimensions are the bits of the exclusive or, the spare ones the other bits below n
 
@@ -141,16 +141,16 @@ full (suc n) (suc i) h =
     bit-suc i (2 ^ suc n - 1) ∙ ap (bit i) e ∙ full n i (omega arith)
 
 module _ (n c d : ℕ) (near : ℕ → ℕ) (t : ℕ) where
-  pub forward-set : least n (among (bitXor c d) near t) ≡ least n (suits c d near (scanOf forward t true))
-  unfolding among suits apart
+  pub forward-set : least n (inSet (bitXor c d) near t) ≡ least n (suits c d near (scanOf forward t true))
+  unfolding inSet suits apart
   forward-set =
-      least-same n (among (bitXor c d) near t) (suits c d near (scanOf forward t true))
+      least-same n (inSet (bitXor c d) near t) (suits c d near (scanOf forward t true))
       (λ i _. ap (λ (b : Bool). b && leb (near i) t) (sym (beq-yes (bit i (bitXor c d)))))
 
-  pub spare-set : least n (among (bitXor (bitXor c d) (2 ^ n - 1)) near t) ≡ least n (suits c d near (scanOf spare t true))
-  unfolding among suits apart
+  pub spare-set : least n (inSet (bitXor (bitXor c d) (2 ^ n - 1)) near t) ≡ least n (suits c d near (scanOf spare t true))
+  unfolding inSet suits apart
   spare-set =
-      least-same n (among (bitXor (bitXor c d) (2 ^ n - 1)) near t) (suits c d near (scanOf spare t true))
+      least-same n (inSet (bitXor (bitXor c d) (2 ^ n - 1)) near t) (suits c d near (scanOf spare t true))
       (λ i h. ap (λ (b : Bool). b && leb (near i) t) (other i h))
     where
       other : (i : ℕ) → i < n → bit i (bitXor (bitXor c d) (2 ^ n - 1)) ≡ Bool·beq (bit i (bitXor c d)) false

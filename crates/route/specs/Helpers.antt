@@ -66,8 +66,8 @@ unfoldable pub gathered : (n : ℕ) (lab : ℕ → ℕ) (c : ℕ) → List ℕ
 gathered n lab c = tab 12 (λ i. cond (ltb i n) (lab (flip i c)) 0)
 
 -- dimension i is in the set, a number whose bits are the dimensions, and the label of the neighbour across it is at most top
-unfoldable pub among : (set : ℕ) (near : ℕ → ℕ) (top i : ℕ) → Bool
-among set near top i = bit i set && leb (near i) top
+unfoldable pub inSet : (set : ℕ) (near : ℕ → ℕ) (top i : ℕ) → Bool
+inSet set near top i = bit i set && leb (near i) top
 
 -- what the scans pick
 unfoldable pub chosen : (n c d own : ℕ) (near : ℕ → ℕ) → Choice

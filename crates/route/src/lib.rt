@@ -4,7 +4,7 @@ ghost use Prim.Native.Nat.{_<_, _≤_, _^_};
 ghost use Rattle.cube.specs.Count.{larger, largest, least};
 ghost use Rattle.cube.specs.Cube.{flip};
 ghost use Rattle.cube.specs.Tables.{labelIn};
-ghost use Rattle.route.specs.Helpers.{across, among, chosen, gathered, placeRefusal};
+ghost use Rattle.route.specs.Helpers.{across, chosen, gathered, inSet, placeRefusal};
 ghost use Rattle.route.specs.Hop.{hopped};
 ghost use Rattle.route.specs.Walk.{moved};
 ghost use Rattle.scans.specs.Scans as scans;
@@ -111,7 +111,7 @@ fn gather(n: usize, labels: &[u8], c: usize, near: &mut [u8; 12]) -> u8
 // its trailing zeros give the lowest of them, and `rest & (rest - 1)` is the rest without it.
 fn lowest(n: usize, set: usize, near: &[u8; 12], top: u8) -> usize
     requires { ⌜ (n ≤ 12) × (set < 2 ^ n) ⌝ }
-    ensures { λ r. ⌜ r ≡ least n (among set (λ i. getD (now (near .entry)) i 0) top) ⌝ }
+    ensures { λ r. ⌜ r ≡ least n (inSet set (λ i. getD (now (near .entry)) i 0) top) ⌝ }
 {
     let mut rest = set;
     while rest != 0 {

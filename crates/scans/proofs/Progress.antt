@@ -1,9 +1,9 @@
 -- Each pick on good labels makes progress. ONE RANK serves: the distance l where it is 0 or 1, else l and twice the label. Where some node is safe, a
 -- pick of any scan lowers it: scans 1 to 3 lead one nearer and, but for the last two hops, never to a worse label; scans 4 and 5 lead one farther
 -- and to a better label, which counts double. Where the destination is safe, or no node is, every pick is forward and l itself falls.
-use mathlib.Core.Path.{_≡_, refl, ap, _∙_}
+use mathlib.Core.Path.{_≡_, refl, sym, ap, _∙_}
 use mathlib.Core.Logic.{⊎-elim, _≢_}
-use mathlib.Core.Bool.{Bool, true, false, _||_}
+use mathlib.Core.Bool.{true, false}
 use Prim.Native.Nat.{ℕ, zero, suc, _+_, _*_, _^_, _≤_, _<_}
 use native.Mathlib.Omega.{arith}
 use lib.Dec.{eqb, leb}
@@ -14,7 +14,7 @@ use Rattle.cube.proofs.Cube.{flip-lt, flip-flip, dist-fall, dist-rise, dist-sym
 use Rattle.rule.specs.Good.{Good}
 use Rattle.scans.specs.Picks.{Misses, NonePicks, Picks, takesAt}
 use Rattle.scans.specs.Progress.{Inside, Progress, rank}
-use Rattle.scans.specs.Scans.{forward, noScan, scanOf, spare}
+use Rattle.scans.specs.Scans.{forward, noScan, spare}
 use Rattle.scans.proofs.Picking.{row, hit, miss, no-zero, each-scan}
 use Rattle.scans.proofs.Toward.{safe-step, near-step, toward, theorem5}
 
@@ -40,11 +40,6 @@ module _ (lab : ℕ → ℕ) (d x : ℕ) where
   pub rank-le : rank lab d x ≤ dist x d + 2 * lab x
   rank-le = rank-within .1
 
--- a test that is allowed for another reason, or near by: far off, for that reason
-far-off : (a : Bool) (l b : ℕ) → (a || leb l b) ≡ true → b < l → a ≡ true
-far-off true l b e h = refl
-far-off false l b e h = absurd (omega (arith, leb-true l b e))
-
 module _ (n : ℕ) (lab : ℕ → ℕ) (G : Good n lab) (d : ℕ) (hd : d < 2 ^ n) (wd : lab d ≤ 2) where
   -- ---- what scans that take nothing say of the label of c
 
@@ -57,7 +52,7 @@ module _ (n : ℕ) (lab : ℕ → ℕ) (G : Good n lab) (d : ℕ) (hd : d < 2 ^ 
         not-one e =
             let r = neighbour n c d hc hd e in
             let there = ap lab (ap (flip (r .0)) (r .3) ∙ flip-flip n (r .0) d (r .1) hd) in
-            omega (arith, miss n lab c d 3 (r .0) (m3 (r .0) (r .1)) (or-right (eqb (lab c) 2) (le-leb (dist c d) 2 (omega arith))) (r .2))
+            omega (arith, miss n lab c d 3 (r .0) (m3 (r .0) (r .1)) (rw e (or-right (eqb (lab c) 2) refl)) (r .2))
 
     unsafe-at : 1 < dist c d → Misses n lab c d 2 → 0 < lab c
     unsafe-at h m2 = omega (arith, no)
@@ -71,20 +66,24 @@ module _ (n : ℕ) (lab : ℕ → ℕ) (G : Good n lab) (d : ℕ) (hd : d < 2 ^ 
         no : lab c ≢ 0
         no e = let r = safe-step n lab G c d hc hd e h in omega (arith, r .3, miss n lab c d 1 (r .0) (m1 (r .0) (r .1)) refl (r .2))
 
-    -- a forward scan and a spare one for the same labels take every neighbour with such a label
-    both-miss : (s t b : ℕ) → row n lab c d s ≡ scanOf forward b true → row n lab c d t ≡ scanOf spare b true → Misses n lab c d s → Misses n lab c d t
-        → (i : ℕ) → i < n → b < lab (flip i c)
-    both-miss s t b es et ms mt i hi =
+    -- a forward scan and a spare one that take nothing: every neighbour has a higher label than both ask for
+    both-miss : (s t b : ℕ) → row n lab c d s .side ≡ forward → row n lab c d s .allowed ≡ true → b ≤ row n lab c d s .top → row n lab c d t .side ≡ spare
+        → row n lab c d t .allowed ≡ true → b ≤ row n lab c d t .top → Misses n lab c d s → Misses n lab c d t → (i : ℕ) → i < n → b < lab (flip i c)
+    both-miss s t b fs os bs ft ot bt ms mt i hi =
         ⊎-elim
-        (λ (a : apart i c d ≡ true). rw es at (miss n lab c d s i (ms i hi) (rw es) (a ∙ rw es)))
-        (λ (a : apart i c d ≡ false). rw et at (miss n lab c d t i (mt i hi) (rw et) (a ∙ rw et)))
+        (λ (a : apart i c d ≡ true). omega (arith, miss n lab c d s i (ms i hi) os (a ∙ sym fs)))
+        (λ (a : apart i c d ≡ false). omega (arith, miss n lab c d t i (mt i hi) ot (a ∙ sym ft)))
         (either (apart i c d))
 
     not-ordinary : Misses n lab c d 1 → Misses n lab c d 4 → lab c ≢ 1
-    not-ordinary m1 m4 e = let r = G .ordinary c hc e in omega (arith, r .2, both-miss 1 4 0 refl refl m1 m4 (r .0) (r .1))
+    not-ordinary m1 m4 e =
+        let r = G .ordinary c hc e in
+        omega (arith, r .2, both-miss 1 4 0 refl refl (omega arith) refl refl (omega arith) m1 m4 (r .0) (r .1))
 
     not-strong : (s : ℕ) → s < 2 ^ n → lab s ≡ 0 → Misses n lab c d 2 → Misses n lab c d 5 → lab c ≢ 2
-    not-strong s hs es m2 m5 e = let r = theorem5 n lab G c hc e s hs es in omega (arith, r .2, both-miss 2 5 1 refl refl m2 m5 (r .0) (r .1))
+    not-strong s hs es m2 m5 e =
+        let r = theorem5 n lab G c hc e s hs es in
+        omega (arith, r .2, both-miss 2 5 1 refl refl (omega arith) refl refl (omega arith) m2 m5 (r .0) (r .1))
 
     -- ---- the rank falls
 
@@ -123,7 +122,11 @@ module _ (n : ℕ) (lab : ℕ → ℕ) (G : Good n lab) (d : ℕ) (hd : d < 2 ^ 
         falls3 : Falls 3
         falls3 i hi e m =
             let r = hit n lab c d 3 i e in
-            (r .2, forward-falls i hi (r .1) (λ l. let strong = eqb-true (lab c) 2 (far-off (eqb (lab c) 2) (dist c d) 2 (r .0) l) in omega arith))
+            let no-worse : 2 < dist c d → lab (flip i c) ≤ lab c =
+            λ l. ⊎-elim (λ (q : eqb (lab c) 2 ≡ true). omega (arith, eqb-true (lab c) 2 q))
+            (λ (q : eqb (lab c) 2 ≡ false). absurd (omega (arith, leb-true (dist c d) 2 (rw q at (r .0)))))
+            (either (eqb (lab c) 2)) in
+            (r .2, forward-falls i hi (r .1) no-worse)
 
         falls4 : Falls 4
         falls4 i hi e m =

@@ -8,13 +8,13 @@ use lib.Count.{trailingZeros}
 use lib.ListN.{getD}
 use Rattle.cube.specs.Count.{least}
 use Rattle.cube.proofs.Cube.{flip-lt}
-use Rattle.route.specs.Helpers.{among}
+use Rattle.route.specs.Helpers.{inSet}
 use Rattle.route.proofs.Sets.{LowestOf, lowest-of, taken, too-high, none}
 use Rattle.route.proofs.lowest.Statement.{statement}
 use Rattle.route.proofs.lowest.Tie as tie
 
 abbrev Inv-loop : tie.InvT-loop
-Inv-loop n set near top rest₀ rest = (rest < 2 ^ n) × (least n (among set (λ i. getD near i 0) top) ≡ least n (among rest (λ i. getD near i 0) top))
+Inv-loop n set near top rest₀ rest = (rest < 2 ^ n) × (least n (inSet set (λ i. getD near i 0) top) ≡ least n (inSet rest (λ i. getD near i 0) top))
 
 abbrev μ-loop : tie.MeasureT-loop
 μ-loop n set near top rest₀ rest = rest
