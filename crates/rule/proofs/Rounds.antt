@@ -85,15 +85,15 @@ module _ (n k : ℕ) (F : ℕ → Bool) where
   -- it is at most the number of working nodes,
   pub rounds-le : rounds n k F ≤ working n F
   unfolding rounds
-  rounds-le = the-least (working n F) (quiet n k F) .within
+  rounds-le = the-least _ _ .within
 
   pub rounds-first : (j : ℕ) → j < rounds n k F → quiet n k F j ≡ false
   unfolding rounds
-  rounds-first = the-least (working n F) (quiet n k F) .before
+  rounds-first = the-least _ _ .before
 
   rounds-hit : rounds n k F < working n F → quiet n k F (rounds n k F) ≡ true
   unfolding rounds
-  rounds-hit = the-least (working n F) (quiet n k F) .hit
+  rounds-hit = the-least _ _ .hit
 
   pub rest : quiet n k F (rounds n k F) ≡ true
   unfolding quiet

@@ -4,10 +4,17 @@ use native.Mathlib.Omega.{arith}
 use lib.ListN.{length}
 use Rattle.rule.specs.Cabinet.{cabinet}
 use Rattle.hcube.specs.Answers.{labelNumber}
+use Rattle.hcube.specs.Fits.{LabelFits}
 use Rattle.hcube.proofs.Small.{label-small}
 use borrow.Author.Needs.{needs}
 use Rattle.hcube.proofs.hcube_label.Statement.{statement}
 use Rattle.hcube.proofs.hcube_label.Tie as tie
+
+-- the answer's parts are small, from where the answer is known
+small : (c : tie.After-label) → LabelFits (c .label .result)
+small c =
+    let a = c .before .before .before .before .args in
+    rw (c .label .ensures .0) (label-small (cabinet (a .n) (a .faults .now)) (length (a .labels .now)))
 
 label-requires : tie.Need-label-requires
 label-requires c κs = search needs
@@ -16,19 +23,13 @@ enum-known-answer : tie.Need-enum-known-answer
 enum-known-answer c = search needs
 
 pack-requires : tie.Need-pack-requires
-pack-requires c κs =
-    let a = c .before .before .before .before .before .before .before .before .before .args in
-    let f = label-small (cabinet (a .n) (a .faults .now)) (length (a .labels .now)) in
-    (omega arith, (omega arith, rw (sym (c .before .before .before .before .before .label .ensures .0) ∙ c .before .answer .given .1) at (f .1)))
+pack-requires c κs = (omega arith, (omega arith, rw (c .before .answer .given .1) at (small (c .before .before .before .before .before) .1)))
 
 enum-known-answer-2 : tie.Need-enum-known-answer-2
 enum-known-answer-2 c = search needs
 
 pack-requires-2 : tie.Need-pack-requires-2
-pack-requires-2 c κs =
-    let a = c .before .before .before .before .before .before .before .before .before .args in
-    let f = label-small (cabinet (a .n) (a .faults .now)) (length (a .labels .now)) in
-    (rw (sym (c .before .before .before .before .before .label .ensures .0) ∙ c .before .answer2 .given .1) at (f .0), (omega arith, omega arith))
+pack-requires-2 c κs = (rw (c .before .answer2 .given .1) at (small (c .before .before .before .before .before) .0), (omega arith, omega arith))
 
 same-length : tie.Need-same-length
 same-length c = search needs

@@ -20,6 +20,23 @@ Inv-loop n rule faults labels₀ rounds₀ labels rounds = Stands (cabinet n fau
 abbrev μ-loop : tie.MeasureT-loop
 μ-loop n rule faults labels₀ rounds₀ labels rounds = working n (out (cabinet n faults)) - rounds
 
+-- the places of the code: where a turn begins, from where its sweep is known; and the function's start from there
+abbrev turn : tie.After-sweep Inv-loop μ-loop → tie.At-loop Inv-loop μ-loop
+turn w = w .before .before
+
+abbrev start : tie.At-loop Inv-loop μ-loop → tie.Start Inv-loop μ-loop
+start l = l .before .before .before .before .before .before .before
+
+-- where the sweep is known, from behind its test; and that test from behind the last pass
+abbrev swept : tie.Else1 Inv-loop μ-loop → tie.After-sweep Inv-loop μ-loop
+swept c = c .before .before .before
+
+abbrev tested : tie.After-finish Inv-loop μ-loop → tie.Then1 Inv-loop μ-loop
+tested c = c .before .before
+
+abbrev quiet : tie.After-finish Inv-loop μ-loop → tie.After-sweep Inv-loop μ-loop
+quiet c = tested c .before .before .before
+
 start-requires : tie.Need-start-requires Inv-loop μ-loop
 start-requires c κs = search needs
 
@@ -29,24 +46,21 @@ loop-holds c = stands-first (cabinet _ _) _ (c .before .before .start .ensures)
 sweep-requires : tie.Need-sweep-requires Inv-loop μ-loop
 sweep-requires c κs =
     let l = c .before in
-    let start = l .before .before .before .before .before .before .before in
-    (omega (arith, start .pre .0), record { small = start .pre .1 .1 .small; sized = stands-length (cabinet _ _) _ _ (l .loop .inv) })
+    let p = start l .pre in
+    (omega (arith, p .0), record { small = p .1 .1 .small; sized = stands-length (cabinet _ _) _ _ (l .loop .inv) })
 
 settle-requires : tie.Need-settle-requires Inv-loop μ-loop
 settle-requires c κs = search needs
 
 -- a round that marked something is one of at most as many as there are working nodes, and these are few
 bound : (c : tie.Else1 Inv-loop μ-loop)
-    → let l = c .before .before .before .before .before in
-    let a = l .before .before .before .before .before .before .before .args in
-    (l .loop .rounds + 1 ≤ working (a .n) (out (cabinet (a .n) (a .faults .now)))) × (working (a .n) (out (cabinet (a .n) (a .faults .now))) ≤ 4096)
+    → let l = turn (swept c) in let a = start l .args in let few = working (a .n) (out (cabinet (a .n) (a .faults .now))) in
+    (l .loop .rounds + 1 ≤ few) × (few ≤ 4096)
 bound c =
-    let w = c .before .before .before in
-    let l = w .before .before in
-    let start = l .before .before .before .before .before .before .before in (
-      round-bound (cabinet _ _) _ _ (l .loop .inv) _ (start .pre .0) _ _ (w .sweep .ensures .0) (w .sweep .ensures .1) (c .if1 .left),
-      working-few _ _ (start .pre .1 .1 .small),
-    )
+    let w = swept c in
+    let l = turn w in
+    let p = start l .pre in
+    (round-bound (cabinet _ _) _ _ (l .loop .inv) _ (p .0) _ _ (w .sweep .ensures .0) (w .sweep .ensures .1) (c .if1 .left), working-few _ _ (p .1 .1 .small))
 
 add-rounds : tie.Need-add-rounds Inv-loop μ-loop
 add-rounds c = omega (arith, bound (c .before .before .before .before))
@@ -56,35 +70,34 @@ loop-less c = omega (arith, bound (c .before .before .before .before))
 
 loop-again : tie.Need-loop-again Inv-loop μ-loop
 loop-again c =
-    let w = c .before .before .before .before .before .before .before in
-    let l = w .before .before in
-    let start = l .before .before .before .before .before .before .before in
-    round-done (cabinet _ _) _ _ (l .loop .inv) _ (start .pre .0) _ _ (w .sweep .ensures .0) (w .sweep .ensures .1)
-    (c .before .before .before .before .if1 .left) _ (c .before .before .settle .ensures)
+    let e = c .before .before .before .before in
+    let w = swept e in
+    let l = turn w in
+    round-done (cabinet _ _) _ _ (l .loop .inv) _ (start l .pre .0) _ _ (w .sweep .ensures .0) (w .sweep .ensures .1) (e .if1 .left) _
+    (c .before .before .settle .ensures)
 
 finish-requires : tie.Need-finish-requires Inv-loop μ-loop
 finish-requires c κs =
     let w = c .before .before .before .before in
-    let l = w .before .before in
-    let start = l .before .before .before .before .before .before .before in
-    let sized = swept-length (cabinet _ _) _ _ (l .loop .inv) _ (start .pre .0) _ _ (w .sweep .ensures .0) (w .sweep .ensures .1) in
-    record { small = start .pre .1 .1 .small; sized = sized }
+    let l = turn w in
+    let p = start l .pre in
+    let sized = swept-length (cabinet _ _) _ _ (l .loop .inv) _ (p .0) _ _ (w .sweep .ensures .0) (w .sweep .ensures .1) in
+    record { small = p .1 .1 .small; sized = sized }
 
 same-length : tie.Need-same-length Inv-loop μ-loop
 same-length c =
-    let w = c .before .before .before .before .before .before .before in
-    let start = w .before .before .before .before .before .before .before .before .before in
-    ap length (c .before .before .finish .ensures) ∙ length-tab _ _ ∙ sym (start .pre .1 .1 .sized)
+    let f = c .before .before in
+    ap length (f .finish .ensures) ∙ length-tab _ _ ∙ sym (start (turn (quiet f)) .pre .1 .1 .sized)
 
 returns : tie.Need-returns Inv-loop μ-loop
 returns c =
-    let w = c .before .before .before .before .before .before .before in
-    let l = w .before .before in
-    let start = l .before .before .before .before .before .before .before in
-    let none-new = c .before .before .before .before .if1 .taken in (
-      sym (end-rounds (cabinet _ _) _ _ (l .loop .inv) _ (start .pre .0) _ _ (w .sweep .ensures .0) (w .sweep .ensures .1) none-new),
-      end-labels (cabinet _ _) _ _ (l .loop .inv) _ (start .pre .0) _ _ (w .sweep .ensures .0) (w .sweep .ensures .1) none-new _
-          (c .before .before .finish .ensures),
+    let f = c .before .before in
+    let w = quiet f in
+    let l = turn w in
+    let p = start l .pre .0 in
+    let none = tested f .if1 .taken in (
+      sym (end-rounds (cabinet _ _) _ _ (l .loop .inv) _ p _ _ (w .sweep .ensures .0) (w .sweep .ensures .1) none),
+      end-labels (cabinet _ _) _ _ (l .loop .inv) _ p _ _ (w .sweep .ensures .0) (w .sweep .ensures .1) none _ (f .finish .ensures),
     )
 
 pub label-nodes-spec : {M : Type 1} → statement M

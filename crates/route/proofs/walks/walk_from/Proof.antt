@@ -19,17 +19,31 @@ Inv-loop n s d labels row₀ m₀ row m = Walking n (labelIn labels) d s row m
 abbrev μ-loop : tie.MeasureT-loop
 μ-loop n s d labels row₀ m₀ row m = n + 4 - m .hops
 
+-- the places of the code: the function's start, from where a turn begins; that place from where the decision is known to be a hop, from behind the
+-- test for 8, and from where the message has moved
+abbrev start-of : tie.At-loop Inv-loop μ-loop → tie.Start Inv-loop μ-loop
+start-of l = l .before .before
+
+abbrev decided : tie.After-i Inv-loop μ-loop → tie.At-loop Inv-loop μ-loop
+decided c = c .before .before .before
+
+abbrev allowed : tie.Else1 Inv-loop μ-loop → tie.After-i Inv-loop μ-loop
+allowed c = c .before .before
+
+abbrev went : tie.After-moved Inv-loop μ-loop → tie.After-i Inv-loop μ-loop
+went c = allowed (c .before)
+
 -- the decision is a hop
-hop-here : (c : tie.After-i Inv-loop μ-loop) → let l = c .before .before .before in
-    Hop (c .i .given .0 .0) ≡ hop (l .before .before .args .n) (labelIn (l .before .before .args .labels .now)) (l .loop .m .at) (l .loop .m .to)
+hop-here : (c : tie.After-i Inv-loop μ-loop) → let l = decided c in let a = start-of l .args in
+    Hop (c .i .given .0 .0) ≡ hop (a .n) (labelIn (a .labels .now)) (l .loop .m .at) (l .loop .m .to)
 hop-here c = sym (c .i .given .1) ∙ c .before .before .hop-at .ensures
 
 -- and it is made
-next : (c : tie.After-moved Inv-loop μ-loop) → let l = c .before .before .before .before .before .before in let a = l .before .before .args in
+next : (c : tie.After-moved Inv-loop μ-loop) → let l = decided (went c) in let a = start-of l .args in
     Walking (a .n) (labelIn (a .labels .now)) (a .d) (a .s) (set (l .loop .row) (l .loop .m .hops + 1) (c .moved .result .at)) (c .moved .result)
 next c =
-    let l = c .before .before .before .before .before .before in
-    on _ _ _ _ _ _ (l .loop .inv) _ (hop-here (c .before .before .before)) _ (l .before .before .pre .small) (omega arith) (c .moved .ensures)
+    let l = decided (went c) in
+    on _ _ _ _ _ _ (l .loop .inv) _ (hop-here (went c)) _ (start-of l .pre .small) (omega arith) (c .moved .ensures)
 
 cast-row : tie.Need-cast-row Inv-loop μ-loop
 cast-row c = omega (arith, pow-mono (c .before .pre .small))
@@ -75,16 +89,16 @@ refused-requires c κs = search needs
 
 returns-3 : tie.Need-returns-3 Inv-loop μ-loop
 returns-3 c =
-    let l = c .before .before .before .before .before .before in
-    c .refused .ensures ∙ too-long _ _ _ _ _ _ (l .loop .inv) _ (hop-here (c .before .before .before)) (c .before .if1 .taken)
+    let h = c .before .before .before in
+    c .refused .ensures ∙ too-long _ _ _ _ _ _ (decided h .loop .inv) _ (hop-here h) (c .before .if1 .taken)
 
 moved-requires : tie.Need-moved-requires Inv-loop μ-loop
 moved-requires c κs =
-    let l = c .before .before .before .before .before in
-    omega (arith, l .before .before .pre .small, dimension _ _ _ _ _ _ (l .loop .inv) _ (hop-here (c .before .before)))
+    let l = decided (allowed c) in
+    omega (arith, start-of l .pre .small, dimension _ _ _ _ _ _ (l .loop .inv) _ (hop-here (allowed c)))
 
 cast-row-2 : tie.Need-cast-row-2 Inv-loop μ-loop
-cast-row-2 c = omega (arith, next c .inside, pow-mono (c .before .before .before .before .before .before .before .before .pre .small))
+cast-row-2 c = omega (arith, next c .inside, pow-mono (start-of (decided (went c)) .pre .small))
 
 add-row : tie.Need-add-row Inv-loop μ-loop
 add-row c = omega arith
@@ -97,8 +111,7 @@ array-write-row-2 c = omega arith
 
 loop-less : tie.Need-loop-less Inv-loop μ-loop
 loop-less c =
-    let l = c .before .before .before .before .before .before in
-    omega (arith, counted _ _ _ _ _ _ (l .loop .inv) _ (hop-here (c .before .before .before)) _ (c .moved .ensures))
+    omega (arith, counted _ _ _ _ _ _ (decided (went c) .loop .inv) _ (hop-here (went c)) _ (c .moved .ensures))
 
 loop-again : tie.Need-loop-again Inv-loop μ-loop
 loop-again c = next c
