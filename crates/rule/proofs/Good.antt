@@ -12,7 +12,7 @@ use Rattle.cube.proofs.Bools.{clash, is-false}
 use Rattle.cube.proofs.Count.{count-le, count-same}
 use Rattle.cube.proofs.Cube.{flip-lt}
 use Rattle.rule.specs.Closed.{Closed}
-use Rattle.rule.specs.Good.{Good}
+use Rattle.rule.specs.Good.{Good, LabelsGood}
 use Rattle.rule.specs.Rule.{labelOf, label, safe}
 use Rattle.rule.proofs.Bytes.{zero-safe, safe-zero, byte-out, ordinary-near, strong-none}
 use Rattle.rule.proofs.Largest.{safe-closed}
@@ -47,7 +47,7 @@ module _ (n k : ℕ) (F : ℕ → Bool) (byte : ℕ → ℕ) (S : ℕ → Bool) 
       zero : (x : ℕ) → labelOf n F byte S x ≡ 0 → S x ≡ true
       zero = zero-safe n F byte S (C .works) high
 
-pub labels-good : (n k : ℕ) (F : ℕ → Bool) (byte : ℕ → ℕ) → ((x : ℕ) → F x ≡ true → 3 ≤ byte x) → k ≤ 3 → Good n (label n k F byte)
+pub labels-good : LabelsGood
 unfolding label
 labels-good n k F byte high small = closed-good n k F byte (safe n k F) (safe-closed n k F) high small
 

@@ -37,19 +37,19 @@ module _ (n : ℕ) (lab : ℕ → ℕ) (c d : ℕ) where
 
   -- ---- what a dimension that scan s takes has, and what one that it does not take lacks
 
-  abbrev pub row : ℕ → Scan
-  row = scanAt (dist c d) (lab c)
+  abbrev pub scanHere : ℕ → Scan
+  scanHere = scanAt (dist c d) (lab c)
 
-  pub hit : (s i : ℕ) → takesAt lab c d s i ≡ true → (row s .allowed ≡ true) × (apart i c d ≡ row s .side) × (lab (flip i c) ≤ row s .top)
+  pub hit : (s i : ℕ) → takesAt lab c d s i ≡ true → (scanHere s .allowed ≡ true) × (apart i c d ≡ scanHere s .side) × (lab (flip i c) ≤ scanHere s .top)
   unfolding takes suits
   hit s i e =
-      let a = and-true (row s .allowed) (Bool·beq (apart i c d) (row s .side) && leb (lab (flip i c)) (row s .top)) e in
-      let b = and-true (Bool·beq (apart i c d) (row s .side)) (leb (lab (flip i c)) (row s .top)) (a .1) in
-      (a .0, beq-true (apart i c d) (row s .side) (b .0), leb-true (lab (flip i c)) (row s .top) (b .1))
+      let a = and-true (scanHere s .allowed) (Bool·beq (apart i c d) (scanHere s .side) && leb (lab (flip i c)) (scanHere s .top)) e in
+      let b = and-true (Bool·beq (apart i c d) (scanHere s .side)) (leb (lab (flip i c)) (scanHere s .top)) (a .1) in
+      (a .0, beq-true (apart i c d) (scanHere s .side) (b .0), leb-true (lab (flip i c)) (scanHere s .top) (b .1))
 
-  pub miss : (s i : ℕ) → takesAt lab c d s i ≡ false → row s .allowed ≡ true → apart i c d ≡ row s .side → row s .top < lab (flip i c)
+  pub miss : (s i : ℕ) → takesAt lab c d s i ≡ false → scanHere s .allowed ≡ true → apart i c d ≡ scanHere s .side → scanHere s .top < lab (flip i c)
   unfolding takes suits
-  miss s i e o a = leb-false (lab (flip i c)) (row s .top) (rw (o, a, beq-same (row s .side)) at e)
+  miss s i e o a = leb-false (lab (flip i c)) (scanHere s .top) (rw (o, a, beq-same (scanHere s .side)) at e)
 
   -- there is no scan 0
   pub no-zero : (i : ℕ) → takesAt lab c d 0 i ≡ true → ⊥

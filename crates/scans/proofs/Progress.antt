@@ -13,9 +13,9 @@ use Rattle.cube.proofs.Bools.{either, or-left, or-right}
 use Rattle.cube.proofs.Cube.{flip-lt, flip-flip, dist-fall, dist-rise, dist-sym, apart-sym, neighbour}
 use Rattle.rule.specs.Good.{Good}
 use Rattle.scans.specs.Picks.{Misses, NonePicks, Picks, takesAt}
-use Rattle.scans.specs.Progress.{Inside, Progress, rank}
+use Rattle.scans.specs.Progress.{GoodProgress, Inside, Progress, rank}
 use Rattle.scans.specs.Scans.{forward, noScan, spare}
-use Rattle.scans.proofs.Picking.{row, hit, miss, no-zero, each-scan}
+use Rattle.scans.proofs.Picking.{scanHere, hit, miss, no-zero, each-scan}
 use Rattle.scans.proofs.Toward.{safe-step, near-step, toward, theorem5}
 
 module _ (lab : ℕ → ℕ) (d x : ℕ) where
@@ -67,8 +67,8 @@ module _ (n : ℕ) (lab : ℕ → ℕ) (G : Good n lab) (d : ℕ) (hd : d < 2 ^ 
         no e = let r = safe-step n lab G c d hc hd e h in omega (arith, r .3, miss n lab c d 1 (r .0) (m1 (r .0) (r .1)) refl (r .2))
 
     -- a forward scan and a spare one that take nothing: every neighbour has a higher label than both ask for
-    both-miss : (s t b : ℕ) → row n lab c d s .side ≡ forward → row n lab c d s .allowed ≡ true → b ≤ row n lab c d s .top → row n lab c d t .side ≡ spare
-        → row n lab c d t .allowed ≡ true → b ≤ row n lab c d t .top → Misses n lab c d s → Misses n lab c d t → (i : ℕ) → i < n → b < lab (flip i c)
+    both-miss : (s t b : ℕ) → scanHere n lab c d s .side ≡ forward → scanHere n lab c d s .allowed ≡ true → b ≤ scanHere n lab c d s .top → scanHere n lab c d t .side ≡ spare
+        → scanHere n lab c d t .allowed ≡ true → b ≤ scanHere n lab c d t .top → Misses n lab c d s → Misses n lab c d t → (i : ℕ) → i < n → b < lab (flip i c)
     both-miss s t b fs os bs ft ot bt ms mt i hi =
         ⊎-elim
         (λ (a : apart i c d ≡ true). omega (arith, miss n lab c d s i (ms i hi) os (a ∙ sym fs)))
@@ -142,7 +142,7 @@ module _ (n : ℕ) (lab : ℕ → ℕ) (G : Good n lab) (d : ℕ) (hd : d < 2 ^ 
             (omega arith, spare-falls i hi (r .1) l (omega (arith, unsafe-at l (m 2 (omega arith)))))
 
   -- where some node is safe, the rank falls, and something is always picked
-  pub by-rank : (s : ℕ) → s < 2 ^ n → lab s ≡ 0 → Progress n lab d (rank lab d) (λ _. ⊥)
+  by-rank : (s : ℕ) → s < 2 ^ n → lab s ≡ 0 → Progress n lab d (rank lab d) (λ _. ⊥)
   by-rank s hs es =
       record {
         inside = λ c t i p far k. (flip-lt n i c (k .dimension) (p .0), fallen c t i p far k .0);
@@ -177,7 +177,7 @@ module _ (n : ℕ) (lab : ℕ → ℕ) (G : Good n lab) (d : ℕ) (hd : d < 2 ^ 
       stepped c s i p far k = step c p far s (k .scan) i (k .dimension) (k .takes) (k .earlier)
 
   -- so it is where the destination is safe, and something is always picked;
-  pub to-safe : lab d ≡ 0 → Progress n lab d (λ x. dist x d) (λ _. ⊥)
+  to-safe : lab d ≡ 0 → Progress n lab d (λ x. dist x d) (λ _. ⊥)
   to-safe ed = nearer (λ _. ⊥) step (λ c p far m. second c p far (m 2 (omega arith)))
     where
       -- the second scan takes something
@@ -206,7 +206,7 @@ module _ (n : ℕ) (lab : ℕ → ℕ) (G : Good n lab) (d : ℕ) (hd : d < 2 ^ 
         no : lab x ≢ 1
         no e = let r = G .ordinary x hx e in none (flip (r .0) x) (flip-lt n (r .0) x (r .1) hx) (r .2)
 
-    pub in-the-dark : Progress n lab d (λ x. dist x d) (λ x. (i : ℕ) → i < n → apart i x d ≡ true → 2 < lab (flip i x))
+    in-the-dark : Progress n lab d (λ x. dist x d) (λ x. (i : ℕ) → i < n → apart i x d ≡ true → 2 < lab (flip i x))
     in-the-dark = nearer (λ x. (i : ℕ) → i < n → apart i x d ≡ true → 2 < lab (flip i x)) (λ c p far. step c (p .0)) halted
       where
         halted : (c : ℕ) → Inside n lab c → 0 < dist c d → NonePicks n lab c d → (i : ℕ) → i < n → apart i c d ≡ true → 2 < lab (flip i c)
@@ -219,5 +219,8 @@ module _ (n : ℕ) (lab : ℕ → ℕ) (G : Good n lab) (d : ℕ) (hd : d < 2 ^ 
             (λ i hi e m. let r = hit n lab c d 3 i e in (r .1, r .2)) (low 4 (omega arith)) (low 5 (omega arith))
           where
             -- a scan for safe or ordinarily unsafe nodes takes nothing
-            low : (s : ℕ) → row n lab c d s .top ≤ 1 → Step c s
+            low : (s : ℕ) → scanHere n lab c d s .top ≤ 1 → Step c s
             low s t i hi e m = absurd (omega (arith, hit n lab c d s i e .2, dark (flip i c) (flip-lt n i c hi hc)))
+
+  pub good-progress : GoodProgress n lab d
+  good-progress = record { by-rank = by-rank; to-safe = to-safe; in-the-dark = in-the-dark }

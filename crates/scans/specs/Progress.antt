@@ -1,9 +1,11 @@
--- What a walk needs of the scans: every pick leads to a node that works and lowers a measure, and where nothing is picked there is a reason.
--- proofs/Progress.antt has it for good labels and three measures.
-use mathlib.Core.Bool.{cond}
+-- What a walk needs of the scans: every pick leads to a node that works and lowers a measure, and where nothing is picked there is a reason. Good labels
+-- give it with three measures. Proved in proofs/Progress.antt.
+use mathlib.Core.Bool.{cond, true}
+use mathlib.Core.Logic.{_≢_}
+use mathlib.Core.Path.{_≡_}
 use Prim.Native.Nat.{ℕ, _+_, _*_, _^_, _≤_, _<_}
 use lib.Dec.{leb}
-use Rattle.cube.specs.Cube.{dist, flip}
+use Rattle.cube.specs.Cube.{apart, dist, flip}
 use Rattle.scans.specs.Picks.{NonePicks, Picks}
 
 -- a node of the cube that works
@@ -18,3 +20,14 @@ pub record Progress (n : ℕ) (lab : ℕ → ℕ) (d : ℕ) (measure : ℕ → �
 -- the measure where some node is safe: the distance, and from 2 on twice the label besides
 unfoldable pub rank : (lab : ℕ → ℕ) (d x : ℕ) → ℕ
 rank lab d x = cond (leb (dist x d) 1) (dist x d) (dist x d + 2 * lab x)
+
+-- on good labels, towards a destination that works
+pub record GoodProgress (n : ℕ) (lab : ℕ → ℕ) (d : ℕ) : Type 0 where
+  -- where some node is safe, the rank falls, and something is always picked;
+  pub by-rank : (x : ℕ) → x < 2 ^ n → lab x ≡ 0 → Progress n lab d (rank lab d) (λ _. ⊥)
+  -- where the destination is safe, the distance falls, and something is always picked;
+  pub to-safe : lab d ≡ 0 → Progress n lab d (λ c. dist c d) (λ _. ⊥)
+  -- where no node is safe, the distance falls, and nothing is picked only where no neighbour nearer the destination works
+  pub in-the-dark :
+      ((x : ℕ) → x < 2 ^ n → lab x ≢ 0)
+      → Progress n lab d (λ c. dist c d) (λ c. (i : ℕ) → i < n → apart i c d ≡ true → 2 < lab (flip i c))

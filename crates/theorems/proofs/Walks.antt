@@ -13,8 +13,8 @@ use Rattle.cube.proofs.Bools.{either, clash}
 use Rattle.cube.proofs.Count.{count-bound, Least, the-least}
 use Rattle.cube.proofs.Cube.{dist-count, dist-self, dist-zero, dist-fall, dist-rise}
 use Rattle.rule.specs.Good.{Good}
-use Rattle.scans.specs.Progress.{Inside, Progress, rank}
-use Rattle.scans.proofs.Progress.{rank-le, by-rank, to-safe, in-the-dark}
+use Rattle.scans.specs.Progress.{GoodProgress, Inside, Progress, rank}
+use Rattle.scans.proofs.Progress.{rank-le, good-progress}
 use Rattle.route.specs.Hop.{hop}
 use Rattle.route.specs.Walk.{onto, stops, spot, turn, hops, last}
 use Rattle.route.specs.declared.Decision.{Decision}
@@ -191,6 +191,9 @@ module _ (n : ℕ) (lab : ℕ → ℕ) (G : Good n lab) (d : ℕ) (hd : d < 2 ^ 
         (λ (e : (last n lab d s ≡ Halted) × Stuck (spot n lab d s (hops n lab d s))). inr e)
         (end n lab d hd measure Stuck P s (hs, ws) fuel)
 
+  progress : GoodProgress n lab d
+  progress = good-progress n lab G d hd wd
+
   near : dist s d ≤ n + 4
   near = omega (arith, dist-le n s d hs hd)
 
@@ -199,13 +202,13 @@ module _ (n : ℕ) (lab : ℕ → ℕ) (G : Good n lab) (d : ℕ) (hd : d < 2 ^ 
   delivers x hx ex =
       let far = rank-le lab d s in
       ⊎-elim (λ (D : Delivers n lab d s (lab s)). D) (λ (e : (last n lab d s ≡ Halted) × ⊥). absurd (e .1))
-      (outcome (rank lab d) (λ _. ⊥) (by-rank n lab G d hd wd x hx ex) (omega (arith, dist-le n s d hs hd)) (lab s) (omega arith))
+      (outcome (rank lab d) (λ _. ⊥) (progress .by-rank x hx ex) (omega (arith, dist-le n s d hs hd)) (lab s) (omega arith))
 
   -- the destination is safe: delivered in exactly the distance
   pub delivers-safe : lab d ≡ 0 → Delivers n lab d s 0
   delivers-safe ed =
       ⊎-elim (λ (D : Delivers n lab d s 0). D) (λ (e : (last n lab d s ≡ Halted) × ⊥). absurd (e .1))
-      (outcome (λ x. dist x d) (λ _. ⊥) (to-safe n lab G d hd wd ed) near 0 (omega arith))
+      (outcome (λ x. dist x d) (λ _. ⊥) (progress .to-safe ed) near 0 (omega arith))
 
   -- no node is safe: delivered in exactly the distance, or halted
   pub delivers-or-halts : ((x : ℕ) → x < 2 ^ n → lab x ≢ 0) → Delivers n lab d s 0 ⊎ Halts n lab d s
@@ -219,4 +222,4 @@ module _ (n : ℕ) (lab : ℕ → ℕ) (G : Good n lab) (d : ℕ) (hd : d < 2 ^ 
       Stuck x = (i : ℕ) → i < n → apart i x d ≡ true → 2 < lab (flip i x)
 
       dark : Progress n lab d (λ x. dist x d) Stuck
-      dark = in-the-dark n lab G d hd wd none
+      dark = progress .in-the-dark none

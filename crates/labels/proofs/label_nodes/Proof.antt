@@ -21,8 +21,8 @@ abbrev μ-loop : tie.MeasureT-loop
 μ-loop n rule faults labels₀ rounds₀ labels rounds = working n (out (cabinet n faults)) - rounds
 
 -- the places of the code: where a turn begins, from where its sweep is known; and the function's start from there
-abbrev turn : tie.After-sweep Inv-loop μ-loop → tie.At-loop Inv-loop μ-loop
-turn w = w .before .before
+abbrev begun : tie.After-sweep Inv-loop μ-loop → tie.At-loop Inv-loop μ-loop
+begun w = w .before .before
 
 abbrev start : tie.At-loop Inv-loop μ-loop → tie.Start Inv-loop μ-loop
 start l = l .before .before .before .before .before .before .before
@@ -54,11 +54,11 @@ settle-requires c κs = search needs
 
 -- a round that marked something is one of at most as many as there are working nodes, and these are few
 bound : (c : tie.Else1 Inv-loop μ-loop)
-    → let l = turn (swept c) in let a = start l .args in let few = working (a .n) (out (cabinet (a .n) (a .faults .now))) in
+    → let l = begun (swept c) in let a = start l .args in let few = working (a .n) (out (cabinet (a .n) (a .faults .now))) in
     (l .loop .rounds + 1 ≤ few) × (few ≤ 4096)
 bound c =
     let w = swept c in
-    let l = turn w in
+    let l = begun w in
     let p = start l .pre in
     (round-bound (cabinet _ _) _ _ (l .loop .inv) _ (p .0) _ _ (w .sweep .ensures .0) (w .sweep .ensures .1) (c .if1 .left), working-few _ _ (p .1 .1 .small))
 
@@ -72,14 +72,14 @@ loop-again : tie.Need-loop-again Inv-loop μ-loop
 loop-again c =
     let e = c .before .before .before .before in
     let w = swept e in
-    let l = turn w in
+    let l = begun w in
     round-done (cabinet _ _) _ _ (l .loop .inv) _ (start l .pre .0) _ _ (w .sweep .ensures .0) (w .sweep .ensures .1) (e .if1 .left) _
     (c .before .before .settle .ensures)
 
 finish-requires : tie.Need-finish-requires Inv-loop μ-loop
 finish-requires c κs =
     let w = c .before .before .before .before in
-    let l = turn w in
+    let l = begun w in
     let p = start l .pre in
     let sized = swept-length (cabinet _ _) _ _ (l .loop .inv) _ (p .0) _ _ (w .sweep .ensures .0) (w .sweep .ensures .1) in
     record { small = p .1 .1 .small; sized = sized }
@@ -87,13 +87,13 @@ finish-requires c κs =
 same-length : tie.Need-same-length Inv-loop μ-loop
 same-length c =
     let f = c .before .before in
-    ap length (f .finish .ensures) ∙ length-tab _ _ ∙ sym (start (turn (quiet f)) .pre .1 .1 .sized)
+    ap length (f .finish .ensures) ∙ length-tab _ _ ∙ sym (start (begun (quiet f)) .pre .1 .1 .sized)
 
 returns : tie.Need-returns Inv-loop μ-loop
 returns c =
     let f = c .before .before in
     let w = quiet f in
-    let l = turn w in
+    let l = begun w in
     let p = start l .pre .0 in
     let none = tested f .if1 .taken in (
       sym (end-rounds (cabinet _ _) _ _ (l .loop .inv) _ p _ _ (w .sweep .ensures .0) (w .sweep .ensures .1) none),
