@@ -1,55 +1,49 @@
--- What a number can be: each is one of the four outcomes of `numberAt`, so what holds of those holds of every number. A value of two groups is
--- below 128 * 128, since each group has seven bits, and at least 128, since the second is not zero: so a number has one form only, its shortest.
+-- What a number can be: each is one of the outcomes of `numberAt`, so what holds of those holds of every number. A value of two groups is below
+-- 128 * 128, since each group has seven bits, and at least 128, since the second is not zero.
 use mathlib.Core.Path.{_≡_, refl, sym}
 use mathlib.Core.Logic.{_⊎_, inl, inr}
 use mathlib.Core.Bool.{Bool, true, false, cond, _||_}
-use mathlib.Core.List.{List, [], _∷_}
+use mathlib.Core.List.{List}
 use Prim.Native.Nat.{ℕ, zero, suc, _+_, _*_, _%_, _≤_, _<_}
 use native.Mathlib.Omega.{arith}
 use lib.Dec.{eqb, ltb, leb}
 use lib.ListN.{length, getD}
 use borrow.Author.Tests.{leb-false, ltb-true, lt-leb, le-ltb, ne-eqb}
 use Rattle.groups.specs.Number.{numberAt, twoGroups}
+use Rattle.groups.specs.Laws.{ReadNumber}
 use Rattle.groups.specs.declared.Number.{Number}
 use Rattle.groups.specs.declared.Number.the-variants.{Value, Refused}
 
--- a value v with the next place, of a number that begins at `at`
-pub record Read (s : List ℕ) (at v next : ℕ) : Type 0 where
-  pub beyond : at < next
-  pub near : next ≤ at + 2
-  pub within : next ≤ length s
-  pub small : v < 16384
-  pub shortest : v < 128 → next ≡ at + 1
+by-cases : (P : Number → Type 0) (b : Bool) {x y : Number} → (b ≡ true → P x) → (b ≡ false → P y) → P (cond b x y)
+by-cases P true f g = f refl
+by-cases P false f g = g refl
 
-either : (P : Number → Type 0) (b : Bool) (x y : Number) → (b ≡ true → P x) → (b ≡ false → P y) → P (cond b x y)
-either P true x y f g = f refl
-either P false x y f g = g refl
-
-pub clash : {k v next : ℕ} → Refused k ≡ Value v next → ⊥
-clash e = let z : _≡_ {A = ℕ} 0 1 = cc in omega arith
+-- a refusal is no value
+pub no-value : {k v next : ℕ} → Refused k ≡ Value v next → ⊥
+no-value e = let z : _≡_ {A = ℕ} 0 1 = cc in omega arith
 
 -- a second group that is neither zero nor has its high bit set
-seven : (b : ℕ) → (eqb b 0 || leb 128 b) ≡ false → (1 ≤ b) × (b < 128)
-seven zero e = let z : _≡_ {A = ℕ} 0 1 = cc in absurd (omega arith)
-seven (suc b) e = (omega arith, leb-false 128 (suc b) (rw (ne-eqb (suc b) 0 (omega arith)) at e))
+seven-bits : (b : ℕ) → (eqb b 0 || leb 128 b) ≡ false → (1 ≤ b) × (b < 128)
+seven-bits zero e = let z : _≡_ {A = ℕ} 0 1 = cc in absurd (omega arith)
+seven-bits (suc b) e = (omega arith, leb-false 128 (suc b) (rw (ne-eqb (suc b) 0 (omega arith)) at e))
 
 -- a number is 9, 10, or a value with the next place
 pub cases : (s : List ℕ) (at : ℕ) (P : Number → Type 0) → P (Refused 9) → P (Refused 10)
-    → ((v next : ℕ) → Read s at v next → P (Value v next)) → P (numberAt s at)
+    → ((v next : ℕ) → ReadNumber s at v next → P (Value v next)) → P (numberAt s at)
 unfolding numberAt twoGroups
 cases s at P nine ten value =
-    either P (leb (length s) at) _ _ (λ _. nine)
-    (λ here. either P (ltb (getD s at 0) 128) _ _ (λ one. value _ _ (single (leb-false _ _ here) (ltb-true _ _ one)))
-    (λ _. either P (leb (length s) (at + 1)) _ _ (λ _. nine)
-    (λ there. either P (eqb high 0 || leb 128 high) _ _ (λ _. ten) (λ good. value _ _ (double (leb-false _ _ there) (seven high good))))))
+    by-cases P (leb (length s) at) (λ _. nine)
+    (λ here. by-cases P (ltb (getD s at 0) 128) (λ one. value _ _ (single (leb-false _ _ here) (ltb-true _ _ one)))
+    (λ _. by-cases P (leb (length s) (at + 1)) (λ _. nine)
+    (λ there. by-cases P (eqb high 0 || leb 128 high) (λ _. ten) (λ good. value _ _ (double (leb-false _ _ there) (seven-bits high good))))))
   where
     high : ℕ
     high = getD s (at + 1) 0
 
-    single : at < length s → getD s at 0 < 128 → Read s at (getD s at 0) (at + 1)
+    single : at < length s → getD s at 0 < 128 → ReadNumber s at (getD s at 0) (at + 1)
     single h l = record { beyond = omega arith; near = omega arith; within = omega arith; small = omega arith; shortest = λ _. refl }
 
-    double : at + 1 < length s → (1 ≤ high) × (high < 128) → Read s at (getD s at 0 % 128 + high * 128) (at + 2)
+    double : at + 1 < length s → (1 ≤ high) × (high < 128) → ReadNumber s at (getD s at 0 % 128 + high * 128) (at + 2)
     double h l = record {
       beyond = omega arith;
       near = omega arith;
@@ -58,26 +52,18 @@ cases s at P nine ten value =
       shortest = λ few. absurd (omega (arith, l .0));
     }
 
--- with a first group that has its high bit set, and a byte behind it, there are two groups
-pub second : (s : List ℕ) (at : ℕ) → at + 1 < length s → 128 ≤ getD s at 0 → numberAt s at ≡ twoGroups (getD s at 0) (getD s (at + 1) 0) (at + 2)
-unfolding numberAt
-second s at h l = rw (lt-leb (length s) at (omega arith), le-ltb (getD s at 0) 128 l, lt-leb (length s) (at + 1) h)
-
-pub read : (s : List ℕ) (at v next : ℕ) → numberAt s at ≡ Value v next → Read s at v next
-read s at v next =
-    cases s at (λ x. x ≡ Value v next → Read s at v next) (λ e. absurd (clash e)) (λ e. absurd (clash e))
+pub read-number : (s : List ℕ) (at v next : ℕ) → numberAt s at ≡ Value v next → ReadNumber s at v next
+read-number s at v next =
+    cases s at (λ x. x ≡ Value v next → ReadNumber s at v next) (λ e. absurd (no-value e)) (λ e. absurd (no-value e))
     (λ w after r e. let p : w ≡ v = cc in let q : after ≡ next = cc in rw (← p, ← q) r)
 
-pub refused : (s : List ℕ) (at k : ℕ) → numberAt s at ≡ Refused k → (k ≡ 9) ⊎ (k ≡ 10)
-refused s at k =
+pub refused-number : (s : List ℕ) (at k : ℕ) → numberAt s at ≡ Refused k → (k ≡ 9) ⊎ (k ≡ 10)
+refused-number s at k =
     cases s at (λ x. x ≡ Refused k → (k ≡ 9) ⊎ (k ≡ 10)) (λ e. let p : k ≡ 9 = cc in inl p) (λ e. let p : k ≡ 10 = cc in inr p)
-    (λ v next r e. absurd (clash (sym e)))
+    (λ v next r e. absurd (no-value (sym e)))
 
--- document 01's numbers in groups
-pub vectors :
-    (numberAt (0xC8 ∷ 0x01 ∷ []) 0 ≡ Value 200 2)
-    × (numberAt (0x81 ∷ 0x00 ∷ []) 0 ≡ Refused 10)
-    × (numberAt (0x81 ∷ 0x81 ∷ []) 0 ≡ Refused 10)
-    × (numberAt (0x81 ∷ []) 0 ≡ Refused 9)
-unfolding numberAt twoGroups
-vectors = (refl, refl, refl, refl)
+-- with a first group that has its high bit set, and a byte behind it, there are two groups
+pub both-groups : (s : List ℕ) (at : ℕ) → at + 1 < length s → 128 ≤ getD s at 0
+    → numberAt s at ≡ twoGroups (getD s at 0) (getD s (at + 1) 0) (at + 2)
+unfolding numberAt
+both-groups s at h l = rw (lt-leb (length s) at (omega arith), le-ltb (getD s at 0) 128 l, lt-leb (length s) (at + 1) h)

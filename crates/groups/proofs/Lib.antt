@@ -1,1 +1,3 @@
 pub mod Groups
+pub mod HandedOn
+pub mod Laws

@@ -1,4 +1,5 @@
--- A number of document 01: one or two groups of seven bits, lowest group first, a group's high bit set when another follows.
+-- A number of document 01: one or two groups of seven bits, lowest group first, a group's high bit set when another follows. `numberAt` reads the
+-- number that begins at a place; what stands below it takes such an answer apart.
 use mathlib.Core.Bool.{cond, _||_}
 use mathlib.Core.List.{List}
 use Prim.Native.Nat.{ℕ, _+_, _*_, _%_}
@@ -17,3 +18,21 @@ numberAt s at =
     cond (leb (length s) at) (Refused 9)
     (cond (ltb (getD s at 0) 128) (Value (getD s at 0) (at + 1))
     (cond (leb (length s) (at + 1)) (Refused 9) (twoGroups (getD s at 0) (getD s (at + 1) 0) (at + 2))))
+
+-- ---- an answer taken apart
+
+-- what follows of its value and the next place, or of its refusal
+abbrev pub onNumber : {A : Type 0} → Number → (ℕ → A) → (ℕ → ℕ → A) → A
+onNumber (Value v next) refused good = good v next
+onNumber (Refused k) refused good = refused k
+
+-- document 01's numbers for the cases: the refusal, 0 for none, and the value, 0 where it is refused
+abbrev pub refusalIn : Number → ℕ
+refusalIn x = onNumber x (λ k. k) (λ v next. 0)
+
+abbrev pub valueIn : Number → ℕ
+valueIn x = onNumber x (λ k. 0) (λ v next. v)
+
+-- the answer as it is for bytes that begin k places earlier: its next place is k further
+unfoldable pub further : ℕ → Number → Number
+further k x = onNumber x Refused (λ v next. Value v (k + next))
