@@ -1,5 +1,5 @@
--- The bits of a fault table that addresses make: setting node a's bit changes that bit and no other, so a table of zeros with the bits of a row set has
--- node k's bit exactly where the row names k.
+-- The bits of a fault table that addresses make: setting node a's bit changes that bit and no other, so a table of zeros with the bits of addresses set has
+-- node k's bit exactly where k is one of the addresses.
 use mathlib.Core.Path.{_≡_, refl, sym, ap, _∙_}
 use mathlib.Core.Logic.{_⊎_, inl, inr}
 use mathlib.Core.Bool.{true, false, xor, _||_, or-false, or-assoc}
@@ -16,9 +16,9 @@ use Rattle.cube.specs.Cube.{bit, flip}
 use Rattle.cube.specs.Tables.{nodeBit}
 use Rattle.cube.proofs.Bools.{either}
 use Rattle.cube.proofs.Cube.{bit-none, bit-flip-same, bit-flip-other}
-use Rattle.notice.specs.Row.{rising, named, withBit, withBits}
+use Rattle.notice.specs.Addresses.{rising, among, withBit, withBits}
 use Rattle.notice.proofs.Rising.{rises}
-use Rattle.notice.proofs.Steps.{length-with}
+use Rattle.notice.proofs.Passes.{length-with}
 
 -- ---- single bits
 
@@ -72,12 +72,12 @@ unfolding withBits
 length-bits t [] = refl
 length-bits t (a ∷ l) = length-bits (withBit t a) l ∙ length-with t a
 
-bits-with : (t : List ℕ) (base : ℕ) (l : List ℕ) (k : ℕ) → rising base (8 * length t) l ≡ true → nodeBit (withBits t l) k ≡ (nodeBit t k || named l k)
-unfolding withBits named
+bits-with : (t : List ℕ) (base : ℕ) (l : List ℕ) (k : ℕ) → rising base (8 * length t) l ≡ true → nodeBit (withBits t l) k ≡ (nodeBit t k || among l k)
+unfolding withBits among
 bits-with t base [] k e = sym (or-false (nodeBit t k))
 bits-with t base (a ∷ l) k e =
     let r = rises base (8 * length t) a l e in
-    bits-with (withBit t a) (a + 1) l k (rw (length-with t a) (r .2)) ∙ rw (bit-with t a k (omega (arith, r .1))) (or-assoc (nodeBit t k) (eqb k a) (named l k))
+    bits-with (withBit t a) (a + 1) l k (rw (length-with t a) (r .2)) ∙ rw (bit-with t a k (omega (arith, r .1))) (or-assoc (nodeBit t k) (eqb k a) (among l k))
 
 zeros-bit : (n k : ℕ) → nodeBit (replicate n 0) k ≡ false
 unfolding nodeBit
@@ -87,6 +87,6 @@ zeros-bit n k = rw (byte (either (ltb (k / 8) n))) (bit-none (k % 8))
     byte (inl a) = getD-replicate n (k / 8) 0 0 (ltb-true (k / 8) n a)
     byte (inr a) = List·getD-eq-default (replicate n 0) 0 (omega (arith, length-replicate {A = ℕ} n 0, ltb-false (k / 8) n a))
 
--- a cleared table with the bits of a row set
-pub bits-named : (n base : ℕ) (l : List ℕ) (k : ℕ) → rising base (8 * n) l ≡ true → nodeBit (withBits (replicate n 0) l) k ≡ named l k
-bits-named n base l k e = bits-with (replicate n 0) base l k (rw (length-replicate {A = ℕ} n 0) e) ∙ rw (zeros-bit n k)
+-- a cleared table with the bits of addresses set
+pub bits-among : (n base : ℕ) (l : List ℕ) (k : ℕ) → rising base (8 * n) l ≡ true → nodeBit (withBits (replicate n 0) l) k ≡ among l k
+bits-among n base l k e = bits-with (replicate n 0) base l k (rw (length-replicate {A = ℕ} n 0) e) ∙ rw (zeros-bit n k)

@@ -1,84 +1,71 @@
--- The refusal of a notice is at most 12: that of each number is 9 or 10, and the notice adds 1, 2, 11 and 12. So it is small enough to be packed.
-use mathlib.Core.Path.{_≡_}
-use mathlib.Core.Bool.{Bool, cond}
+-- The refusal of a notice is at most 12: each number's own is 9 or 10, and every test of a value has a number up to 12. So it is small enough to be
+-- packed, and so are the parts of an accepted notice.
+use mathlib.Core.Path.{_≡_, refl}
+use mathlib.Core.Bool.{true}
 use mathlib.Core.List.{List}
 use Prim.Native.Nat.{ℕ, zero, suc, _+_, _^_, _≤_}
 use native.Mathlib.Omega.{arith}
-use lib.Dec.{eqb, leb, ltb}
-use lib.ListN.{drop, length}
+use lib.ListN.{drop}
 use lib.Pow.{pow-mono}
-use Rattle.cube.specs.Tables.{isDimension, tableLen}
-use Rattle.cube.proofs.Bools.{by-cases}
-use Rattle.groups.specs.Number.{numberAt}
+use Rattle.cube.specs.Refusal.{Test}
+use Rattle.cube.proofs.Refusal.{numbered, first-le}
+use Rattle.groups.specs.Number.{numberAt, refusalIn}
 use Rattle.groups.specs.declared.Number.{Number}
-use Rattle.groups.specs.declared.Number.the-variants as number
 use Rattle.groups.proofs.Groups.{cases}
-use Rattle.notice.specs.Notice.{dimensionAt, restAt, onRest, noticeOf, noticed, refusalOf}
-use Rattle.notice.specs.Row.{onNumber, rowEnd}
+use Rattle.notice.specs.Tests.{tested, dimensionTests, lengthTests, countTests, addressTests}
+use Rattle.notice.specs.Addresses.{addressesEnd}
+use Rattle.notice.specs.Notice.{dimensionAt, restAt, onRest, noticeFrom, noticed, refusalOf}
 use Rattle.notice.specs.declared.Noticed.{Noticed}
 use Rattle.notice.specs.declared.Noticed.the-variants as noticed
 use Rattle.notice.specs.declared.Rest.{Rest}
-use Rattle.notice.specs.declared.Rest.the-variants as rest
-use Rattle.notice.proofs.Named.{names}
+use Rattle.notice.proofs.Cases.{on-number, on-rest, on-tested}
+use Rattle.notice.proofs.Agree.{accepted}
 
 abbrev Few : Number → Type 0
-Few x = onNumber x (λ k. k) (λ v next. 0) ≤ 12
-
-number-few : (s : List ℕ) (at : ℕ) → Few (numberAt s at)
-number-few s at = cases s at Few (omega arith) (omega arith) (λ v next r. omega arith)
-
--- what follows a number that is taken apart
-then-few : (x : Number) (f : ℕ → ℕ → Number) → Few x → ((v next : ℕ) → Few (f v next)) → Few (onNumber x number.Refused f)
-then-few (number.Value v next) f h g = g v next
-then-few (number.Refused k) f h g = h
-
-dimension-few : (s : List ℕ) → Few (dimensionAt s)
-unfolding dimensionAt
-dimension-few s =
-    then-few (numberAt s 0) (λ n next. cond (isDimension n) (number.Value n next) (number.Refused 1)) (number-few s 0)
-    (λ n next. by-cases Few (isDimension n) (λ _. omega arith) (λ _. omega arith))
-
-addresses-few : (m : ℕ) (s : List ℕ) (at base size : ℕ) → Few (rowEnd m s at base size)
-unfolding rowEnd
-addresses-few zero s at base size = omega arith
-addresses-few (suc m) s at base size =
-    then-few (numberAt s at) (λ v next. cond (leb size (base + v)) (number.Refused 12) (rowEnd m s next (base + v + 1) size)) (number-few s at)
-    (λ v next. by-cases Few (leb size (base + v)) (λ _. omega arith) (λ _. addresses-few m s next (base + v + 1) size))
+Few x = refusalIn x ≤ 12
 
 abbrev FewRest : Rest → Type 0
 FewRest x = onRest x (λ k. k) (λ m start end. 0) ≤ 12
 
-rest-then : (x : Number) (f : ℕ → ℕ → Rest) → Few x → ((v next : ℕ) → FewRest (f v next)) → FewRest (onNumber x rest.Refused f)
-rest-then (number.Value v next) f h g = g v next
-rest-then (number.Refused k) f h g = h
+abbrev FewNoticed : Noticed → Type 0
+FewNoticed x = refusalOf x ≤ 12
+
+number-few : (s : List ℕ) (at : ℕ) → Few (numberAt s at)
+number-few s at = cases s at Few (omega arith) (omega arith) (λ v next r. omega arith)
+
+tested-few : (tests : ℕ → List Test) (x : Number) → ((v : ℕ) → numbered 12 (tests v) ≡ true) → Few x → Few (tested tests x)
+tested-few tests x n h = on-tested tests Few x (λ k e. rw e at h) (λ v next _ _. first-le 12 (tests v) (n v)) (λ v next _ _. omega arith)
+
+addresses-few : (m : ℕ) (s : List ℕ) (at base size : ℕ) → Few (addressesEnd m s at base size)
+unfolding addressesEnd
+addresses-few zero s at base size = omega arith
+addresses-few (suc m) s at base size =
+    on-number Few (tested (addressTests base size) (numberAt s at))
+    (λ k e. rw e at (tested-few (addressTests base size) (numberAt s at) (λ v. refl) (number-few s at)))
+    (λ v next _. addresses-few m s next (base + v + 1) size)
 
 rest-few : (n : ℕ) (s : List ℕ) (at : ℕ) → FewRest (restAt n s at)
 unfolding restAt
 rest-few n s at =
-    rest-then (numberAt s at) _ (number-few s at)
-    (λ m start. by-cases FewRest (ltb (2 ^ n) m) (λ _. omega arith)
-    (λ _. rest-then (rowEnd m (drop start s) 0 0 (2 ^ n)) _ (addresses-few m (drop start s) 0 0 (2 ^ n)) (λ _ taken. omega arith)))
+    on-number FewRest (tested (countTests n) (numberAt s at))
+    (λ k e. rw e at (tested-few (countTests n) (numberAt s at) (λ m. refl) (number-few s at)))
+    (λ m start _. on-number FewRest (addressesEnd m (drop start s) 0 0 (2 ^ n))
+    (λ k e. rw e at (addresses-few m (drop start s) 0 0 (2 ^ n))) (λ base taken _. omega arith))
 
-abbrev FewNoticed : Noticed → Type 0
-FewNoticed x = refusalOf x ≤ 12
+notice-few : (x : Number) (s : List ℕ) → Few x → FewNoticed (noticeFrom x s)
+unfolding noticeFrom
+notice-few x s h =
+    on-number FewNoticed x (λ k e. rw e at h)
+    (λ n at _. on-rest FewNoticed (restAt n s at) (λ k e. rw e at (rest-few n s at)) (λ m start end _. omega arith))
 
-notice-then : (x : Number) (f : ℕ → ℕ → Noticed) → Few x → ((v next : ℕ) → FewNoticed (f v next)) → FewNoticed (onNumber x noticed.Refused f)
-notice-then (number.Value v next) f h g = g v next
-notice-then (number.Refused k) f h g = h
-
-follow-few : (n : ℕ) (x : Rest) → FewRest x → FewNoticed (onRest x noticed.Refused (λ m start end. noticed.Notice n m end))
-follow-few n (rest.Addresses m start end) h = omega arith
-follow-few n (rest.Refused k) h = h
-
-pub notice-few : (fits : ℕ → Bool) (s : List ℕ) → refusalOf (noticeOf fits s) ≤ 12
-unfolding noticeOf
-notice-few fits s =
-    notice-then (dimensionAt s) _ (dimension-few s)
-    (λ n at. by-cases FewNoticed (fits n) (λ _. follow-few n (restAt n s at) (rest-few n s at)) (λ _. omega arith))
+noticed-few : (s t : List ℕ) → FewNoticed (noticed s t)
+unfolding noticed dimensionAt
+noticed-few s t =
+    notice-few (tested (lengthTests t) (dimensionAt s)) s
+    (tested-few (lengthTests t) (dimensionAt s) (λ n. refl) (tested-few dimensionTests (numberAt s 0) (λ n. refl) (number-few s 0)))
 
 pub refused-few : (s t : List ℕ) (k : ℕ) → noticed s t ≡ noticed.Refused k → k ≤ 12
-unfolding noticed
-refused-few s t k e = rw e at (notice-few (λ n. eqb (length t) (tableLen n)) s)
+refused-few s t k e = rw e at (noticed-few s t)
 
 -- the parts of an accepted notice
 pub record Parts (n m taken : ℕ) : Type 0 where
@@ -88,5 +75,6 @@ pub record Parts (n m taken : ℕ) : Type 0 where
 
 pub parts : (s t : List ℕ) (n m taken : ℕ) → noticed s t ≡ noticed.Notice n m taken → Parts n m taken
 parts s t n m taken e =
-    let r = names s t n m taken e in
-    record { dimension = r .dimension .1; count = omega (arith, r .few, pow-mono (r .dimension .1)); short = r .short }
+    let r = accepted s t n m taken e in
+    let few : 2 ^ n ≤ 4096 = pow-mono (r .dimension .1) in
+    record { dimension = r .dimension .1; count = omega (arith, r .few); short = omega (arith, r .short) }

@@ -1,2 +1,4 @@
-pub mod Row
+pub mod Tests
+pub mod Addresses
 pub mod Notice
+pub mod Laws

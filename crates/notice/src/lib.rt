@@ -1,7 +1,8 @@
 // Notices: the reader, which makes a fault table of one, and the tail question, for notices that stand back to back.
 ghost use Prim.Native.Nat.{_+_, _*_, _/_, _<_, _≤_};
 ghost use Rattle.notice.specs.Notice.{dimensionAt, noticed, restAt, tableAfter, tailAt};
-ghost use Rattle.notice.specs.Row.{refusalIn, rising, row, rowEnd, withBit, withBits};
+ghost use Rattle.groups.specs.Number.{refusalIn};
+ghost use Rattle.notice.specs.Addresses.{addressesAt, addressesEnd, rising, withBit, withBits};
 ghost use lib.ListN.{drop, length, replicate};
 ghost use mathlib.Core.Bool.{true};
 ghost use mathlib.Core.Path.{_≡_};
@@ -33,6 +34,7 @@ fn refusal(number: Number) -> u32
     }
 }
 
+// The dimension with the next place, or the refusal.
 fn dimension(bytes: &[u8]) -> Number
     ensures { λ r. ⌜ r ≡ dimensionAt (now (bytes .entry)) ⌝ }
 {
@@ -50,7 +52,7 @@ fn dimension(bytes: &[u8]) -> Number
 // counted from, with the next place, or the refusal.
 fn check_addresses(bytes: &[u8], m: usize, size: usize) -> Number
     requires { ⌜ size ≤ 4096 ⌝ }
-    ensures { λ r. ⌜ r ≡ rowEnd m (now (bytes .entry)) 0 0 size ⌝ }
+    ensures { λ r. ⌜ r ≡ addressesEnd m (now (bytes .entry)) 0 0 size ⌝ }
 {
     let mut due: usize = m;
     let mut at: usize = 0;
@@ -91,6 +93,7 @@ fn check_rest(bytes: &[u8], n: usize, at: usize) -> Rest
     Rest::Addresses(m, start, start + taken)
 }
 
+// Sets every bit of a fault table to 0.
 fn clear(faults: &mut [u8])
     ensures { λ _. ⌜ now (faults .exit) ≡ replicate (length (now (faults .entry))) 0 ⌝ }
 {
@@ -101,6 +104,7 @@ fn clear(faults: &mut [u8])
     }
 }
 
+// Sets node k's bit.
 fn set_bit(faults: &mut [u8], k: usize)
     requires { ⌜ k / 8 < length (now faults) ⌝ }
     ensures { λ _. ⌜ now (faults .exit) ≡ withBit (now (faults .entry)) k ⌝ }
@@ -112,8 +116,8 @@ fn set_bit(faults: &mut [u8], k: usize)
 // The writing pass of the address reader, over addresses that were checked: no number is refused here any more.
 fn write_addresses(bytes: &[u8], m: usize, faults: &mut [u8])
     requires { ⌜ length (now faults) ≤ 512 ⌝ }
-    requires { ⌜ rising 0 (8 * length (now faults)) (row m (now bytes) 0 0) ≡ true ⌝ }
-    ensures { λ _. ⌜ now (faults .exit) ≡ withBits (now (faults .entry)) (row m (now (bytes .entry)) 0 0) ⌝ }
+    requires { ⌜ rising 0 (8 * length (now faults)) (addressesAt m (now bytes) 0 0) ≡ true ⌝ }
+    ensures { λ _. ⌜ now (faults .exit) ≡ withBits (now (faults .entry)) (addressesAt m (now (bytes .entry)) 0 0) ⌝ }
 {
     let mut left: usize = m;
     let mut at: usize = 0;

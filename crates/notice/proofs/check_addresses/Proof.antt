@@ -1,8 +1,8 @@
--- `check_addresses` walks the row and writes nothing: its loop keeps `Checking`. The measure is the count of addresses due.
+-- `check_addresses` goes through the addresses and writes nothing: its loop keeps `Checking`. The measure is the count of addresses due.
 use mathlib.Core.Path.{refl}
 use native.Mathlib.Omega.{arith}
 use borrow.Author.Needs.{needs}
-use Rattle.notice.proofs.Steps.{Checking, checked, check-refused, check-over, check-on, number-small}
+use Rattle.notice.proofs.Passes.{Checking, checked, check-refused, check-over, check-on, number-small}
 use Rattle.notice.proofs.check_addresses.Statement.{statement}
 use Rattle.notice.proofs.check_addresses.Tie as tie
 
@@ -11,6 +11,10 @@ Inv-loop bytes m size due₀ at₀ base₀ due at base = Checking m bytes size d
 
 abbrev μ-loop : tie.MeasureT-loop
 μ-loop bytes m size due₀ at₀ base₀ due at base = due
+
+-- where the turn began, from where its number was answered
+abbrev begun : tie.After-number-at Inv-loop μ-loop → tie.At-loop Inv-loop μ-loop
+begun c = c .before .before
 
 loop-holds : tie.Need-loop-holds Inv-loop μ-loop
 loop-holds c = record { low = omega arith; same = refl }
@@ -26,19 +30,20 @@ enum-told c = search needs
 
 returns : tie.Need-returns Inv-loop μ-loop
 returns c =
-    let turn = c .before .before in
-    check-refused (turn .before .before .loop .inv) (omega arith) (turn .number-at .ensures) (c .enum-told .given .1)
+    let a = c .before .before in
+    check-refused (begun a .loop .inv) (omega arith) (a .number-at .ensures) (c .enum-told .given .1)
 
 add-address : tie.Need-add-address Inv-loop μ-loop
 add-address c =
-    let turn = c .before .before .before in
-    let I = turn .before .before .loop .inv in
-    omega (arith, I .low, number-small I (omega arith) (turn .number-at .ensures) (c .before .number .given .1))
+    let a = c .before .before .before in
+    let I = begun a .loop .inv in
+    omega (arith, I .low, number-small I (omega arith) (a .number-at .ensures) (c .before .number .given .1))
 
 returns-2 : tie.Need-returns-2 Inv-loop μ-loop
 returns-2 c =
-    let turn = c .before .before .before .before in
-    check-over (turn .before .before .loop .inv) (omega arith) (turn .number-at .ensures) (c .before .before .number .given .1) (omega arith)
+    let o = c .before .before in
+    let a = o .before .before in
+    check-over (begun a .loop .inv) (omega arith) (a .number-at .ensures) (o .number .given .1) (omega arith)
 
 add-base : tie.Need-add-base Inv-loop μ-loop
 add-base c = omega arith
@@ -51,8 +56,9 @@ loop-less c = omega arith
 
 loop-again : tie.Need-loop-again Inv-loop μ-loop
 loop-again c =
-    let turn = c .before .before .before .before in
-    check-on (turn .before .before .loop .inv) (omega arith) (turn .number-at .ensures) (c .before .before .number .given .1) (c .if1 .left)
+    let o = c .before .before in
+    let a = o .before .before in
+    check-on (begun a .loop .inv) (omega arith) (a .number-at .ensures) (o .number .given .1) (c .if1 .left)
 
 returns-3 : tie.Need-returns-3 Inv-loop μ-loop
 returns-3 c = checked (c .before .loop .inv) (omega arith)

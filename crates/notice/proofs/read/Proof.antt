@@ -1,10 +1,25 @@
--- `read` makes the tests of a notice in document 01's order, and writes only behind the last of them.
+-- `read` makes the tests of a notice in document 01's order, and writes only behind the last of them. Each return is one outcome of the notice.
 use mathlib.Core.Path.{sym, _∙_}
+use mathlib.Core.List.{List}
+use Prim.Native.Nat.{ℕ}
 use native.Mathlib.Omega.{arith}
 use borrow.Author.Needs.{needs}
-use Rattle.notice.proofs.Answers.{small, listed, read-number, read-two, read-bad, read-room, read-good}
+use Rattle.notice.proofs.Outcomes.{small, rest-read, outcome-number, outcome-length, outcome-rest, outcome-room, outcome-notice}
 use Rattle.notice.proofs.read.Statement.{statement}
 use Rattle.notice.proofs.read.Tie as tie
+
+-- where the dimension was taken apart, and the table as it was lent; where its length was found right; where the rest was taken apart
+abbrev first : tie.After-table-len → tie.After-first
+first c = c .before .before
+
+abbrev lent : tie.After-first → List ℕ
+lent c = c .before .before .before .before .before .args .faults .now
+
+abbrev fits : tie.After-check-rest → tie.Else1
+fits c = c .before
+
+abbrev found : tie.After-slice-known2 → tie.After-found2
+found c = c .before .before .before .before .before
 
 dimension-requires : tie.Need-dimension-requires
 dimension-requires c κs = search needs
@@ -19,22 +34,18 @@ refusal-requires : tie.Need-refusal-requires
 refusal-requires c κs = search needs
 
 returns : tie.Need-returns
-returns c = read-number _ (c .before .before .before .dimension .ensures) _ (c .before .enum-told .given .1) (c .refusal .ensures)
+returns c = outcome-number _ (c .before .before .before .dimension .ensures) _ (c .before .enum-told .given .1) (c .refusal .ensures)
 
 table-len-requires : tie.Need-table-len-requires
-table-len-requires c κs =
-    let first = c .before in
-    omega (arith, small _ (first .before .before .dimension .ensures) (first .first .given .1))
+table-len-requires c κs = omega (arith, small _ (c .before .before .before .dimension .ensures) (c .before .first .given .1))
 
 returns-2 : tie.Need-returns-2
 returns-2 c =
-    let first = c .before .before .before in
-    read-two _ (first .before .before .dimension .ensures) (first .first .given .1) _ (λ e. c .if1 .taken (e ∙ sym (c .before .table-len .ensures)))
+    let d = first (c .before) in
+    outcome-length _ (d .before .before .dimension .ensures) (d .first .given .1) _ (λ e. c .if1 .taken (e ∙ sym (c .before .table-len .ensures)))
 
 check-rest-requires : tie.Need-check-rest-requires
-check-rest-requires c κs =
-    let first = c .before .before .before in
-    small _ (first .before .before .dimension .ensures) (first .first .given .1)
+check-rest-requires c κs = let d = first (c .before) in small _ (d .before .before .dimension .ensures) (d .first .given .1)
 
 enum-known-found : tie.Need-enum-known-found
 enum-known-found c = search needs
@@ -47,44 +58,42 @@ clear-requires c κs = search needs
 
 sub-write-addresses : tie.Need-sub-write-addresses
 sub-write-addresses c =
-    let found = c .before .before .before .before .before in
-    let first = found .before .before .before .before .before .before in
-    listed _ (first .before .before .dimension .ensures) (first .first .given .1) (found .before .before .check-rest .ensures) (found .found2 .given .1) .begins
+    let r = found c .before .before in
+    let d = first (fits r .before) in
+    rest-read _ (d .before .before .dimension .ensures) (d .first .given .1) (r .check-rest .ensures) (found c .found2 .given .1) .begins
 
 part-write-addresses-start : tie.Need-part-write-addresses-start
-part-write-addresses-start c =
-    let found = c .before .before .before .before .before in
-    let first = found .before .before .before .before .before .before in
-    listed _ (first .before .before .dimension .ensures) (first .first .given .1) (found .before .before .check-rest .ensures) (found .found2 .given .1) .begins
+part-write-addresses-start = sub-write-addresses
 
 part-write-addresses-end : tie.Need-part-write-addresses-end
 part-write-addresses-end c = search needs
 
 write-addresses-requires : tie.Need-write-addresses-requires
 write-addresses-requires c κs =
-    let found = c .before .before .before .before .before .before .before in
-    let first = found .before .before .before .before .before .before in
-    let sized = found .before .before .before .if1 .left ∙ found .before .before .before .before .table-len .ensures in
-    read-room _ (first .before .before .dimension .ensures) (first .first .given .1) (found .before .before .check-rest .ensures) (found .found2 .given .1)
-    (first .before .before .before .before .before .args .faults .now) sized (c .before .before .before .before .clear .ensures)
+    let k = c .before .before in
+    let r = found k .before .before in
+    let d = first (fits r .before) in
+    outcome-room _ (d .before .before .dimension .ensures) (d .first .given .1) (r .check-rest .ensures) (found k .found2 .given .1)
+    (lent d) (fits r .if1 .left ∙ fits r .before .table-len .ensures) (k .before .before .clear .ensures)
 
 returns-3 : tie.Need-returns-3
 returns-3 c =
-    let found = c .before in
-    let first = found .before .before .before .before .before .before in
-    let sized = found .before .before .before .if1 .left ∙ found .before .before .before .before .table-len .ensures in
-    read-bad _ (first .before .before .dimension .ensures) (first .first .given .1) (found .before .before .check-rest .ensures) _ sized (found .found .given .1)
+    let r = c .before .before .before in
+    let d = first (fits r .before) in
+    outcome-rest _ (d .before .before .dimension .ensures) (d .first .given .1) (r .check-rest .ensures)
+    _ (fits r .if1 .left ∙ fits r .before .table-len .ensures) (c .before .found .given .1)
 
 same-length : tie.Need-same-length
 same-length c = search needs
 
 returns-4 : tie.Need-returns-4
 returns-4 c =
-    let found = c .before .before .before .before .before .before .before .before .before .before in
-    let first = found .before .before .before .before .before .before in
-    let sized = found .before .before .before .if1 .left ∙ found .before .before .before .before .table-len .ensures in
-    read-good _ (first .before .before .dimension .ensures) (first .first .given .1) (found .before .before .check-rest .ensures) (found .found2 .given .1)
-    (first .before .before .before .before .before .args .faults .now) sized (c .before .before .before .before .before .before .before .clear .ensures) (c .before .before .write-addresses .ensures)
+    let w = c .before .before in
+    let k = w .before .before .before in
+    let r = found k .before .before in
+    let d = first (fits r .before) in
+    outcome-notice _ (d .before .before .dimension .ensures) (d .first .given .1) (r .check-rest .ensures) (found k .found2 .given .1)
+    _ (fits r .if1 .left ∙ fits r .before .table-len .ensures) (k .before .before .clear .ensures) (w .write-addresses .ensures)
 
 pub read-spec : {M : Type 1} → statement M
 read-spec =

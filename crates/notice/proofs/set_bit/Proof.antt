@@ -7,7 +7,7 @@ use borrow.Author.Needs.{needs}
 use lib.Bits.{bitOr}
 use lib.ListN.{set, getD}
 use lib.Pow.{shl-exact}
-use Rattle.notice.specs.Row.{withBit}
+use Rattle.notice.specs.Addresses.{withBit}
 use Rattle.notice.proofs.set_bit.Statement.{statement}
 use Rattle.notice.proofs.set_bit.Tie as tie
 
@@ -30,7 +30,8 @@ returns : tie.Need-returns
 unfolding withBit
 returns c =
     let a = c .before .args in
-    ap (λ (b : ℕ). set (a .faults .now) (a .k / 8) (bitOr (getD (a .faults .now) (a .k / 8) 0) b)) (shl-exact 1 (a .k % 8) 8 (omega arith) (omega arith) ∙ one-mul _)
+    ap (λ (b : ℕ). set (a .faults .now) (a .k / 8) (bitOr (getD (a .faults .now) (a .k / 8) 0) b))
+    (shl-exact 1 (a .k % 8) 8 (omega arith) (omega arith) ∙ one-mul _)
 
 pub set-bit-spec : {M : Type 1} → statement M
 set-bit-spec =

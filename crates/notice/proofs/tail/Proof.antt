@@ -1,11 +1,15 @@
--- `tail` hands back the part behind the notice, or the empty part at the end: in bytes, and as a place of the caller's memory.
-use mathlib.Core.Path.{refl}
-use mathlib.Core.Bool.{true}
+-- `tail` hands back the part behind the notice, or the empty part at the end: in bytes, and as a place of the caller's memory. It reads the notice as
+-- the reader does, with no table.
+use mathlib.Core.Path.{sym, _∙_}
 use borrow.Author.Needs.{needs}
-use Rattle.notice.proofs.Whole.{notice-refused, notice-bad, notice-good}
-use Rattle.notice.proofs.Answers.{small, listed, tail-refused, tail-good, tail-part}
+use Rattle.notice.specs.Notice.{noticeOf}
+use Rattle.notice.proofs.Outcomes.{small, rest-read, notice-refused, notice-bad, notice-good, tail-refused, tail-good, tail-part}
 use Rattle.notice.proofs.tail.Statement.{statement}
 use Rattle.notice.proofs.tail.Tie as tie
+
+-- where the dimension was taken apart
+abbrev first : tie.After-check-rest → tie.After-first
+first c = c .before .before
 
 dimension-requires : tie.Need-dimension-requires
 dimension-requires c κs = search needs
@@ -26,13 +30,13 @@ part-result-end : tie.Need-part-result-end
 part-result-end c = search needs
 
 returns : tie.Need-returns
+unfolding noticeOf
 returns c =
-    tail-part _ _ _ _ _ (tail-refused _ (notice-refused (λ n. true) _ (c .before .before .before .dimension .ensures) (c .before .enum-told .given .1) refl))
+    let here = c .before .before .before .dimension .ensures in
+    tail-part _ _ _ _ _ (tail-refused _ (notice-refused _ (sym (c .before .enum-told .given .1) ∙ here)))
 
 check-rest-requires : tie.Need-check-rest-requires
-check-rest-requires c κs =
-    let first = c .before in
-    small _ (first .before .before .dimension .ensures) (first .first .given .1)
+check-rest-requires c κs = small _ (c .before .before .before .dimension .ensures) (c .before .first .given .1)
 
 enum-known-notice : tie.Need-enum-known-notice
 enum-known-notice c = search needs
@@ -50,33 +54,30 @@ part-result-end-2 : tie.Need-part-result-end-2
 part-result-end-2 c = search needs
 
 returns-2 : tie.Need-returns-2
+unfolding noticeOf
 returns-2 c =
-    let notice = c .before in
-    let first = notice .before .before .before .before in
-    let answer = notice-bad (λ n. true) _ (first .before .before .dimension .ensures) (first .first .given .1) refl (notice .before .before .check-rest .ensures) (notice .enum-told2 .given .1) in
-    tail-part _ _ _ _ _ (tail-refused _ answer)
+    let r = c .before .before .before in
+    let d = sym (first r .first .given .1) ∙ first r .before .before .dimension .ensures in
+    tail-part _ _ _ _ _ (tail-refused _ (notice-bad _ d (r .check-rest .ensures) (c .before .enum-told2 .given .1)))
 
 sub-result-3 : tie.Need-sub-result-3
 sub-result-3 c =
-    let notice = c .before in
-    let first = notice .before .before .before .before in
-    listed _ (first .before .before .dimension .ensures) (first .first .given .1) (notice .before .before .check-rest .ensures) (notice .notice .given .1) .ends
+    let r = c .before .before .before in
+    let d = first r in
+    rest-read _ (d .before .before .dimension .ensures) (d .first .given .1) (r .check-rest .ensures) (c .before .notice .given .1) .within
 
 part-result-start-3 : tie.Need-part-result-start-3
-part-result-start-3 c =
-    let notice = c .before in
-    let first = notice .before .before .before .before in
-    listed _ (first .before .before .dimension .ensures) (first .first .given .1) (notice .before .before .check-rest .ensures) (notice .notice .given .1) .ends
+part-result-start-3 = sub-result-3
 
 part-result-end-3 : tie.Need-part-result-end-3
 part-result-end-3 c = search needs
 
 returns-3 : tie.Need-returns-3
+unfolding noticeOf
 returns-3 c =
-    let notice = c .before .before in
-    let first = notice .before .before .before .before in
-    let answer = notice-good (λ n. true) _ (first .before .before .dimension .ensures) (first .first .given .1) refl (notice .before .before .check-rest .ensures) (notice .notice .given .1) in
-    tail-part _ _ _ _ _ (tail-good _ answer)
+    let r = c .before .before .before .before in
+    let d = sym (first r .first .given .1) ∙ first r .before .before .dimension .ensures in
+    tail-part _ _ _ _ _ (tail-good _ (notice-good _ d (r .check-rest .ensures) (c .before .before .notice .given .1)))
 
 pub tail-spec : {M : Type 1} → statement M
 tail-spec =

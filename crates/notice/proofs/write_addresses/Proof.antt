@@ -1,8 +1,10 @@
--- `write_addresses` walks the row again and sets each address's bit: its loop keeps `Writing`. The measure is the count of addresses left.
+-- `write_addresses` goes through the addresses again and sets each one's bit: its loop keeps `Writing`. The measure is the count of addresses left.
 use mathlib.Core.Path.{refl}
+use Prim.Native.Nat.{_+_, _*_, _<_}
 use native.Mathlib.Omega.{arith}
 use borrow.Author.Needs.{needs}
-use Rattle.notice.proofs.Steps.{Writing, written, write-refused, write-below, write-on}
+use lib.ListN.{length}
+use Rattle.notice.proofs.Passes.{Writing, written, write-refused, write-below, write-on}
 use Rattle.notice.proofs.write_addresses.Statement.{statement}
 use Rattle.notice.proofs.write_addresses.Tie as tie
 
@@ -11,6 +13,23 @@ Inv-loop bytes m faults₀ left₀ at₀ base₀ faults left at base = Writing m
 
 abbrev μ-loop : tie.MeasureT-loop
 μ-loop bytes m faults₀ left₀ at₀ base₀ faults left at base = left
+
+-- where the turn began, from where its number was answered, and from where it was taken apart; and the turn's end
+abbrev begun : tie.After-number-at Inv-loop μ-loop → tie.At-loop Inv-loop μ-loop
+begun c = c .before .before
+
+abbrev turn : tie.After-number Inv-loop μ-loop → tie.At-loop Inv-loop μ-loop
+turn c = begun (c .before .before)
+
+abbrev opened : tie.After-slice-known2 Inv-loop μ-loop → tie.After-number Inv-loop μ-loop
+opened c = c .before .before .before .before .before
+
+-- the turn's address has its bit in the table, and so it is small
+below : (c : tie.After-number Inv-loop μ-loop) → turn c .loop .base + c .number .given .0 .0 < 8 * length (turn c .loop .faults)
+below c = write-below (turn c .loop .inv) (omega arith) (c .before .before .number-at .ensures) (c .number .given .1)
+
+small : (c : tie.After-number Inv-loop μ-loop) → turn c .loop .base + c .number .given .0 .0 < 4096
+small c = omega (arith, below c, turn c .loop .inv .sized, turn c .before .before .before .pre .0)
 
 loop-holds : tie.Need-loop-holds Inv-loop μ-loop
 loop-holds c = record { sized = refl; room = c .before .before .pre .1; same = refl }
@@ -25,30 +44,21 @@ enum-told : tie.Need-enum-told Inv-loop μ-loop
 enum-told c = search needs
 
 same-length : tie.Need-same-length Inv-loop μ-loop
-same-length c = c .before .before .before .before .loop .inv .sized
+same-length c = begun (c .before .before) .loop .inv .sized
 
 returns : tie.Need-returns Inv-loop μ-loop
 returns c =
-    let turn = c .before .before in
-    write-refused (turn .before .before .loop .inv) (omega arith) (turn .number-at .ensures) (c .enum-told .given .1)
+    let a = c .before .before in
+    write-refused (begun a .loop .inv) (omega arith) (a .number-at .ensures) (c .enum-told .given .1)
 
 add-node : tie.Need-add-node Inv-loop μ-loop
-add-node c =
-    let turn = c .before .before .before in
-    let below = write-below (turn .before .before .loop .inv) (omega arith) (turn .number-at .ensures) (c .before .number .given .1) in
-    omega (arith, below, turn .before .before .loop .inv .sized, turn .before .before .before .before .before .pre .0)
+add-node c = omega (arith, small (c .before))
 
 set-bit-requires : tie.Need-set-bit-requires Inv-loop μ-loop
-set-bit-requires c κs =
-    let turn = c .before .before .before .before in
-    let below = write-below (turn .before .before .loop .inv) (omega arith) (turn .number-at .ensures) (c .before .before .number .given .1) in
-    omega (arith, below)
+set-bit-requires c κs = omega (arith, below (c .before .before))
 
 add-base : tie.Need-add-base Inv-loop μ-loop
-add-base c =
-    let turn = c .before .before .before .before .before .before .before in
-    let below = write-below (turn .before .before .loop .inv) (omega arith) (turn .number-at .ensures) (c .before .before .before .before .before .number .given .1) in
-    omega (arith, below, turn .before .before .loop .inv .sized, turn .before .before .before .before .before .pre .0)
+add-base c = omega (arith, small (opened c))
 
 sub-left : tie.Need-sub-left Inv-loop μ-loop
 sub-left c = omega arith
@@ -58,8 +68,8 @@ loop-less c = omega arith
 
 loop-again : tie.Need-loop-again Inv-loop μ-loop
 loop-again c =
-    let turn = c .before .before .before .before .before .before .before in
-    write-on (turn .before .before .loop .inv) (omega arith) (turn .number-at .ensures) (c .before .before .before .before .before .number .given .1) (c .before .before .set-bit .ensures)
+    let o = opened c in
+    write-on (turn o .loop .inv) (omega arith) (o .before .before .number-at .ensures) (o .number .given .1) (c .before .before .set-bit .ensures)
 
 same-length-2 : tie.Need-same-length-2 Inv-loop μ-loop
 same-length-2 c = c .before .loop .inv .sized

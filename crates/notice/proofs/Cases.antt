@@ -1,0 +1,67 @@
+-- An answer taken apart: what holds of each outcome holds of the answer. A number with the tests of its value has three: its own refusal stays, the
+-- first test that holds refuses it, or no test holds and it is the number itself.
+use mathlib.Core.Path.{_≡_, refl, sym, _∙_}
+use mathlib.Core.Bool.{false}
+use mathlib.Core.List.{List}
+use Prim.Native.Nat.{ℕ}
+use native.Mathlib.Omega.{arith}
+use lib.Dec.{eqb}
+use borrow.Author.Tests.{eqb-true}
+use Rattle.cube.specs.Refusal.{Test, first}
+use Rattle.cube.proofs.Bools.{by-cases}
+use Rattle.groups.specs.Number.{onNumber}
+use Rattle.groups.specs.declared.Number.{Number}
+use Rattle.groups.specs.declared.Number.the-variants as number
+use Rattle.groups.proofs.Groups.{no-value}
+use Rattle.notice.specs.Tests.{tested}
+use Rattle.notice.specs.Notice.{onRest}
+use Rattle.notice.specs.declared.Rest.{Rest}
+use Rattle.notice.specs.declared.Rest.the-variants as rest
+use Rattle.notice.specs.declared.Noticed.the-variants as noticed
+
+-- a refusal is no answer
+pub no-addresses : {k m start end : ℕ} → rest.Refused k ≡ rest.Addresses m start end → ⊥
+no-addresses e = let z : _≡_ {A = ℕ} 0 1 = cc in omega arith
+
+pub no-notice : {k n m taken : ℕ} → noticed.Refused k ≡ noticed.Notice n m taken → ⊥
+no-notice e = let z : _≡_ {A = ℕ} 0 1 = cc in omega arith
+
+module _ {A : Type 0} (P : A → Type 0) where
+  pub on-number : (x : Number) {refused : ℕ → A} {good : ℕ → ℕ → A} → ((k : ℕ) → x ≡ number.Refused k → P (refused k))
+      → ((v next : ℕ) → x ≡ number.Value v next → P (good v next)) → P (onNumber x refused good)
+  on-number (number.Value v next) f g = g v next refl
+  on-number (number.Refused k) f g = f k refl
+
+  pub on-rest : (x : Rest) {refused : ℕ → A} {good : ℕ → ℕ → ℕ → A} → ((k : ℕ) → x ≡ rest.Refused k → P (refused k))
+      → ((m start end : ℕ) → x ≡ rest.Addresses m start end → P (good m start end)) → P (onRest x refused good)
+  on-rest (rest.Addresses m start end) f g = g m start end refl
+  on-rest (rest.Refused k) f g = f k refl
+
+module _ (tests : ℕ → List Test) where
+  pub on-tested : (P : Number → Type 0) (x : Number) → ((k : ℕ) → x ≡ number.Refused k → P (number.Refused k))
+      → ((v next : ℕ) → x ≡ number.Value v next → eqb (first (tests v)) 0 ≡ false → P (number.Refused (first (tests v))))
+      → ((v next : ℕ) → x ≡ number.Value v next → first (tests v) ≡ 0 → P (number.Value v next)) → P (tested tests x)
+  unfolding tested
+  on-tested P x refused fails passes =
+      on-number P x refused (λ v next e. by-cases P (eqb (first (tests v)) 0) (λ z. passes v next e (eqb-true _ _ z)) (fails v next e))
+
+  -- taken apart again: a value is the number's own, and passed the tests
+  pub tested-value : (x : Number) {v next : ℕ} → tested tests x ≡ number.Value v next → (x ≡ number.Value v next) × (first (tests v) ≡ 0)
+  tested-value x {v} {next} =
+      on-tested (λ y. y ≡ number.Value v next → (x ≡ number.Value v next) × (first (tests v) ≡ 0)) x (λ k _ e. absurd (no-value e))
+      (λ _ _ _ _ e. absurd (no-value e)) (λ w after e z f. let p : w ≡ v = cc in (e ∙ f, rw p at z))
+
+  -- as the code comes to it: x is what it holds, of the number y
+  module _ {x y : Number} (here : x ≡ y) where
+    pub tested-refused : {k : ℕ} → x ≡ number.Refused k → number.Refused k ≡ tested tests y
+    unfolding tested
+    tested-refused e = let f = sym here ∙ e in rw f
+
+    module _ {v next : ℕ} (e : x ≡ number.Value v next) where
+      pub tested-fails : {k : ℕ} → first (tests v) ≡ k → eqb k 0 ≡ false → number.Refused k ≡ tested tests y
+      unfolding tested
+      tested-fails h z = let f = sym here ∙ e in rw f (rw (h, z))
+
+      pub tested-passes : first (tests v) ≡ 0 → number.Value v next ≡ tested tests y
+      unfolding tested
+      tested-passes h = let f = sym here ∙ e in rw f (rw h)

@@ -1,0 +1,91 @@
+-- The laws of a notice that specs/Laws.antt states. The table's bits are exactly the addresses: it was cleared, and then each address set its own. The
+-- worked numbers are computed.
+use mathlib.Core.Path.{_≡_, refl, ap, _∙_}
+use mathlib.Core.Logic.{inr}
+use mathlib.Core.Bool.{Bool, true, false, _&&_}
+use mathlib.Core.List.{List}
+use Prim.Native.Nat.{ℕ, _*_, _^_}
+use native.Mathlib.Omega.{arith}
+use lib.Dec.{eqb, leb}
+use lib.ListN.{length, replicate, length-replicate}
+use borrow.Author.Tests.{eqb-true, leb-true, not-false}
+use Rattle.cube.specs.Refusal.{first}
+use Rattle.cube.specs.Tables.{isDimension, tableLen, nodeBit, unusedSet}
+use Rattle.cube.proofs.Count.{count-same, some-none}
+use Rattle.cube.proofs.Refusal.{first-none}
+use Rattle.cube.proofs.Tables.{table-room}
+use Rattle.groups.specs.Number.{numberAt}
+use Rattle.notice.specs.Tests.{tested, lengthTests}
+use Rattle.notice.specs.Addresses.{addressesEnd, addressesAt, among, withBit, withBits}
+use Rattle.notice.specs.Notice.{dimensionAt, restAt, noticeFrom, noticeOf, noticed, addressesOf, tableAfter, tailAt}
+use Rattle.notice.specs.Laws.{ReadNotice, TableOf, NoticeLaws}
+use Rattle.notice.specs.declared.Noticed.the-variants.{Notice, Refused}
+use Rattle.notice.proofs.Cases.{tested-value}
+use Rattle.notice.proofs.Rising.{rising-wider, not-among, count-among}
+use Rattle.notice.proofs.Bits.{length-bits, bits-among}
+use Rattle.notice.proofs.Opened.{opened-notice}
+use Rattle.notice.proofs.Agree.{accepted, same-notice, tail-behind, tail-empty}
+use Rattle.notice.proofs.Refusals.{refused-few}
+
+kept : (s t : List ℕ) (k : ℕ) → noticed s t ≡ Refused k → tableAfter s t ≡ t
+unfolding tableAfter
+kept s t k e = rw e
+
+module _ (s t : List ℕ) (n m taken : ℕ) (e : noticed s t ≡ Notice n m taken) where
+  read : ReadNotice s n m taken
+  read = accepted s t n m taken e
+
+  right-length : length t ≡ tableLen n
+  unfolding noticed
+  right-length =
+      let o = opened-notice (tested (lengthTests t) (dimensionAt s)) s n m taken e in
+      let passed = tested-value (lengthTests t) (dimensionAt s) (o .dimension) in
+      eqb-true (length t) (tableLen n) (not-false (eqb (length t) (tableLen n)) (first-none 12 (lengthTests t n) refl (passed .1) .0))
+
+  made : tableAfter s t ≡ withBits (replicate (length t) 0) (addressesOf s)
+  unfolding tableAfter
+  made = rw e
+
+  bits-after : (k : ℕ) → nodeBit (tableAfter s t) k ≡ among (addressesOf s) k
+  bits-after k =
+      ap (λ (u : List ℕ). nodeBit u k) made
+      ∙ bits-among (length t) 0 (addressesOf s) k
+      (rising-wider 0 (2 ^ n) (8 * length t) (addressesOf s) (omega (arith, right-length, table-room n)) (read .rises))
+
+  none-unused : (k : ℕ) → (leb (2 ^ n) k && nodeBit (tableAfter s t) k) ≡ false
+  none-unused k = go (leb (2 ^ n) k) refl
+    where
+      go : (b : Bool) → leb (2 ^ n) k ≡ b → (b && nodeBit (tableAfter s t) k) ≡ false
+      go true l = bits-after k ∙ not-among 0 (2 ^ n) (addressesOf s) k (read .rises) (inr (leb-true (2 ^ n) k l))
+      go false l = refl
+
+  table : TableOf n m (addressesOf s) (tableAfter s t)
+  unfolding unusedSet
+  table = record {
+    sized = ap length made ∙ length-bits (replicate (length t) 0) (addressesOf s) ∙ length-replicate {A = ℕ} (length t) 0 ∙ right-length;
+    bits = bits-after;
+    total =
+        count-same (2 ^ n) (nodeBit (tableAfter s t)) (among (addressesOf s)) (λ k h. bits-after k)
+        ∙ count-among 0 (2 ^ n) (addressesOf s) (read .rises)
+        ∙ read .counted;
+    unused = some-none (8 * length (tableAfter s t)) (λ k. leb (2 ^ n) k && nodeBit (tableAfter s t) k) (λ k h. none-unused k);
+  }
+
+pub notice-laws : NoticeLaws
+unfolding first isDimension tableLen numberAt tested addressesEnd addressesAt withBit withBits dimensionAt restAt noticeFrom noticeOf noticed addressesOf
+    tableAfter tailAt
+notice-laws = record {
+  accepted = accepted;
+  written = table;
+  kept = kept;
+  number = refused-few;
+  same-notice = same-notice;
+  tail-behind = tail-behind;
+  tail-empty = tail-empty;
+  listing-answer = refl;
+  listing-nodes = refl;
+  listing-table = refl;
+  listing-tail = refl;
+  two-first = refl;
+  nine-then = refl;
+}

@@ -1,0 +1,176 @@
+-- The outcomes of a notice, one law each, in the terms of the code: what a callee answered, and how the answer was taken apart. Refused, the table is
+-- kept and the tail begins at the end; accepted, the table has room for every address, so that the writing pass may go, and holds their bits after it.
+use mathlib.Core.Path.{_≡_, refl, sym, ap, ap₂, _∙_}
+use mathlib.Core.Logic.{_⊎_, inl, inr}
+use mathlib.Core.Bool.{true, false}
+use mathlib.Core.List.{List}
+use Prim.Native.Nat.{ℕ, _+_, _-_, _*_, _^_, _≤_, _<_}
+use native.Mathlib.Omega.{arith}
+use lib.Dec.{leb}
+use lib.ListN.{length, take, drop, replicate, length-drop, length-replicate}
+use lib.Pow.{pow-mono}
+use lib.Seq.{take-all}
+use borrow.Author.Tests.{leb-true, leb-false, lt-ltb, le-ltb, eq-eqb, ne-eqb}
+use Rattle.cube.specs.Refusal.{first}
+use Rattle.cube.specs.Tables.{tableLen}
+use Rattle.cube.proofs.Bools.{either}
+use Rattle.cube.proofs.Tables.{len-small, table-full, table-room}
+use Rattle.groups.specs.Number.{numberAt, refusalIn}
+use Rattle.groups.specs.declared.Number.{Number}
+use Rattle.groups.specs.declared.Number.the-variants as number
+use Rattle.groups.proofs.Groups.{read-number}
+use Rattle.notice.specs.Tests.{tested, lengthTests, countTests}
+use Rattle.notice.specs.Addresses.{addressesEnd, addressesAt, rising, withBits}
+use Rattle.notice.specs.Notice.{dimensionAt, restAt, noticeFrom, noticeOf, noticed, addressesOf, tableAfter, tailAt}
+use Rattle.notice.specs.declared.Rest.{Rest}
+use Rattle.notice.specs.declared.Rest.the-variants as rest
+use Rattle.notice.specs.declared.Noticed.{Noticed}
+use Rattle.notice.specs.declared.Noticed.the-variants.{Notice, Refused}
+use Rattle.notice.proofs.Cases.{tested-refused, tested-fails, tested-passes}
+use Rattle.notice.proofs.Addresses.{read-addresses}
+use Rattle.notice.proofs.Rising.{rising-wider}
+use Rattle.notice.proofs.Opened.{ReadRest, opened-dimension, opened-rest, read-rest, addresses-are}
+
+-- the part of a slice from a place on
+part-drop : (s : List ℕ) (k : ℕ) → take (length s - k) (drop k s) ≡ drop k s
+part-drop s k = take-all (length s - k) (drop k s) (omega (arith, length-drop k s))
+
+-- ---- what follows the dimension, where x is the number at its place, and y what the address reader answers on the bytes behind it
+
+module _ (n : ℕ) (s : List ℕ) (at : ℕ) {x : Number} (here : x ≡ numberAt s at) where
+  count-refused : {k : ℕ} → number.Refused k ≡ tested (countTests n) (numberAt s at) → rest.Refused k ≡ restAt n s at
+  unfolding restAt
+  count-refused e = rw (sym e)
+
+  pub rest-refused : {k r : ℕ} → x ≡ number.Refused k → r ≡ refusalIn x → rest.Refused r ≡ restAt n s at
+  rest-refused e f = ap rest.Refused (f ∙ ap refusalIn e) ∙ count-refused (tested-refused (countTests n) here e)
+
+  module _ {m start size : ℕ} (e : x ≡ number.Value m start) (full : size ≡ 2 ^ n) where
+    pub rest-many : size < m → rest.Refused 11 ≡ restAt n s at
+    unfolding first
+    rest-many h = count-refused (tested-fails (countTests n) here e (rw (lt-ltb (2 ^ n) m (omega arith))) refl)
+
+    module _ (few : m ≤ size) {y : Number} (answer : y ≡ addressesEnd m (take (length s - start) (drop start s)) 0 0 size) where
+      counted : number.Value m start ≡ tested (countTests n) (numberAt s at)
+      unfolding first
+      counted = tested-passes (countTests n) here e (rw (le-ltb (2 ^ n) m (omega arith)))
+
+      ended : addressesEnd m (drop start s) 0 0 (2 ^ n) ≡ y
+      ended = sym (answer ∙ rw (part-drop s start, full))
+
+      pub rest-bad : {k r : ℕ} → y ≡ number.Refused k → r ≡ refusalIn y → rest.Refused r ≡ restAt n s at
+      unfolding restAt
+      rest-bad f g = let h = ended ∙ f in ap rest.Refused (g ∙ ap refusalIn f) ∙ rw (sym counted) (rw h)
+
+      pub rest-good : {base taken : ℕ} → y ≡ number.Value base taken → rest.Addresses m start (start + taken) ≡ restAt n s at
+      unfolding restAt
+      rest-good f = let h = ended ∙ f in rw (sym counted) (rw h)
+
+      pub rest-fits : {base taken : ℕ} → y ≡ number.Value base taken → start + taken ≤ length s
+      rest-fits f =
+          let a = read-addresses m (drop start s) 0 0 (2 ^ n) _ _ (ended ∙ f) in
+          omega (arith, length-drop start s, read-number s at m start (sym here ∙ e) .within, a .within (omega arith))
+
+-- ---- the whole notice, where d is the dimension as the question reads it, and y what follows it
+
+module _ (s : List ℕ) {d : Number} where
+  pub notice-refused : {k : ℕ} → number.Refused k ≡ d → Refused k ≡ noticeFrom d s
+  unfolding noticeFrom
+  notice-refused e = rw (sym e)
+
+  module _ {n at : ℕ} (e : number.Value n at ≡ d) {y : Rest} (answer : y ≡ restAt n s at) where
+    pub notice-bad : {k : ℕ} → y ≡ rest.Refused k → Refused k ≡ noticeFrom d s
+    unfolding noticeFrom
+    notice-bad f = let h = sym answer ∙ f in rw (sym e) (rw h)
+
+    pub notice-good : {m start end : ℕ} → y ≡ rest.Addresses m start end → Notice n m end ≡ noticeFrom d s
+    unfolding noticeFrom
+    notice-good f = let h = sym answer ∙ f in rw (sym e) (rw h)
+
+-- ---- the tail
+
+module _ (s : List ℕ) where
+  pub tail-refused : {k : ℕ} → Refused k ≡ noticeOf s → length s ≡ tailAt s
+  unfolding tailAt
+  tail-refused e = rw (sym e)
+
+  pub tail-good : {n m end : ℕ} → Notice n m end ≡ noticeOf s → end ≡ tailAt s
+  unfolding tailAt
+  tail-good e = rw (sym e)
+
+  -- the part from a place on, as bytes and as a place of memory
+  pub tail-part : (block offset at end : ℕ) → at ≡ end
+      → (take (length s - at) (drop at s) ≡ drop end s) × (_≡_ {A = ℕ × ℕ} (block, at + offset) (block, offset + end))
+  tail-part block offset at end e =
+      let z : at + offset ≡ offset + end = omega arith in
+      (part-drop s at ∙ ap (λ (k : ℕ). drop k s) e, ap (λ (k : ℕ). (block, k)) z)
+
+-- ---- the reader
+
+-- what `read` has to show of its answer, and of the table after it
+abbrev pub Outcome : (s t : List ℕ) → Noticed → List ℕ → Type 0
+Outcome s t answer after = (answer ≡ noticed s t) × (after ≡ tableAfter s t)
+
+table-small : (n : ℕ) → n ≤ 12 → tableLen n ≤ 512
+table-small n h = go (either (leb 3 n))
+  where
+    go : (leb 3 n ≡ true) ⊎ (leb 3 n ≡ false) → tableLen n ≤ 512
+    go (inl a) = omega (arith, table-full n (leb-true 3 n a), pow-mono h)
+    go (inr a) = let l = leb-false 3 n a in omega (arith, len-small n (omega arith))
+
+outcome-refused : (s t : List ℕ) {k : ℕ} → Refused k ≡ noticed s t → Outcome s t (Refused k) t
+unfolding tableAfter
+outcome-refused s t e = (e, rw (sym e))
+
+module _ (s : List ℕ) {x : Number} (here : x ≡ dimensionAt s) where
+  pub outcome-number : (t : List ℕ) {k r : ℕ} → x ≡ number.Refused k → r ≡ refusalIn x → Outcome s t (Refused r) t
+  unfolding noticed
+  outcome-number t e f =
+      outcome-refused s t (ap Refused (f ∙ ap refusalIn e) ∙ notice-refused s (tested-refused (lengthTests t) here e))
+
+  module _ {n at : ℕ} (e : x ≡ number.Value n at) where
+    pub small : n ≤ 12
+    small = opened-dimension s n at (sym here ∙ e) .good .1
+
+    pub outcome-length : (t : List ℕ) → (length t ≡ tableLen n → ⊥) → Outcome s t (Refused 2) t
+    unfolding noticed first
+    outcome-length t h =
+        outcome-refused s t (notice-refused s (tested-fails (lengthTests t) here e (rw (ne-eqb (length t) (tableLen n) h)) refl))
+
+    module _ {y : Rest} (answer : y ≡ restAt n s at) where
+      sized-value : (t : List ℕ) → length t ≡ tableLen n → number.Value n at ≡ tested (lengthTests t) (dimensionAt s)
+      unfolding first
+      sized-value t sized = tested-passes (lengthTests t) here e (rw (eq-eqb (length t) (tableLen n) sized))
+
+      pub outcome-rest : (t : List ℕ) → length t ≡ tableLen n → {k : ℕ} → y ≡ rest.Refused k → Outcome s t (Refused k) t
+      unfolding noticed
+      outcome-rest t sized f = outcome-refused s t (notice-bad s (sized-value t sized) answer f)
+
+      module _ {m start end : ℕ} (f : y ≡ rest.Addresses m start end) where
+        pub rest-read : ReadRest n s at m start end
+        rest-read = read-rest n s at m start end (opened-rest n s at m start end (sym answer ∙ f))
+
+        -- the addresses, as the writing pass is handed them
+        handed : addressesAt m (take (length s - start) (drop start s)) 0 0 ≡ addressesOf s
+        handed =
+            ap (λ (l : List ℕ). addressesAt m l 0 0) (part-drop s start)
+            ∙ sym (addresses-are n s at m start end (sym here ∙ e) (sym answer ∙ f))
+
+        module _ (t : List ℕ) (sized : length t ≡ tableLen n) {zeros : List ℕ} (clear : zeros ≡ replicate (length t) 0) where
+          cleared : length zeros ≡ tableLen n
+          cleared = ap length clear ∙ length-replicate (length t) 0 ∙ sized
+
+          pub outcome-room : (length zeros ≤ 512)
+              × (rising 0 (8 * length zeros) (addressesAt m (take (length s - start) (drop start s)) 0 0) ≡ true)
+          outcome-room = (
+            omega (arith, cleared, table-small n small),
+            rw (part-drop s start)
+                (rising-wider 0 (2 ^ n) (8 * length zeros) (addressesAt m (drop start s) 0 0) (omega (arith, cleared, table-room n)) (rest-read .rises)),
+          )
+
+          pub outcome-notice : {after : List ℕ} → after ≡ withBits zeros (addressesAt m (take (length s - start) (drop start s)) 0 0)
+              → Outcome s t (Notice n m end) after
+          unfolding noticed tableAfter
+          outcome-notice w =
+              let good : Notice n m end ≡ noticed s t = notice-good s (sized-value t sized) answer f in
+              (good, w ∙ ap₂ withBits clear handed ∙ rw (sym good))

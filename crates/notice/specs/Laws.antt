@@ -1,0 +1,61 @@
+-- What document 01 says of a notice, as laws of its definitions: an accepted notice names what the table then holds, a refused one writes nothing, and
+-- the tail question agrees with the reader. Proved in proofs/Laws.antt.
+use mathlib.Core.Path.{_≡_}
+use mathlib.Core.Logic.{_≢_}
+use mathlib.Core.Bool.{true, false}
+use mathlib.Core.List.{List, [], _∷_}
+use Prim.Native.Nat.{ℕ, _+_, _^_, _≤_}
+use lib.ListN.{length, drop}
+use Rattle.cube.specs.Count.{count}
+use Rattle.cube.specs.Tables.{tableLen, nodeBit, unusedSet}
+use Rattle.notice.specs.Addresses.{rising, among}
+use Rattle.notice.specs.Notice.{noticeOf, noticed, addressesOf, tableAfter, tailAt}
+use Rattle.notice.specs.declared.Noticed.{Noticed}
+use Rattle.notice.specs.declared.Noticed.the-variants.{Notice, Refused}
+
+-- an accepted notice at the front of the bytes s
+pub record ReadNotice (s : List ℕ) (n m taken : ℕ) : Type 0 where
+  -- "dimension n is 1 to 12", and the count is not "above 2^n"
+  pub dimension : (1 ≤ n) × (n ≤ 12)
+  pub few : m ≤ 2 ^ n
+  -- "the number of bytes the notice took": a byte or two for each number, and never more than there are nodes and three
+  pub within : taken ≤ length s
+  pub short : taken ≤ 3 + 2 ^ n
+  -- as many addresses as the count says, "in rising order", and none "2^n or more"
+  pub counted : length (addressesOf s) ≡ m
+  pub rises : rising 0 (2 ^ n) (addressesOf s) ≡ true
+
+-- the fault table of m addresses l
+pub record TableOf (n m : ℕ) (l after : List ℕ) : Type 0 where
+  -- "one bit per node": node k's bit is set exactly where k is one of the addresses, so as many are set as the count says
+  pub sized : length after ≡ tableLen n
+  pub bits : (k : ℕ) → nodeBit after k ≡ among l k
+  pub total : count (2 ^ n) (nodeBit after) ≡ m
+  -- "for n = 1 and 2 the unused high bits are zero"
+  pub unused : unusedSet n after ≡ false
+
+-- "04 04 02 01 03 06 0D 00 ..", the listing's input: nodes 2, 4, 8 and 15 of a 4-cube, and what stands behind the notice
+abbrev pub listing : List ℕ
+listing = 0x04 ∷ 0x04 ∷ 0x02 ∷ 0x01 ∷ 0x03 ∷ 0x06 ∷ 0x0D ∷ 0x00 ∷ []
+
+pub record NoticeLaws : Type 0 where
+  -- "Accepted: the notice reader overwrites all of the fault table and returns dimension, count and the number of bytes the notice took"
+  pub accepted : (s t : List ℕ) (n m taken : ℕ) → noticed s t ≡ Notice n m taken → ReadNotice s n m taken
+  pub written : (s t : List ℕ) (n m taken : ℕ) → noticed s t ≡ Notice n m taken → TableOf n m (addressesOf s) (tableAfter s t)
+  -- "Refused: lent tables keep every byte", and the number is one of the table's
+  pub kept : (s t : List ℕ) (k : ℕ) → noticed s t ≡ Refused k → tableAfter s t ≡ t
+  pub number : (s t : List ℕ) (k : ℕ) → noticed s t ≡ Refused k → k ≤ 12
+  -- the tail question "isn't given" the table's length: it takes for a notice, or refuses, what the reader does, unless the reader answers 2
+  pub same-notice : (s t : List ℕ) (x : Noticed) → noticed s t ≡ x → x ≢ Refused 2 → noticeOf s ≡ x
+  -- "one question gives the bytes after the first notice"
+  pub tail-behind : (s t : List ℕ) (n m taken : ℕ) → noticed s t ≡ Notice n m taken → tailAt s ≡ taken
+  -- "if the notice is refused for anything but the table's length, it gives the empty part at their end"
+  pub tail-empty : (s t : List ℕ) (k : ℕ) → noticed s t ≡ Refused k → k ≢ 2 → (tailAt s ≡ length s) × (drop (tailAt s) s ≡ [])
+  -- the listing's notice, read over an old table
+  pub listing-answer : noticed listing (0 ∷ 255 ∷ []) ≡ Notice 4 4 6
+  pub listing-nodes : addressesOf listing ≡ 2 ∷ 4 ∷ 8 ∷ 15 ∷ []
+  pub listing-table : tableAfter listing (0 ∷ 255 ∷ []) ≡ 0x14 ∷ 0x81 ∷ []
+  pub listing-tail : tailAt listing ≡ 6
+  -- a missing count, behind a table of the wrong length and of the right one: 2 stands before it
+  pub two-first : noticed (0x04 ∷ []) (0 ∷ []) ≡ Refused 2
+  pub nine-then : noticed (0x04 ∷ []) (0 ∷ 0 ∷ []) ≡ Refused 9
