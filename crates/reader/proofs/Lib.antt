@@ -1,4 +1,4 @@
 pub mod Owned
 pub mod Lent
-pub mod Shift
-pub mod Notice
+pub mod Facts
+pub mod Laws

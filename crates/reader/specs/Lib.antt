@@ -1,2 +1,3 @@
 pub mod Reader
 pub mod Reading
+pub mod Laws

@@ -1,30 +1,25 @@
 -- Bytes read through a reader number by number, from the start: each answer is the number reader's at the place that the one before left.
 use mathlib.Core.List.{List, [], _∷_}
 use Prim.Native.Nat.{ℕ, zero, suc, _+_}
-use Rattle.groups.specs.Number.{numberAt}
+use Rattle.groups.specs.Number.{numberAt, valueIn}
 use Rattle.groups.specs.declared.Number.{Number}
-use Rattle.groups.specs.declared.Number.the-variants.{Value, Refused}
 use Rattle.reader.specs.Reader.{placeAfter}
 
 -- the place after k answers
-unfoldable pub places : List ℕ → ℕ → ℕ
+unfoldable pub places : List ℕ → (k : ℕ) → ℕ
 places s zero = 0
 places s (suc k) = placeAfter s (places s k)
 
--- the answer that follows k others, and its value; a refusal has the value 0
-unfoldable pub answers : List ℕ → ℕ → Number
+-- the answer that follows k others
+unfoldable pub answers : List ℕ → (k : ℕ) → Number
 answers s k = numberAt s (places s k)
-
-abbrev pub valueOf : Number → ℕ
-valueOf (Value v next) = v
-valueOf (Refused k) = 0
 
 -- the values of m answers, which follow k others
 unfoldable pub values : (m : ℕ) → List ℕ → (k : ℕ) → List ℕ
 values zero s k = []
-values (suc m) s k = valueOf (answers s k) ∷ values m s (suc k)
+values (suc m) s k = valueIn (answers s k) ∷ values m s (suc k)
 
--- the addresses that a row of values means: the first is its value, each later one its value counted from one more than the address before
-unfoldable pub counted : (base : ℕ) → List ℕ → List ℕ
-counted base [] = []
-counted base (v ∷ l) = (base + v) ∷ counted (base + v + 1) l
+-- the addresses that values mean: the first is its value, each later one its value counted from one more than the address before
+unfoldable pub addressesFrom : (base : ℕ) → List ℕ → List ℕ
+addressesFrom base [] = []
+addressesFrom base (v ∷ l) = (base + v) ∷ addressesFrom (base + v + 1) l

@@ -2,10 +2,11 @@
 // A refusal leaves its place as it stood. The number reader does the work; `next` only keeps the place.
 ghost use mathlib.Core.Path.{_≡_};
 ghost use Rattle.groups.specs.Number.{numberAt};
-ghost use Rattle.reader.specs.Reader.{placed, placeAfter};
+ghost use Rattle.reader.specs.Reader.{nextPlace, placeAfter};
 use groups::Number;
 use groups::number_at;
 
+// The lent bytes, and the place of the number that is next.
 pub struct Reader<'a> {
     pub bytes: &'a [u8],
     pub at: usize,
@@ -13,7 +14,7 @@ pub struct Reader<'a> {
 
 // The place after an answer: the next one, or the same where it is a refusal.
 fn place_after(number: Number, at: usize) -> usize
-    ensures { λ r. ⌜ r ≡ placed number at ⌝ }
+    ensures { λ r. ⌜ r ≡ nextPlace number at ⌝ }
 {
     let Number::Value(_, next) = number else {
         return at;
@@ -24,16 +25,17 @@ fn place_after(number: Number, at: usize) -> usize
 impl<'a> Reader<'a> {
     // At the start of the caller's own bytes.
     pub fn new(bytes: &'a [u8]) -> Reader<'a>
-        ensures { λ r. ⌜ (r .bytes ≡ bytes .entry) × (r .at ≡ 0) ⌝ }
+        ensures bytes { λ r. ⌜ r .bytes ≡ bytes .entry ⌝ }
+        ensures place { λ r. ⌜ r .at ≡ 0 ⌝ }
     {
         Reader { bytes, at: 0 }
     }
 
     // The number at this place. The place moves on to the next one; a refusal leaves it.
     pub fn next(&mut self) -> Number
-        ensures { λ r. ⌜ (r ≡ numberAt (now (now (self .entry) .bytes)) (now (self .entry) .at))
-            × (now (self .exit) .bytes ≡ now (self .entry) .bytes)
-            × (now (self .exit) .at ≡ placeAfter (now (now (self .entry) .bytes)) (now (self .entry) .at)) ⌝ }
+        ensures answer { λ r. ⌜ r ≡ numberAt (now (now (self .entry) .bytes)) (now (self .entry) .at) ⌝ }
+        ensures bytes { λ _. ⌜ now (self .exit) .bytes ≡ now (self .entry) .bytes ⌝ }
+        ensures place { λ _. ⌜ now (self .exit) .at ≡ placeAfter (now (now (self .entry) .bytes)) (now (self .entry) .at) ⌝ }
     {
         let at = self.at;
         let number = number_at(self.bytes, at);
@@ -50,7 +52,8 @@ pub struct Step {
 
 // One number through a reader that stands at a place, for callers that keep the place themselves.
 pub fn next_at(bytes: &[u8], at: usize) -> Step
-    ensures { λ r. ⌜ (r .number ≡ numberAt (now (bytes .entry)) at) × (r .at ≡ placeAfter (now (bytes .entry)) at) ⌝ }
+    ensures answer { λ r. ⌜ r .number ≡ numberAt (now (bytes .entry)) at ⌝ }
+    ensures place { λ r. ⌜ r .at ≡ placeAfter (now (bytes .entry)) at ⌝ }
 {
     let mut reader = Reader { bytes, at };
     let number = reader.next();

@@ -37,7 +37,7 @@ use denote.Triple.Call.{calls-at}
 use denote.Triple.Clauses.{ensured, lasts}
 use denote.Triple.Spec.{Meets, tripleOf}
 use denote.Triple.Table.{entered, cited}
-use denote.Triple.Walked.{says, Stays, stay-none, stay-none-slice, walkOf, goes-none, goes-none-slice, Walks, ends-at, walked, walk-meets}
+use denote.Triple.Walked.{Stays, stay-none, stay-none-slice, walkOf, goes-none, goes-none-slice, Walks, ends-at, walked, walk-meets}
 use denote.Exit.{yes}
 use Rattle.groups.specs.Number.{numberAt}
 use Rattle.groups.specs.declared.Number.{Number}
@@ -47,6 +47,7 @@ use Rattle.reader.specs.Reader.{placeAfter}
 use Rattle.reader.specs.declared.Reader.{Reader}
 use Rattle.reader.proofs.Step as P
 use Rattle.reader.proofs.Step.Laws as P′
+use Rattle.reader.proofs.Facts.{says-two}
 use Rattle.reader.proofs.Owned.{row, stands, slice-of, Bytes}
 use Rattle.reader.proofs.Lent.{token, tokens, reference, kept, Lent, loan, Back, back}
 use Rattle.reader.proofs.Reader.next as next
@@ -90,8 +91,8 @@ module _ {M : Type 1} (𝓤 : URA M) (H : Heap 𝓤) (A : Atoms 𝓤) (W : Given
   goes l ν γ = qed W (tokens 𝓤 H A W κ q s ν ∷ ‵ (reference 𝓤 H A W κ q s l n ν γ) ∷ []) ∵ nothing ! $ move ! (2 ∷ 0 ∷ []) $ fjoin ! $ move ! (1 ∷ 0 ∷ []) $ join ! $ frame ! $ done !
 
   -- what `next` ensures of its answer r and of the reader's last value y; and what the walk has of it: r, with the machine value u, and the place p
-  abbrev said : Number → Reader → Type 0
-  said r y = (r ≡ numberAt (now s) n) × (y .bytes ≡ s) × (y .at ≡ placeAfter (now s) n)
+  abbrev said : Number → Reader → Item 𝓤
+  said r y = raw (fact 𝓤 (r ≡ numberAt (now s) n)) ⊛ (raw (fact 𝓤 (y .bytes ≡ s)) ⊛ raw (fact 𝓤 (y .at ≡ placeAfter (now s) n)))
 
   abbrev had : ℕ → Val → Number → ℕ → Item 𝓤
   had l u r p = given ((r ≡ numberAt (now s) n) × (p ≡ placeAfter (now s) n)) (‵ (S.the-row .own r (u ∷ [])) ⊛ Back 𝓤 H A W κ q s l p)
@@ -100,12 +101,14 @@ module _ {M : Type 1} (𝓤 : URA M) (H : Heap 𝓤) (A : Atoms 𝓤) (W : Given
   gives l ν γ u =
       qed W (raw (Next 𝓤 H A at-mem run .post (to-next l ν γ) u) ∷ kept 𝓤 H A W κ q s l ν γ ∷ []) ∵ updating ! $
       use1 W (later (some (λ (r : Number). (tokens 𝓤 H A W κ q s ν ⊛ ‵ (S.the-row .own r (u ∷ []))) ⊛ raw (ensured 𝓤 H A next.ended (next.clauses 𝓤 H A at-mem run) (ν ∷ κ, (κ, tt)) (record { ptr = (l, 0); name = γ; now = stands s n }, tt) tt r)))) (id⊢ 𝓤 _) $ await ! tt $ pick ! (λ r.
-      split ! $ move ! (1 ∷ []) $ use1 W (some (λ (ws : Reader × Unit {0}). ‵ (lasts next.ended (ν ∷ κ, (κ, tt)) (record { ptr = (l, 0); name = γ; now = stands s n }, tt) ws) ⊛ raw (fact 𝓤 (said r (ws .0))))) (id⊢ 𝓤 _) $ pick ! (λ ws.
-      split ! $ move ! (1 ∷ []) $ heard ! (said r (ws .0)) (λ e. fsplit ! $ rewrite ! 0 (λ (y : Reader). ‵ (fres γ (row κ .coded .code y))) (λ i. record { bytes = e .1 i; at = ws .0 .at }) refl $
+      split ! $ move ! (1 ∷ []) $ use1 W (some (λ (ws : Reader × Unit {0}). ‵ (lasts next.ended (ν ∷ κ, (κ, tt)) (record { ptr = (l, 0); name = γ; now = stands s n }, tt) ws) ⊛ said r (ws .0))) (id⊢ 𝓤 _) $ pick ! (λ ws.
+      split ! $ move ! (1 ∷ []) $ split ! $ heard ! (r ≡ numberAt (now s) n) (λ answer. split ! $ heard ! (ws .0 .bytes ≡ s) (λ same.
+      heard ! (ws .0 .at ≡ placeAfter (now s) n) (λ place.
+      fsplit ! $ rewrite ! 0 (λ (y : Reader). ‵ (fres γ (row κ .coded .code y))) (λ i. record { bytes = same i; at = ws .0 .at }) refl $
       -- [the reader's last value; true; the tokens and the answer; what was kept]
       move ! (2 ∷ []) $ split ! $ move ! (0 ∷ 4 ∷ 2 ∷ []) $ use3 W (later (Back 𝓤 H A W κ q s l (ws .0 .at))) (back 𝓤 H A W κ q s l (ws .0 .at) ν γ) $ await ! tt $
       at-once ! $ show ! (λ (r′ : Number). ex 𝓤 (λ (p : ℕ). mean 𝓤 H A (had l u r′ p))) r $ show ! (λ (p : ℕ). mean 𝓤 H A (had l u r p)) (ws .0 .at) $
-      check ! (e .0, e .2) $ keep ! (1 ∷ 0 ∷ []) $ done !)))
+      check ! (answer, place) $ keep ! (1 ∷ 0 ∷ []) $ done !)))))
 
   -- the result, of the answer's machine value and the place
   abbrev stepVal : Val → ℕ → Val
@@ -117,7 +120,7 @@ module _ {M : Type 1} (𝓤 : URA M) (H : Heap 𝓤) (A : Atoms 𝓤) (W : Given
   exits : (r : Number) (u : Val) (p : ℕ) → Is S.the-row r (u ∷ []) → p < 2 ^ 64 → r ≡ numberAt (now s) n → p ≡ placeAfter (now s) n → ent 𝓤 (mean 𝓤 H A Still) (Post (stepVal u p))
   exits r u p is fits e e′ =
       qed W (Still ∷ []) ∵ split ! $
-      suffices ! _ (ends-at 𝓤 H A next-at.ended stayed (next-at.clauses 𝓤 H A at-mem run) W (((κ, tt), (q, tt), tt, a, vals), tt) (stepVal u p) (record { number = r; at = p }) (tt, (tt, tt)) (tt, (tt, tt))) $ says ! (e, e′) $
+      suffices ! _ (ends-at 𝓤 H A next-at.ended stayed (next-at.clauses 𝓤 H A at-mem run) W (((κ, tt), (q, tt), tt, a, vals), tt) (stepVal u p) (record { number = r; at = p }) (tt, (tt, tt)) (tt, (tt, tt))) $ says-two ! e e′ $
       frame ! $ nothing ! $ owned ! usize (Is usize) (uint-makes 𝓤 H A W w64) n _ (refl, n-fits) $ fjoin ! $ move ! (1 ∷ 0 ∷ []) $ fjoin ! $
       owned ! P.the-row (Is P.the-row) (LL.makes P.the-type P′.the-plain 𝓤 H A) (record { number = r; at = p }) _ (made r u p is fits) $ move ! (1 ∷ 0 ∷ []) $ done !
 

@@ -29,10 +29,11 @@ use denote.Slice.{ShrSlice, slice-vals, shr-slice-tells, shr-slice-lawful, shr-s
 use denote.Triple.Entry.{onEntry}
 use denote.Triple.Spec.{Meets, tripleOf}
 use denote.Triple.Table.{entered}
-use denote.Triple.Walked.{says, Stays, stay-none-slice, walkOf, goes-none-slice, Walks, ends-at, walked, walk-meets}
+use denote.Triple.Walked.{Stays, stay-none-slice, walkOf, goes-none-slice, Walks, ends-at, walked, walk-meets}
 use denote.Exit.{yes}
 use Rattle.reader.specs.declared.Reader.{Reader}
 use Rattle.reader.proofs.Reader.Laws as T′
+use Rattle.reader.proofs.Facts.{says-two}
 use Rattle.reader.proofs.Owned.{stands, slice-of, Bytes, reader-of}
 use Rattle.reader.proofs.Reader.new.Key.{name as #reader·new}
 use Rattle.reader.proofs.Reader.new as new
@@ -59,7 +60,7 @@ module _ {M : Type 1} (𝓤 : URA M) (H : Heap 𝓤) (A : Atoms 𝓤) (W : Given
   exits : ent 𝓤 (onEntry 𝓤 H A new.signature (κ, tt) (q, tt) (s, tt) at) (Post (T′.lowered made))
   exits =
       qed W ((‵ (flft κ q) ⊛ ‵ ftrue) ∷ ‵ (owns (ShrSlice (named 0) κ u8 ∷ []) (s, tt) at) ∷ []) ∵
-      suffices ! _ (ends-at 𝓤 H A new.ended stayed (new.clauses 𝓤 H A mem run) W (((κ, tt), (q, tt), tt, (s, tt), at), tt) (T′.lowered made) made (tt, tt) (tt, tt)) $ says ! (refl, refl) $
+      suffices ! _ (ends-at 𝓤 H A new.ended stayed (new.clauses 𝓤 H A mem run) W (((κ, tt), (q, tt), tt, (s, tt), at), tt) (T′.lowered made) made (tt, tt) (tt, tt)) $ says-two ! refl refl $
       frame ! $ fsplit ! $ use1 W (‵ (Bytes κ s) ⊛ ‵ (Bytes κ s)) (shr-slice-copy 𝓤 H A W (named 0) κ u8 .twice s (v ∷ [])) $ split ! $ move ! (0 ∷ 2 ∷ []) $ fjoin ! $ frame ! $
       by ! (reader-of 𝓤 H A W κ s 0 (lit< tt))
 

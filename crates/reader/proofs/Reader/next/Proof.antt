@@ -41,7 +41,7 @@ use denote.Triple.Call.{calls-at}
 use denote.Triple.Clauses.{ensured, lasts}
 use denote.Triple.Spec.{Meets, tripleOf}
 use denote.Triple.Table.{entered, cited}
-use denote.Triple.Walked.{says, Stays, stay-ref, walkOf, goes-ref, Walks, ends-at, walked, walk-meets}
+use denote.Triple.Walked.{Stays, stay-ref, walkOf, goes-ref, Walks, ends-at, walked, walk-meets}
 use Rattle.groups.specs.Number.{numberAt}
 use Rattle.groups.specs.declared.Number.{Number}
 use Rattle.groups.proofs.Number as S
@@ -50,10 +50,11 @@ use Rattle.groups.proofs.number_at as number
 use Rattle.groups.proofs.number_at.Symbol as number-def
 use Rattle.groups.proofs.number_at.Symbol.{name as #groups·number-at}
 use Rattle.groups.proofs.number_at.Met as number-thm
-use Rattle.reader.specs.Reader.{placed, placeAfter}
+use Rattle.reader.specs.Reader.{nextPlace, placeAfter}
 use Rattle.reader.specs.declared.Reader.{Reader}
 use Rattle.reader.proofs.Reader as T
 use Rattle.reader.proofs.Reader.Laws as T′
+use Rattle.reader.proofs.Facts.{says-three}
 use Rattle.reader.proofs.Owned.{row, type-of, laws-of, stands, slice-of, Bytes, Own, bytes-out, at-place}
 use Rattle.reader.proofs.place_after as place
 use Rattle.reader.proofs.place_after.Symbol as place-def
@@ -65,9 +66,9 @@ use Rattle.reader.proofs.Reader.next.Statement as stated
 use Rattle.reader.proofs.Reader.next.Code as code
 
 -- the place after the answer that was found is the place that the contract names
-after : (s : List ℕ) (at p : ℕ) (r : Number) → r ≡ numberAt s at → p ≡ placed r at → p ≡ placeAfter s at
+after : (s : List ℕ) (at p : ℕ) (r : Number) → r ≡ numberAt s at → p ≡ nextPlace r at → p ≡ placeAfter s at
 unfolding placeAfter
-after s at p r e e′ = e′ ∙ ap (λ (x : Number). placed x at) e
+after s at p r e e′ = e′ ∙ ap (λ (x : Number). nextPlace x at) e
 
 -- `Reader<'a>`, as the referent's place in the signature
 abbrev behind : Slot 2
@@ -142,14 +143,14 @@ module _ {M : Type 1} (𝓤 : URA M) (H : Heap 𝓤) (A : Atoms 𝓤) (W : Given
       qed W [] ∵ nothing ! $ nothing ! $ owned ! usize (Is usize) (uint-makes 𝓤 H A W w64) (h .at) _ (refl, fits) $ fjoin ! $ owned ! S.the-row (Is S.the-row) (EL.makes S.the-type S′.the-plain 𝓤 H A) r _ is $ fjoin ! $
       move ! (1 ∷ 0 ∷ []) $ join ! $ frame ! $ done !
 
-  place-said : (r : Number) (p : ℕ) → ent 𝓤 (ensured 𝓤 H A place.ended (place.clauses 𝓤 H A at-mem run) tt (r, (h .at, tt)) tt p) (fact 𝓤 (p ≡ placed r (h .at)))
-  place-said r p = exE 𝓤 _ (λ ws. snd∗ 𝓤 (sem 𝓤 H A (lasts place.ended tt (r, (h .at, tt)) ws)) (fact 𝓤 (p ≡ placed r (h .at))))
+  place-said : (r : Number) (p : ℕ) → ent 𝓤 (ensured 𝓤 H A place.ended (place.clauses 𝓤 H A at-mem run) tt (r, (h .at, tt)) tt p) (fact 𝓤 (p ≡ nextPlace r (h .at)))
+  place-said r p = exE 𝓤 _ (λ ws. snd∗ 𝓤 (sem 𝓤 H A (lasts place.ended tt (r, (h .at, tt)) ws)) (fact 𝓤 (p ≡ nextPlace r (h .at))))
 
-  exits : (r : Number) (u : Val) (p : ℕ) → r ≡ found → p ≡ placed r (h .at)
+  exits : (r : Number) (u : Val) (p : ℕ) → r ≡ found → p ≡ nextPlace r (h .at)
       → ent 𝓤 (⋆ 𝓤 H A (‵ (fobs γ (B .coded .code (h′ p))) ∷ ‵ (fbor κ (Body (mem (B)) b o γ)) ∷ ‵ (flft κ q) ∷ (‵ (flft κ′ q′) ⊛ ‵ ftrue) ∷ ‵ (S.the-row .own r (u ∷ [])) ∷ [])) (Post u)
   exits r u p e e′ =
       qed W (‵ (fobs γ (B .coded .code (h′ p))) ∷ ‵ (fbor κ (Body (mem (B)) b o γ)) ∷ ‵ (flft κ q) ∷ (‵ (flft κ′ q′) ⊛ ‵ ftrue) ∷ ‵ (S.the-row .own r (u ∷ [])) ∷ []) ∵
-      suffices ! _ (ends-at 𝓤 H A next.ended stayed (next.clauses 𝓤 H A at-mem run) W (((κ, (κ′, tt)), (q, (q′, tt)), bounds, x, at), tt) u r (h′ p, tt) (tt, tt)) $ says ! (e, refl, after (now (h .bytes)) (h .at) p r e e′) $
+      suffices ! _ (ends-at 𝓤 H A next.ended stayed (next.clauses 𝓤 H A at-mem run) W (((κ, (κ′, tt)), (q, (q′, tt)), bounds, x, at), tt) u r (h′ p, tt) (tt, tt)) $ says-three ! e refl (after (now (h .bytes)) (h .at) p r e e′) $
       move ! (2 ∷ 3 ∷ []) $ join ! $
       frame ! $ feqI ! (List Val) (vptr b o ∷ []) (vptr b o ∷ []) refl $ fjoin3 ! $ nothing ! $ move ! (1 ∷ 0 ∷ []) $ fjoin ! $ done !
 
@@ -177,7 +178,7 @@ module _ {M : Type 1} (𝓤 : URA M) (H : Heap 𝓤) (A : Atoms 𝓤) (W : Given
         use0 W (raw (PlaceAfter 𝓤 H A at-mem run .pre (to-place r u))) (goes-place r u is (typed was .1 .1 .0 .fits)) $
         calls-at ! fm (PlaceAfter 𝓤 H A at-mem run) known-place (to-place r u) (and-then ! (load ! (from ! (stop !)) (look ! 13 refl)) (and-then ! (load ! (from ! (stop !)) (look ! 15 refl)) (no-more !))) (λ w.
         use1 W (later (some (λ (p : ℕ). (‵ ftrue ⊛ ‵ (usize .own p (w ∷ []))) ⊛ raw (ensured 𝓤 H A place.ended (place.clauses 𝓤 H A at-mem run) tt (r, (h .at, tt)) tt p)))) (id⊢ 𝓤 _) $ await ! tt $ pick ! (λ p.
-        split ! $ move ! (1 ∷ []) $ use1 W (raw (fact 𝓤 (p ≡ placed r (h .at)))) (place-said r p) $ heard ! (p ≡ placed r (h .at)) (λ e′. split ! $ drop ! $
+        split ! $ move ! (1 ∷ []) $ use1 W (raw (fact 𝓤 (p ≡ nextPlace r (h .at)))) (place-said r p) $ heard ! (p ≡ nextPlace r (h .at)) (λ e′. split ! $ drop ! $
         -- [what p owns; the answer; the token; what the struct owns; its cell; the open borrow; obs; auth; …; _5; …; _4; …; _3; …; _2; …; _1; …; room for _0; …]
         peeks ! usize (Is usize) (shows 𝓤 H A usize) p (w ∷ []) (λ is′.
         land ! (from ! (stop !)) (init ! 9 refl (uint-lawful 𝓤 H A W w64 .typed p _ is′ .0)) $ rewrite ! 9 (λ (y : Val). ‵ (fat fullShare (tyInt w64) l₅ 0 y)) (ap only (is′ .0)) refl $
