@@ -1,8 +1,8 @@
 // Notices: the reader, which makes a fault table of one, and the tail question, for notices that stand back to back.
 ghost use Prim.Native.Nat.{_+_, _*_, _/_, _<_, _≤_};
-ghost use Rattle.notice.specs.Notice.{dimensionAt, noticed, restAt, tableAfter, tailAt};
 ghost use Rattle.groups.specs.Number.{refusalIn};
 ghost use Rattle.notice.specs.Addresses.{addressesAt, addressesEnd, rising, withBit, withBits};
+ghost use Rattle.notice.specs.Notice.{dimensionAt, noticed, restAt, tableAfter, tailAt};
 ghost use lib.ListN.{drop, length, replicate};
 ghost use mathlib.Core.Bool.{true};
 ghost use mathlib.Core.Path.{_≡_};

@@ -10,7 +10,7 @@ use Rattle.groups.specs.declared.Number.the-variants as number
 use Rattle.groups.specs.declared.Number.the-variants.{Value}
 use Rattle.groups.proofs.HandedOn.{handed-on}
 use Rattle.notice.specs.Addresses.{addressesEnd, addressesAt}
-use Rattle.notice.specs.Notice.{dimensionAt, noticeOf, noticed}
+use Rattle.notice.specs.Notice.{dimensionAt, noticeOf}
 use Rattle.notice.specs.declared.Noticed.the-variants.{Notice}
 use Rattle.notice.proofs.Addresses.{first-address}
 use Rattle.notice.proofs.Agree.{same-accepted}

@@ -11,7 +11,8 @@ use base.Logic.{ent, ex, guard}
 use base.Fml.{Lft, Share, GName, Fml, ftrue, fsep, flft, fdead, fat, flent, fres}
 use prog.Wp.{Heap}
 use ghost.Atoms.{Atoms, sem}
-use types.Kit.{Given, Item, ‵, raw, given, some, later, _⊛_, ⋆, mean, _$_, _∵_, !, qed, move, drop, use1, use2, use3, split, join, pick, learn, fsplit, fjoin, fpick, fpack, await, updating, now, show, check, done}
+use types.Kit.{Given, Item, ‵, raw, given, some, later, _⊛_, ⋆, mean, _$_, _∵_, !, qed, move, drop, use1, use2, use3, split, join}
+use types.Kit.{pick, learn, fsplit, fjoin, fpick, fpack, await, updating, now, show, check, done}
 use types.Tokens.{lft-new}
 use types.SemTy.{Body}
 use borrow.Within.Token.{Rest, within-token, within-end}
@@ -27,7 +28,7 @@ use denote.Struct.Laws as LL
 use denote.Struct.Steps.{spelt}
 use Rattle.reader.specs.declared.Reader.{Reader}
 use Rattle.reader.proofs.Reader.Laws as T′
-use Rattle.reader.proofs.Owned.{row, type-of, laws-of, stands, slice-of, Bytes, Own, reader-of}
+use Rattle.reader.proofs.Owned.{reader-type, type-of, laws-of, stands, slice-of, Bytes, Own, reader-of}
 
 -- the cell of the reader, in the local l
 abbrev pub cell : RefT (List ℕ) → ℕ → ℕ → Fml
@@ -35,7 +36,7 @@ cell s l p = fat fullShare (T′.mir erased) l 0 (T′.lowered (stands s p))
 
 module _ {M : Type 1} (𝓤 : URA M) (H : Heap 𝓤) (A : Atoms 𝓤) (W : Given 𝓤 H A) (κ : Lft) (q : Share) (s : RefT (List ℕ)) where
   abbrev R : RattleType
-  R = row κ
+  R = reader-type κ
 
   abbrev h : ℕ → Reader
   h p = stands s p
@@ -56,6 +57,10 @@ module _ {M : Type 1} (𝓤 : URA M) (H : Heap 𝓤) (A : Atoms 𝓤) (W : Given
 
   abbrev pub kept : (l ν : ℕ) → GName → Item 𝓤
   kept l ν γ = raw (Rest 𝓤 H A W ν (PosShare·left q)) ⊛ ‵ (flent (ν ∷ κ) (Body (mem R) l 0 γ)) ⊛ ‵ (Bytes κ s)
+
+  -- the half of 'a's token that is met with ν's
+  abbrev half : Share
+  half = PosShare·left q
 
   -- a reader in its local is a reader in memory, and back, where its place is a usize
   lies : (l p : ℕ) → ent 𝓤 (⋆ 𝓤 H A (‵ (cell s l p) ∷ ‵ (Own κ (h p)) ∷ [])) (sem 𝓤 H A (partAt R fullShare (h p) l 0))
@@ -78,32 +83,38 @@ module _ {M : Type 1} (𝓤 : URA M) (H : Heap 𝓤) (A : Atoms 𝓤) (W : Given
   abbrev pub Lent : (l p ν : ℕ) → GName → Item 𝓤
   Lent l p ν γ = tokens ν ⊛ ‵ (reference l p ν γ) ⊛ kept l ν γ
 
-  pub loan : (l p : ℕ) → p < 2 ^ 64 → ent 𝓤 (⋆ 𝓤 H A (token ∷ ‵ (Bytes κ s) ∷ ‵ (cell s l p) ∷ [])) (H .⇛ (ex 𝓤 (λ (ν : ℕ). ex 𝓤 (λ (γ : GName). mean 𝓤 H A (Lent l p ν γ)))))
+  pub loan : (l p : ℕ) → p < 2 ^ 64 → ent 𝓤 (⋆ 𝓤 H A (token ∷ ‵ (Bytes κ s) ∷ ‵ (cell s l p) ∷ []))
+      (H .⇛ (ex 𝓤 (λ (ν : ℕ). ex 𝓤 (λ (γ : GName). mean 𝓤 H A (Lent l p ν γ)))))
   loan l p fits =
       qed W (token ∷ ‵ (Bytes κ s) ∷ ‵ (cell s l p) ∷ []) ∵ updating ! $
-      split ! $ use1 W (‵ (flft κ (PosShare·left q)) ⊛ ‵ (flft κ (PosShare·right q))) (W .lfts .lft-split κ q) $ split ! $ move ! (1 ∷ 2 ∷ []) $ join ! $
+      split ! $ use1 W (‵ (flft κ half) ⊛ ‵ (flft κ (PosShare·right q))) (W .lfts .lft-split κ q) $ split ! $ move ! (1 ∷ 2 ∷ []) $ join ! $
       -- [the other half of the token; the half; what bytes owns; the cell]
       move ! (2 ∷ []) $ use1 W (‵ (Bytes κ s) ⊛ ‵ (Bytes κ s)) (shr-slice-copy 𝓤 H A W (named 0) κ u8 .twice s (slice-of s ∷ [])) $ split ! $
       use1 W (‵ (Own κ (h p))) (reader-of 𝓤 H A W κ s p fits) $ move ! (4 ∷ 0 ∷ []) $ use2 W (‵ (partAt R fullShare (h p) l 0)) (lies l p) $
       -- [the reader in memory; what bytes owns; the other half; the half]
       lft-new ! tt (λ ν. move ! (1 ∷ []) $
-      use1 W (later (some (λ (γ : GName). ‵ (reference l p ν γ) ⊛ ‵ (flent (ν ∷ κ) (Body (mem R) l 0 γ))))) (lends-ref 𝓤 H A W R (named 0) (ν ∷ κ) (h p) l 0) $ await ! tt $ pick ! (λ γ. split ! $
+      use1 W (later (some (λ (γ : GName). ‵ (reference l p ν γ) ⊛ ‵ (flent (ν ∷ κ) (Body (mem R) l 0 γ)))))
+      (lends-ref 𝓤 H A W R (named 0) (ν ∷ κ) (h p) l 0) $ await ! tt $ pick ! (λ γ. split ! $
       -- [the reference; the lender's part; ν's token; what bytes owns; the other half; the half]
-      move ! (2 ∷ 5 ∷ []) $ use2 W (‵ (flft (ν ∷ κ) (PosShare·left q)) ⊛ raw (Rest 𝓤 H A W ν (PosShare·left q))) (within-token 𝓤 H A W ν κ (PosShare·left q)) $ split ! $
+      move ! (2 ∷ 5 ∷ []) $
+      use2 W (‵ (flft (ν ∷ κ) half) ⊛ raw (Rest 𝓤 H A W ν half)) (within-token 𝓤 H A W ν κ half) $ split ! $
       move ! (0 ∷ 5 ∷ []) $ join ! $ move ! (0 ∷ 2 ∷ 1 ∷ []) $
-      now ! $ show ! (λ (ν′ : ℕ). ex 𝓤 (λ (γ′ : GName). mean 𝓤 H A (Lent l p ν′ γ′))) ν $ show ! (λ (γ′ : GName). mean 𝓤 H A (Lent l p ν γ′)) γ $ done !))
+      now ! $ show ! (λ (ν′ : ℕ). ex 𝓤 (λ (γ′ : GName). mean 𝓤 H A (Lent l p ν′ γ′))) ν $
+      show ! (λ (γ′ : GName). mean 𝓤 H A (Lent l p ν γ′)) γ $ done !))
 
   -- ---- its end: the reader is back at its last place p
   abbrev pub Back : (l p : ℕ) → Item 𝓤
   Back l p = given (p < 2 ^ 64) (‵ (cell s l p) ⊛ token ⊛ ‵ (Bytes κ s))
 
-  pub back : (l p ν : ℕ) (γ : GName) → ent 𝓤 (⋆ 𝓤 H A (tokens ν ∷ kept l ν γ ∷ ‵ (fres γ (R .coded .code (h p))) ∷ [])) (H .⇛ (mean 𝓤 H A (Back l p)))
+  pub back : (l p ν : ℕ) (γ : GName)
+      → ent 𝓤 (⋆ 𝓤 H A (tokens ν ∷ kept l ν γ ∷ ‵ (fres γ (R .coded .code (h p))) ∷ [])) (H .⇛ (mean 𝓤 H A (Back l p)))
   back l p ν γ =
       qed W (tokens ν ∷ kept l ν γ ∷ ‵ (fres γ (R .coded .code (h p))) ∷ []) ∵ updating ! $
       split ! $ move ! (2 ∷ []) $ split ! $ move ! (2 ∷ 0 ∷ []) $
       -- [the loan's token; the way back; the lender's part and what bytes owns; the other half; the reader's last value]
-      use2 W (later (‵ (fdead (ν ∷ κ)) ⊛ ‵ (flft κ (PosShare·left q)))) (within-end 𝓤 H A W ν κ (PosShare·left q)) $ await ! tt $ split ! $
-      move ! (2 ∷ []) $ split ! $ move ! (2 ∷ 0 ∷ 5 ∷ []) $ use3 W (later (‵ (partAt R fullShare (h p) l 0))) (ref-back 𝓤 H A W R (ν ∷ κ) γ (h p) l 0) $ await ! tt $
+      use2 W (later (‵ (fdead (ν ∷ κ)) ⊛ ‵ (flft κ half))) (within-end 𝓤 H A W ν κ half) $ await ! tt $ split ! $
+      move ! (2 ∷ []) $ split ! $ move ! (2 ∷ 0 ∷ 5 ∷ []) $
+      use3 W (later (‵ (partAt R fullShare (h p) l 0))) (ref-back 𝓤 H A W R (ν ∷ κ) γ (h p) l 0) $ await ! tt $
       use1 W (given (p < 2 ^ 64) (‵ (cell s l p))) (home l p) $ learn ! (λ fits.
       -- [the cell; what bytes owns; the half; the other half]
       move ! (3 ∷ []) $ split ! $ move ! (4 ∷ 0 ∷ []) $ use2 W (‵ (flft κ q)) (W .lfts .lft-join κ q) $ join ! $

@@ -1,4 +1,5 @@
 pub mod Owned
 pub mod Lent
 pub mod Facts
+pub mod Callees
 pub mod Laws
