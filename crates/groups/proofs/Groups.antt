@@ -1,6 +1,6 @@
 -- What a number can be: each is one of the outcomes of `numberAt`, so what holds of those holds of every number. A value of two groups is below
 -- 128 * 128, since each group has seven bits, and at least 128, since the second is not zero.
-use mathlib.Core.Path.{_≡_, refl, sym}
+use mathlib.Core.Path.{_≡_, refl, sym, _∙_}
 use mathlib.Core.Logic.{_⊎_, inl, inr}
 use mathlib.Core.Bool.{Bool, true, false, cond, _||_}
 use mathlib.Core.List.{List}
@@ -62,8 +62,18 @@ refused-number s at k =
     cases s at (λ x. x ≡ Refused k → (k ≡ 9) ⊎ (k ≡ 10)) (λ e. let p : k ≡ 9 = cc in inl p) (λ e. let p : k ≡ 10 = cc in inr p)
     (λ v next r e. absurd (no-value (sym e)))
 
--- with a first group that has its high bit set, and a byte behind it, there are two groups
-pub both-groups : (s : List ℕ) (at : ℕ) → at + 1 < length s → 128 ≤ getD s at 0
-    → numberAt s at ≡ twoGroups (getD s at 0) (getD s (at + 1) 0) (at + 2)
-unfolding numberAt
-both-groups s at h l = rw (lt-leb (length s) at (omega arith), le-ltb (getD s at 0) 128 l, lt-leb (length s) (at + 1) h)
+-- ---- a first group that has its high bit set, and a byte behind it: there are two groups, and the second decides
+
+module _ (s : List ℕ) (at : ℕ) (more : at + 1 < length s) (first : 128 ≤ getD s at 0) where
+  both : numberAt s at ≡ twoGroups (getD s at 0) (getD s (at + 1) 0) (at + 2)
+  unfolding numberAt
+  both = rw (lt-leb (length s) at (omega arith), le-ltb (getD s at 0) 128 first, lt-leb (length s) (at + 1) more)
+
+  pub second-refused : (eqb (getD s (at + 1) 0) 0 || leb 128 (getD s (at + 1) 0)) ≡ true → Refused 10 ≡ numberAt s at
+  unfolding twoGroups
+  second-refused e = sym (both ∙ rw e)
+
+  pub second-value : (eqb (getD s (at + 1) 0) 0 || leb 128 (getD s (at + 1) 0)) ≡ false
+      → Value (getD s at 0 % 128 + getD s (at + 1) 0 * 128) (at + 2) ≡ numberAt s at
+  unfolding twoGroups
+  second-value e = sym (both ∙ rw e)

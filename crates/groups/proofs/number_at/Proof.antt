@@ -1,12 +1,11 @@
--- `number_at` makes the tests of `numberAt` in its order: each return rewrites with the tests that led there. A group is a byte, so the value of two
+-- `number_at` makes the tests of `numberAt` in its order: each return is what the tests that led there make of it. A group is a byte, so the value of two
 -- groups does not wrap.
-use mathlib.Core.Path.{sym, _∙_}
 use Prim.Native.Nat.{ℕ, _+_}
 use native.Mathlib.Omega.{arith}
 use borrow.Author.Needs.{needs}
 use borrow.Author.Tests.{le-leb, lt-leb, lt-ltb, le-ltb}
-use Rattle.groups.specs.Number.{numberAt, twoGroups}
-use Rattle.groups.proofs.Groups.{both-groups}
+use Rattle.groups.specs.Number.{numberAt}
+use Rattle.groups.proofs.Groups.{second-refused, second-value}
 use Rattle.groups.proofs.number_at.Statement.{statement}
 use Rattle.groups.proofs.number_at.Tie as tie
 
@@ -43,8 +42,7 @@ cast-high : tie.Need-cast-high
 cast-high c = omega (arith, c .shared-slice-known2 .given (second c))
 
 returns-4 : tie.Need-returns-4
-unfolding twoGroups
-returns-4 c = sym (both-groups _ _ (c .before .before .if3 .left) (c .before .before .before .if2 .left) ∙ rw (c .if4 .taken))
+returns-4 c = second-refused _ _ (c .before .before .if3 .left) (c .before .before .before .if2 .left) (c .if4 .taken)
 
 mul-t13 : tie.Need-mul-t13
 mul-t13 c = omega (arith, c .before .shared-slice-known2 .given (second (c .before)))
@@ -56,8 +54,7 @@ add-t15 : tie.Need-add-t15
 add-t15 c = search needs
 
 returns-5 : tie.Need-returns-5
-unfolding twoGroups
-returns-5 c = sym (both-groups _ _ (c .before .before .if3 .left) (c .before .before .before .if2 .left) ∙ rw (c .if4 .left))
+returns-5 c = second-value _ _ (c .before .before .if3 .left) (c .before .before .before .if2 .left) (c .if4 .left)
 
 pub number-at-spec : {M : Type 1} → statement M
 number-at-spec =

@@ -1,23 +1,27 @@
 -- `read` makes the tests of a notice in document 01's order, and writes only behind the last of them. Each return is one outcome of the notice.
-use mathlib.Core.Path.{sym, _∙_}
+use mathlib.Core.Path.{_≡_, sym, _∙_}
 use mathlib.Core.List.{List}
 use Prim.Native.Nat.{ℕ}
 use native.Mathlib.Omega.{arith}
 use borrow.Author.Needs.{needs}
+use lib.ListN.{length}
+use Rattle.cube.specs.Tables.{tableLen}
 use Rattle.notice.proofs.Outcomes.{small, rest-read, outcome-number, outcome-length, outcome-rest, outcome-room, outcome-notice}
 use Rattle.notice.proofs.read.Statement.{statement}
 use Rattle.notice.proofs.read.Tie as tie
 
--- where the dimension was taken apart, and the table as it was lent; where its length was found right; where the rest was taken apart
+-- where the dimension was taken apart, and the table as it was lent
 abbrev first : tie.After-table-len → tie.After-first
 first c = c .before .before
 
 abbrev lent : tie.After-first → List ℕ
 lent c = c .before .before .before .before .before .args .faults .now
 
-abbrev fits : tie.After-check-rest → tie.Else1
-fits c = c .before
+-- past the second test the table has its length
+sized : (c : tie.Else1) → length (lent (first (c .before))) ≡ tableLen (first (c .before) .first .given .0 .0)
+sized c = c .if1 .left ∙ c .before .table-len .ensures
 
+-- where the rest was taken apart
 abbrev found : tie.After-slice-known2 → tie.After-found2
 found c = c .before .before .before .before .before
 
@@ -59,7 +63,7 @@ clear-requires c κs = search needs
 sub-write-addresses : tie.Need-sub-write-addresses
 sub-write-addresses c =
     let r = found c .before .before in
-    let d = first (fits r .before) in
+    let d = first (r .before .before) in
     rest-read _ (d .before .before .dimension .ensures) (d .first .given .1) (r .check-rest .ensures) (found c .found2 .given .1) .begins
 
 part-write-addresses-start : tie.Need-part-write-addresses-start
@@ -72,16 +76,16 @@ write-addresses-requires : tie.Need-write-addresses-requires
 write-addresses-requires c κs =
     let k = c .before .before in
     let r = found k .before .before in
-    let d = first (fits r .before) in
+    let d = first (r .before .before) in
     outcome-room _ (d .before .before .dimension .ensures) (d .first .given .1) (r .check-rest .ensures) (found k .found2 .given .1)
-    (lent d) (fits r .if1 .left ∙ fits r .before .table-len .ensures) (k .before .before .clear .ensures)
+    (lent d) (sized (r .before)) (k .before .before .clear .ensures)
 
 returns-3 : tie.Need-returns-3
 returns-3 c =
     let r = c .before .before .before in
-    let d = first (fits r .before) in
+    let d = first (r .before .before) in
     outcome-rest _ (d .before .before .dimension .ensures) (d .first .given .1) (r .check-rest .ensures)
-    _ (fits r .if1 .left ∙ fits r .before .table-len .ensures) (c .before .found .given .1)
+    _ (sized (r .before)) (c .before .found .given .1)
 
 same-length : tie.Need-same-length
 same-length c = search needs
@@ -91,9 +95,9 @@ returns-4 c =
     let w = c .before .before in
     let k = w .before .before .before in
     let r = found k .before .before in
-    let d = first (fits r .before) in
+    let d = first (r .before .before) in
     outcome-notice _ (d .before .before .dimension .ensures) (d .first .given .1) (r .check-rest .ensures) (found k .found2 .given .1)
-    _ (fits r .if1 .left ∙ fits r .before .table-len .ensures) (k .before .before .clear .ensures) (w .write-addresses .ensures)
+    _ (sized (r .before)) (k .before .before .clear .ensures) (w .write-addresses .ensures)
 
 pub read-spec : {M : Type 1} → statement M
 read-spec =
