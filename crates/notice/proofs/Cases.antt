@@ -1,6 +1,6 @@
 -- An answer taken apart: what holds of each outcome holds of the answer. A number with the tests of its value has three: its own refusal stays, the
 -- first test that holds refuses it, or no test holds and it is the number itself.
-use mathlib.Core.Path.{_≡_, refl, sym, _∙_}
+use mathlib.Core.Path.{_≡_, refl, sym, ap, _∙_}
 use mathlib.Core.Bool.{false}
 use mathlib.Core.List.{List}
 use Prim.Native.Nat.{ℕ}
@@ -9,7 +9,7 @@ use lib.Dec.{eqb}
 use borrow.Author.Tests.{eqb-true}
 use Rattle.cube.specs.Refusal.{Test, first}
 use Rattle.cube.proofs.Bools.{by-cases}
-use Rattle.groups.specs.Number.{onNumber}
+use Rattle.groups.specs.Number.{onNumber, refusalIn}
 use Rattle.groups.specs.declared.Number.{Number}
 use Rattle.groups.specs.declared.Number.the-variants as number
 use Rattle.groups.proofs.Groups.{no-value}
@@ -51,17 +51,20 @@ module _ (tests : ℕ → List Test) where
       on-tested (λ y. y ≡ number.Value v next → (x ≡ number.Value v next) × (first (tests v) ≡ 0)) x (λ k _ e. absurd (no-value e))
       (λ _ _ _ _ e. absurd (no-value e)) (λ w after e z f. let p : w ≡ v = cc in (e ∙ f, rw p at z))
 
-  -- as the code comes to it: x is what it holds, of the number y
-  module _ {x y : Number} (here : x ≡ y) where
-    pub tested-refused : {k : ℕ} → x ≡ number.Refused k → number.Refused k ≡ tested tests y
+  -- the three outcomes, of the number y
+  module _ {y : Number} where
+    pub tested-refused : {k : ℕ} → number.Refused k ≡ y → number.Refused k ≡ tested tests y
     unfolding tested
-    tested-refused e = let f = sym here ∙ e in rw f
+    tested-refused e = rw (sym e)
 
-    module _ {v next : ℕ} (e : x ≡ number.Value v next) where
-      pub tested-fails : {k : ℕ} → first (tests v) ≡ k → eqb k 0 ≡ false → number.Refused k ≡ tested tests y
-      unfolding tested
-      tested-fails h z = let f = sym here ∙ e in rw f (rw (h, z))
+    pub tested-fails : {v next k : ℕ} → number.Value v next ≡ y → first (tests v) ≡ k → eqb k 0 ≡ false → number.Refused k ≡ tested tests y
+    unfolding tested
+    tested-fails e h z = rw (sym e) (rw (h, z))
 
-      pub tested-passes : first (tests v) ≡ 0 → number.Value v next ≡ tested tests y
-      unfolding tested
-      tested-passes h = let f = sym here ∙ e in rw f (rw h)
+    pub tested-passes : {v next : ℕ} → number.Value v next ≡ y → first (tests v) ≡ 0 → number.Value v next ≡ tested tests y
+    unfolding tested
+    tested-passes e h = rw (sym e) (rw h)
+
+-- as the code comes to a refusal: x is the answer that it holds, of y, and r what `refusal` said of x
+pub refused-is : {x y : Number} {k r : ℕ} → x ≡ y → x ≡ number.Refused k → r ≡ refusalIn x → number.Refused r ≡ y
+refused-is here e f = ap number.Refused (f ∙ ap refusalIn e) ∙ sym e ∙ here

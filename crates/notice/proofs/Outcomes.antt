@@ -15,14 +15,13 @@ use Rattle.cube.specs.Refusal.{first}
 use Rattle.cube.specs.Tables.{tableLen}
 use Rattle.cube.proofs.Bools.{either}
 use Rattle.cube.proofs.Tables.{len-small, table-full, table-room}
-use Rattle.groups.specs.Number.{numberAt, refusalIn}
+use Rattle.groups.specs.Number.{numberAt}
 use Rattle.groups.specs.declared.Number.{Number}
 use Rattle.groups.specs.declared.Number.the-variants as number
 use Rattle.groups.proofs.Groups.{read-number}
 use Rattle.notice.specs.Tests.{tested, lengthTests, countTests}
 use Rattle.notice.specs.Addresses.{addressesEnd, addressesAt, rising, withBits}
 use Rattle.notice.specs.Notice.{dimensionAt, restAt, noticeFrom, noticeOf, noticed, addressesOf, tableAfter, tailAt}
-use Rattle.notice.specs.declared.Rest.{Rest}
 use Rattle.notice.specs.declared.Rest.the-variants as rest
 use Rattle.notice.specs.declared.Noticed.{Noticed}
 use Rattle.notice.specs.declared.Noticed.the-variants.{Notice, Refused}
@@ -35,57 +34,60 @@ use Rattle.notice.proofs.Opened.{ReadRest, opened-dimension, opened-res
 part-drop : (s : List ℕ) (k : ℕ) → take (length s - k) (drop k s) ≡ drop k s
 part-drop s k = take-all (length s - k) (drop k s) (omega (arith, length-drop k s))
 
--- ---- what follows the dimension, where x is the number at its place, and y what the address reader answers on the bytes behind it
+-- ---- what follows the dimension: the count's refusals, and then those of the addresses, on the bytes behind it
 
-module _ (n : ℕ) (s : List ℕ) (at : ℕ) {x : Number} (here : x ≡ numberAt s at) where
+module _ (n : ℕ) (s : List ℕ) (at : ℕ) where
   count-refused : {k : ℕ} → number.Refused k ≡ tested (countTests n) (numberAt s at) → rest.Refused k ≡ restAt n s at
   unfolding restAt
   count-refused e = rw (sym e)
 
-  pub rest-refused : {k r : ℕ} → x ≡ number.Refused k → r ≡ refusalIn x → rest.Refused r ≡ restAt n s at
-  rest-refused e f = ap rest.Refused (f ∙ ap refusalIn e) ∙ count-refused (tested-refused (countTests n) here e)
+  pub rest-refused : {k : ℕ} → number.Refused k ≡ numberAt s at → rest.Refused k ≡ restAt n s at
+  rest-refused e = count-refused (tested-refused (countTests n) e)
 
-  module _ {m start size : ℕ} (e : x ≡ number.Value m start) (full : size ≡ 2 ^ n) where
+  module _ {m start size : ℕ} (e : number.Value m start ≡ numberAt s at) (full : size ≡ 2 ^ n) where
     pub rest-many : size < m → rest.Refused 11 ≡ restAt n s at
     unfolding first
-    rest-many h = count-refused (tested-fails (countTests n) here e (rw (lt-ltb (2 ^ n) m (omega arith))) refl)
+    rest-many h = count-refused (tested-fails (countTests n) e (rw (lt-ltb (2 ^ n) m (omega arith))) refl)
 
-    module _ (few : m ≤ size) {y : Number} (answer : y ≡ addressesEnd m (take (length s - start) (drop start s)) 0 0 size) where
+    module _ (few : m ≤ size) where
       counted : number.Value m start ≡ tested (countTests n) (numberAt s at)
       unfolding first
-      counted = tested-passes (countTests n) here e (rw (le-ltb (2 ^ n) m (omega arith)))
+      counted = tested-passes (countTests n) e (rw (le-ltb (2 ^ n) m (omega arith)))
 
-      ended : addressesEnd m (drop start s) 0 0 (2 ^ n) ≡ y
-      ended = sym (answer ∙ rw (part-drop s start, full))
+      -- the addresses, as the address reader is handed them
+      handed-end : addressesEnd m (take (length s - start) (drop start s)) 0 0 size ≡ addressesEnd m (drop start s) 0 0 (2 ^ n)
+      handed-end = rw (part-drop s start, full)
 
-      pub rest-bad : {k r : ℕ} → y ≡ number.Refused k → r ≡ refusalIn y → rest.Refused r ≡ restAt n s at
+      pub rest-bad : {k : ℕ} → number.Refused k ≡ addressesEnd m (take (length s - start) (drop start s)) 0 0 size
+          → rest.Refused k ≡ restAt n s at
       unfolding restAt
-      rest-bad f g = let h = ended ∙ f in ap rest.Refused (g ∙ ap refusalIn f) ∙ rw (sym counted) (rw h)
+      rest-bad f = rw (sym counted) (rw (sym (f ∙ handed-end)))
 
-      pub rest-good : {base taken : ℕ} → y ≡ number.Value base taken → rest.Addresses m start (start + taken) ≡ restAt n s at
-      unfolding restAt
-      rest-good f = let h = ended ∙ f in rw (sym counted) (rw h)
+      module _ {base taken : ℕ} (f : number.Value base taken ≡ addressesEnd m (take (length s - start) (drop start s)) 0 0 size) where
+        pub rest-good : rest.Addresses m start (start + taken) ≡ restAt n s at
+        unfolding restAt
+        rest-good = rw (sym counted) (rw (sym (f ∙ handed-end)))
 
-      pub rest-fits : {base taken : ℕ} → y ≡ number.Value base taken → start + taken ≤ length s
-      rest-fits f =
-          let a = read-addresses m (drop start s) 0 0 (2 ^ n) _ _ (ended ∙ f) in
-          omega (arith, length-drop start s, read-number s at m start (sym here ∙ e) .within, a .within (omega arith))
+        pub rest-fits : start + taken ≤ length s
+        rest-fits =
+            let a = read-addresses m (drop start s) 0 0 (2 ^ n) _ _ (sym (f ∙ handed-end)) in
+            omega (arith, length-drop start s, read-number s at m start (sym e) .within, a .within (omega arith))
 
--- ---- the whole notice, where d is the dimension as the question reads it, and y what follows it
+-- ---- the whole notice, where d is the dimension as the question reads it
 
 module _ (s : List ℕ) {d : Number} where
   pub notice-refused : {k : ℕ} → number.Refused k ≡ d → Refused k ≡ noticeFrom d s
   unfolding noticeFrom
   notice-refused e = rw (sym e)
 
-  module _ {n at : ℕ} (e : number.Value n at ≡ d) {y : Rest} (answer : y ≡ restAt n s at) where
-    pub notice-bad : {k : ℕ} → y ≡ rest.Refused k → Refused k ≡ noticeFrom d s
+  module _ {n at : ℕ} (e : number.Value n at ≡ d) where
+    pub notice-bad : {k : ℕ} → rest.Refused k ≡ restAt n s at → Refused k ≡ noticeFrom d s
     unfolding noticeFrom
-    notice-bad f = let h = sym answer ∙ f in rw (sym e) (rw h)
+    notice-bad f = rw (sym e) (rw (sym f))
 
-    pub notice-good : {m start end : ℕ} → y ≡ rest.Addresses m start end → Notice n m end ≡ noticeFrom d s
+    pub notice-good : {m start end : ℕ} → rest.Addresses m start end ≡ restAt n s at → Notice n m end ≡ noticeFrom d s
     unfolding noticeFrom
-    notice-good f = let h = sym answer ∙ f in rw (sym e) (rw h)
+    notice-good f = rw (sym e) (rw (sym f))
 
 -- ---- the tail
 
@@ -122,55 +124,50 @@ outcome-refused : (s t : List ℕ) {k : ℕ} → Refused k ≡ noticed s t → O
 unfolding tableAfter
 outcome-refused s t e = (e, rw (sym e))
 
-module _ (s : List ℕ) {x : Number} (here : x ≡ dimensionAt s) where
-  pub outcome-number : (t : List ℕ) {k r : ℕ} → x ≡ number.Refused k → r ≡ refusalIn x → Outcome s t (Refused r) t
+module _ (s : List ℕ) where
+  pub outcome-number : (t : List ℕ) {k : ℕ} → number.Refused k ≡ dimensionAt s → Outcome s t (Refused k) t
   unfolding noticed
-  outcome-number t e f =
-      outcome-refused s t (ap Refused (f ∙ ap refusalIn e) ∙ notice-refused s (tested-refused (lengthTests t) here e))
+  outcome-number t e = outcome-refused s t (notice-refused s (tested-refused (lengthTests t) e))
 
-  module _ {n at : ℕ} (e : x ≡ number.Value n at) where
+  module _ {n at : ℕ} (e : number.Value n at ≡ dimensionAt s) where
     pub small : n ≤ 12
-    small = opened-dimension s n at (sym here ∙ e) .good .1
+    small = opened-dimension s n at (sym e) .good .1
 
     pub outcome-length : (t : List ℕ) → (length t ≡ tableLen n → ⊥) → Outcome s t (Refused 2) t
     unfolding noticed first
-    outcome-length t h =
-        outcome-refused s t (notice-refused s (tested-fails (lengthTests t) here e (rw (ne-eqb (length t) (tableLen n) h)) refl))
+    outcome-length t h = outcome-refused s t (notice-refused s (tested-fails (lengthTests t) e (rw (ne-eqb (length t) (tableLen n) h)) refl))
 
-    module _ {y : Rest} (answer : y ≡ restAt n s at) where
-      sized-value : (t : List ℕ) → length t ≡ tableLen n → number.Value n at ≡ tested (lengthTests t) (dimensionAt s)
-      unfolding first
-      sized-value t sized = tested-passes (lengthTests t) here e (rw (eq-eqb (length t) (tableLen n) sized))
+    sized-value : (t : List ℕ) → length t ≡ tableLen n → number.Value n at ≡ tested (lengthTests t) (dimensionAt s)
+    unfolding first
+    sized-value t sized = tested-passes (lengthTests t) e (rw (eq-eqb (length t) (tableLen n) sized))
 
-      pub outcome-rest : (t : List ℕ) → length t ≡ tableLen n → {k : ℕ} → y ≡ rest.Refused k → Outcome s t (Refused k) t
-      unfolding noticed
-      outcome-rest t sized f = outcome-refused s t (notice-bad s (sized-value t sized) answer f)
+    pub outcome-rest : (t : List ℕ) → length t ≡ tableLen n → {k : ℕ} → rest.Refused k ≡ restAt n s at → Outcome s t (Refused k) t
+    unfolding noticed
+    outcome-rest t sized f = outcome-refused s t (notice-bad s (sized-value t sized) f)
 
-      module _ {m start end : ℕ} (f : y ≡ rest.Addresses m start end) where
-        pub rest-read : ReadRest n s at m start end
-        rest-read = read-rest n s at m start end (opened-rest n s at m start end (sym answer ∙ f))
+    module _ {m start end : ℕ} (f : rest.Addresses m start end ≡ restAt n s at) where
+      pub rest-read : ReadRest n s at m start end
+      rest-read = read-rest n s at m start end (opened-rest n s at m start end (sym f))
 
-        -- the addresses, as the writing pass is handed them
-        handed : addressesAt m (take (length s - start) (drop start s)) 0 0 ≡ addressesOf s
-        handed =
-            ap (λ (l : List ℕ). addressesAt m l 0 0) (part-drop s start)
-            ∙ sym (addresses-are n s at m start end (sym here ∙ e) (sym answer ∙ f))
+      -- the addresses, as the writing pass is handed them
+      handed : addressesAt m (take (length s - start) (drop start s)) 0 0 ≡ addressesOf s
+      handed = ap (λ (l : List ℕ). addressesAt m l 0 0) (part-drop s start) ∙ sym (addresses-are n s at m start end (sym e) (sym f))
 
-        module _ (t : List ℕ) (sized : length t ≡ tableLen n) {zeros : List ℕ} (clear : zeros ≡ replicate (length t) 0) where
-          cleared : length zeros ≡ tableLen n
-          cleared = ap length clear ∙ length-replicate (length t) 0 ∙ sized
+      module _ (t : List ℕ) (sized : length t ≡ tableLen n) {zeros : List ℕ} (clear : zeros ≡ replicate (length t) 0) where
+        cleared : length zeros ≡ tableLen n
+        cleared = ap length clear ∙ length-replicate (length t) 0 ∙ sized
 
-          pub outcome-room : (length zeros ≤ 512)
-              × (rising 0 (8 * length zeros) (addressesAt m (take (length s - start) (drop start s)) 0 0) ≡ true)
-          outcome-room = (
-            omega (arith, cleared, table-small n small),
-            rw (part-drop s start)
-                (rising-wider 0 (2 ^ n) (8 * length zeros) (addressesAt m (drop start s) 0 0) (omega (arith, cleared, table-room n)) (rest-read .rises)),
-          )
+        pub outcome-room : (length zeros ≤ 512)
+            × (rising 0 (8 * length zeros) (addressesAt m (take (length s - start) (drop start s)) 0 0) ≡ true)
+        outcome-room = (
+          omega (arith, cleared, table-small n small),
+          rw (part-drop s start)
+              (rising-wider 0 (2 ^ n) (8 * length zeros) (addressesAt m (drop start s) 0 0) (omega (arith, cleared, table-room n)) (rest-read .rises)),
+        )
 
-          pub outcome-notice : {after : List ℕ} → after ≡ withBits zeros (addressesAt m (take (length s - start) (drop start s)) 0 0)
-              → Outcome s t (Notice n m end) after
-          unfolding noticed tableAfter
-          outcome-notice w =
-              let good : Notice n m end ≡ noticed s t = notice-good s (sized-value t sized) answer f in
-              (good, w ∙ ap₂ withBits clear handed ∙ rw (sym good))
+        pub outcome-notice : {after : List ℕ} → after ≡ withBits zeros (addressesAt m (take (length s - start) (drop start s)) 0 0)
+            → Outcome s t (Notice n m end) after
+        unfolding noticed tableAfter
+        outcome-notice w =
+            let good : Notice n m end ≡ noticed s t = notice-good s (sized-value t sized) f in
+            (good, w ∙ ap₂ withBits clear handed ∙ rw (sym good))

@@ -9,9 +9,7 @@ use lib.ListN.{length, length-set}
 use borrow.Author.Tests.{le-leb, lt-leb}
 use Rattle.cube.specs.Refusal.{first}
 use Rattle.groups.specs.Number.{numberAt}
-use Rattle.groups.specs.declared.Number.{Number}
 use Rattle.groups.specs.declared.Number.the-variants.{Value, Refused}
-use Rattle.groups.proofs.Groups.{read-number}
 use Rattle.notice.specs.Tests.{tested, addressTests}
 use Rattle.notice.specs.Addresses.{addressesEnd, addressesAt, rising, withBit, withBits}
 use Rattle.notice.proofs.Cases.{tested-refused, tested-fails, tested-passes}
@@ -36,13 +34,13 @@ module _ (left : ℕ) (s : List ℕ) (at base : ℕ) (more : 0 < left) where
   unfolding addressesEnd
   end-value size e = ap (λ (j : ℕ). addressesEnd j s at base size) next-left ∙ rw (sym e)
 
-  at-refused : {k : ℕ} → numberAt s at ≡ Refused k → addressesAt left s at base ≡ []
+  at-refused : {k : ℕ} → Refused k ≡ numberAt s at → addressesAt left s at base ≡ []
   unfolding addressesAt
-  at-refused e = ap (λ (j : ℕ). addressesAt j s at base) next-left ∙ rw e
+  at-refused e = ap (λ (j : ℕ). addressesAt j s at base) next-left ∙ rw (sym e)
 
-  at-value : {v next : ℕ} → numberAt s at ≡ Value v next → addressesAt left s at base ≡ (base + v) ∷ addressesAt (left - 1) s next (base + v + 1)
+  at-value : {v next : ℕ} → Value v next ≡ numberAt s at → addressesAt left s at base ≡ (base + v) ∷ addressesAt (left - 1) s next (base + v + 1)
   unfolding addressesAt
-  at-value e = ap (λ (j : ℕ). addressesAt j s at base) next-left ∙ rw e
+  at-value e = ap (λ (j : ℕ). addressesAt j s at base) next-left ∙ rw (sym e)
 
 -- ---- the checking pass
 
@@ -55,23 +53,20 @@ module _ {m : ℕ} {s : List ℕ} {size left at base : ℕ} (I : Checking m s si
   unfolding addressesEnd
   checked h = let z : 0 ≡ left = omega arith in ap (λ (j : ℕ). addressesEnd j s at base size) z ∙ sym (I .same)
 
-  module _ (more : 0 < left) {x : Number} (here : x ≡ numberAt s at) where
-    pub check-refused : {k : ℕ} → x ≡ Refused k → x ≡ addressesEnd m s 0 0 size
-    check-refused e = e ∙ sym (I .same ∙ end-refused left s at base more size (tested-refused (addressTests base size) here e))
+  module _ (more : 0 < left) where
+    pub check-refused : {k : ℕ} → Refused k ≡ numberAt s at → Refused k ≡ addressesEnd m s 0 0 size
+    check-refused e = sym (I .same ∙ end-refused left s at base more size (tested-refused (addressTests base size) e))
 
-    module _ {v next : ℕ} (e : x ≡ Value v next) where
-      pub number-small : v < 16384
-      number-small = read-number s at v next (sym here ∙ e) .small
-
+    module _ {v next : ℕ} (e : Value v next ≡ numberAt s at) where
       pub check-over : size ≤ base + v → Refused 12 ≡ addressesEnd m s 0 0 size
       unfolding first
-      check-over h = sym (I .same ∙ end-refused left s at base more size (tested-fails (addressTests base size) here e (rw (le-leb size (base + v) h)) refl))
+      check-over h = sym (I .same ∙ end-refused left s at base more size (tested-fails (addressTests base size) e (rw (le-leb size (base + v) h)) refl))
 
       pub check-on : base + v < size → Checking m s size (left - 1) next (base + v + 1)
       unfolding first
       check-on h = record {
         low = omega arith;
-        same = I .same ∙ end-value left s at base more size (tested-passes (addressTests base size) here e (rw (lt-leb size (base + v) h)));
+        same = I .same ∙ end-value left s at base more size (tested-passes (addressTests base size) e (rw (lt-leb size (base + v) h)));
       }
 
 -- ---- the writing pass, over addresses that rise and have their bits in the table
@@ -86,14 +81,14 @@ module _ {m : ℕ} {s old now : List ℕ} {left at base : ℕ} (I : Writing m s 
   unfolding addressesAt withBits
   written h = let z : 0 ≡ left = omega arith in ap (λ (j : ℕ). withBits now (addressesAt j s at base)) z ∙ sym (I .same)
 
-  module _ (more : 0 < left) {x : Number} (here : x ≡ numberAt s at) where
-    pub write-refused : {k : ℕ} → x ≡ Refused k → now ≡ withBits old (addressesAt m s 0 0)
+  module _ (more : 0 < left) where
+    pub write-refused : {k : ℕ} → Refused k ≡ numberAt s at → now ≡ withBits old (addressesAt m s 0 0)
     unfolding withBits
-    write-refused e = sym (I .same ∙ ap (withBits now) (at-refused left s at base more (sym here ∙ e)))
+    write-refused e = sym (I .same ∙ ap (withBits now) (at-refused left s at base more e))
 
-    module _ {v next : ℕ} (e : x ≡ Value v next) where
+    module _ {v next : ℕ} (e : Value v next ≡ numberAt s at) where
       this : addressesAt left s at base ≡ (base + v) ∷ addressesAt (left - 1) s next (base + v + 1)
-      this = at-value left s at base more (sym here ∙ e)
+      this = at-value left s at base more e
 
       pub write-below : base + v < 8 * length now
       write-below = omega (arith, I .sized, rises base (8 * length old) (base + v) _ (rw this at (I .room)) .1)

@@ -1,8 +1,11 @@
 -- `check_addresses` goes through the addresses and writes nothing: its loop keeps `Checking`. The measure is the count of addresses due.
-use mathlib.Core.Path.{refl}
+use mathlib.Core.Path.{_≡_, refl, sym, _∙_}
 use native.Mathlib.Omega.{arith}
 use borrow.Author.Needs.{needs}
-use Rattle.notice.proofs.Passes.{Checking, checked, check-refused, check-over, check-on, number-small}
+use Rattle.groups.specs.Number.{numberAt}
+use Rattle.groups.specs.declared.Number.the-variants.{Value}
+use Rattle.groups.proofs.Groups.{read-number}
+use Rattle.notice.proofs.Passes.{Checking, checked, check-refused, check-over, check-on}
 use Rattle.notice.proofs.check_addresses.Statement.{statement}
 use Rattle.notice.proofs.check_addresses.Tie as tie
 
@@ -15,6 +18,12 @@ abbrev μ-loop : tie.MeasureT-loop
 -- where the turn began, from where its number was answered
 abbrev begun : tie.After-number-at Inv-loop μ-loop → tie.At-loop Inv-loop μ-loop
 begun c = c .before .before
+
+-- the turn's number, where it was taken apart
+opened : (c : tie.After-number Inv-loop μ-loop)
+    → let l = begun (c .before .before) in
+    Value (c .number .given .0 .0) (c .number .given .0 .1 .0) ≡ numberAt (l .before .before .args .bytes .now) (l .loop .at)
+opened c = sym (c .number .given .1) ∙ c .before .before .number-at .ensures
 
 loop-holds : tie.Need-loop-holds Inv-loop μ-loop
 loop-holds c = record { low = omega arith; same = refl }
@@ -31,19 +40,18 @@ enum-told c = search needs
 returns : tie.Need-returns Inv-loop μ-loop
 returns c =
     let a = c .before .before in
-    check-refused (begun a .loop .inv) (omega arith) (a .number-at .ensures) (c .enum-told .given .1)
+    let e = c .enum-told .given .1 in
+    e ∙ check-refused (begun a .loop .inv) (omega arith) (sym e ∙ a .number-at .ensures)
 
 add-address : tie.Need-add-address Inv-loop μ-loop
 add-address c =
-    let a = c .before .before .before in
-    let I = begun a .loop .inv in
-    omega (arith, I .low, number-small I (omega arith) (a .number-at .ensures) (c .before .number .given .1))
+    let l = begun (c .before .before .before) in
+    omega (arith, l .loop .inv .low, read-number _ _ _ _ (sym (opened (c .before))) .small)
 
 returns-2 : tie.Need-returns-2 Inv-loop μ-loop
 returns-2 c =
     let o = c .before .before in
-    let a = o .before .before in
-    check-over (begun a .loop .inv) (omega arith) (a .number-at .ensures) (o .number .given .1) (omega arith)
+    check-over (begun (o .before .before) .loop .inv) (omega arith) (opened o) (omega arith)
 
 add-base : tie.Need-add-base Inv-loop μ-loop
 add-base c = omega arith
@@ -57,8 +65,7 @@ loop-less c = omega arith
 loop-again : tie.Need-loop-again Inv-loop μ-loop
 loop-again c =
     let o = c .before .before in
-    let a = o .before .before in
-    check-on (begun a .loop .inv) (omega arith) (a .number-at .ensures) (o .number .given .1) (c .if1 .left)
+    check-on (begun (o .before .before) .loop .inv) (omega arith) (opened o) (c .if1 .left)
 
 returns-3 : tie.Need-returns-3 Inv-loop μ-loop
 returns-3 c = checked (c .before .loop .inv) (omega arith)

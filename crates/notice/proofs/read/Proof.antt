@@ -6,22 +6,36 @@ use native.Mathlib.Omega.{arith}
 use borrow.Author.Needs.{needs}
 use lib.ListN.{length}
 use Rattle.cube.specs.Tables.{tableLen}
+use Rattle.groups.specs.declared.Number.the-variants.{Value}
+use Rattle.notice.specs.Notice.{dimensionAt, restAt}
+use Rattle.notice.specs.declared.Rest.the-variants.{Addresses}
+use Rattle.notice.proofs.Cases.{refused-is}
 use Rattle.notice.proofs.Outcomes.{small, rest-read, outcome-number, outcome-length, outcome-rest, outcome-room, outcome-notice}
 use Rattle.notice.proofs.read.Statement.{statement}
 use Rattle.notice.proofs.read.Tie as tie
 
--- where the dimension was taken apart, and the table as it was lent
-abbrev first : tie.After-table-len → tie.After-first
-first c = c .before .before
+-- the dimension, where it was taken apart, and the table as it was lent
+opened : (c : tie.After-first)
+    → Value (c .first .given .0 .0) (c .first .given .0 .1 .0) ≡ dimensionAt (c .before .before .before .before .before .args .bytes .now)
+opened c = sym (c .first .given .1) ∙ c .before .before .dimension .ensures
 
 abbrev lent : tie.After-first → List ℕ
 lent c = c .before .before .before .before .before .args .faults .now
 
 -- past the second test the table has its length
-sized : (c : tie.Else1) → length (lent (first (c .before))) ≡ tableLen (first (c .before) .first .given .0 .0)
+abbrev first : tie.Else1 → tie.After-first
+first c = c .before .before .before
+
+sized : (c : tie.Else1) → length (lent (first c)) ≡ tableLen (first c .first .given .0 .0)
 sized c = c .if1 .left ∙ c .before .table-len .ensures
 
--- where the rest was taken apart
+-- the rest, where it was taken apart, and where that was
+rest : (c : tie.After-found2)
+    → let a = first (c .before .before .before) in
+    Addresses (c .found2 .given .0 .0) (c .found2 .given .0 .1 .0) (c .found2 .given .0 .1 .1 .0)
+    ≡ restAt (a .first .given .0 .0) (a .before .before .before .before .before .args .bytes .now) (a .first .given .0 .1 .0)
+rest c = sym (c .found2 .given .1) ∙ c .before .before .check-rest .ensures
+
 abbrev found : tie.After-slice-known2 → tie.After-found2
 found c = c .before .before .before .before .before
 
@@ -38,18 +52,16 @@ refusal-requires : tie.Need-refusal-requires
 refusal-requires c κs = search needs
 
 returns : tie.Need-returns
-returns c = outcome-number _ (c .before .before .before .dimension .ensures) _ (c .before .enum-told .given .1) (c .refusal .ensures)
+returns c = outcome-number _ _ (refused-is (c .before .before .before .dimension .ensures) (c .before .enum-told .given .1) (c .refusal .ensures))
 
 table-len-requires : tie.Need-table-len-requires
-table-len-requires c κs = omega (arith, small _ (c .before .before .before .dimension .ensures) (c .before .first .given .1))
+table-len-requires c κs = omega (arith, small _ (opened (c .before)))
 
 returns-2 : tie.Need-returns-2
-returns-2 c =
-    let d = first (c .before) in
-    outcome-length _ (d .before .before .dimension .ensures) (d .first .given .1) _ (λ e. c .if1 .taken (e ∙ sym (c .before .table-len .ensures)))
+returns-2 c = outcome-length _ (opened (c .before .before .before)) _ (λ e. c .if1 .taken (e ∙ sym (c .before .table-len .ensures)))
 
 check-rest-requires : tie.Need-check-rest-requires
-check-rest-requires c κs = let d = first (c .before) in small _ (d .before .before .dimension .ensures) (d .first .given .1)
+check-rest-requires c κs = small _ (opened (first c))
 
 enum-known-found : tie.Need-enum-known-found
 enum-known-found c = search needs
@@ -61,10 +73,7 @@ clear-requires : tie.Need-clear-requires
 clear-requires c κs = search needs
 
 sub-write-addresses : tie.Need-sub-write-addresses
-sub-write-addresses c =
-    let r = found c .before .before in
-    let d = first (r .before .before) in
-    rest-read _ (d .before .before .dimension .ensures) (d .first .given .1) (r .check-rest .ensures) (found c .found2 .given .1) .begins
+sub-write-addresses c = let f = found c in rest-read _ (opened (first (f .before .before .before))) (rest f) .begins
 
 part-write-addresses-start : tie.Need-part-write-addresses-start
 part-write-addresses-start = sub-write-addresses
@@ -75,17 +84,14 @@ part-write-addresses-end c = search needs
 write-addresses-requires : tie.Need-write-addresses-requires
 write-addresses-requires c κs =
     let k = c .before .before in
-    let r = found k .before .before in
-    let d = first (r .before .before) in
-    outcome-room _ (d .before .before .dimension .ensures) (d .first .given .1) (r .check-rest .ensures) (found k .found2 .given .1)
-    (lent d) (sized (r .before)) (k .before .before .clear .ensures)
+    let e = found k .before .before .before in
+    outcome-room _ (opened (first e)) (rest (found k)) (lent (first e)) (sized e) (k .before .before .clear .ensures)
 
 returns-3 : tie.Need-returns-3
 returns-3 c =
     let r = c .before .before .before in
-    let d = first (r .before .before) in
-    outcome-rest _ (d .before .before .dimension .ensures) (d .first .given .1) (r .check-rest .ensures)
-    _ (sized (r .before)) (c .before .found .given .1)
+    let e = r .before in
+    outcome-rest _ (opened (first e)) _ (sized e) (sym (c .before .found .given .1) ∙ r .check-rest .ensures)
 
 same-length : tie.Need-same-length
 same-length c = search needs
@@ -94,10 +100,8 @@ returns-4 : tie.Need-returns-4
 returns-4 c =
     let w = c .before .before in
     let k = w .before .before .before in
-    let r = found k .before .before in
-    let d = first (r .before .before) in
-    outcome-notice _ (d .before .before .dimension .ensures) (d .first .given .1) (r .check-rest .ensures) (found k .found2 .given .1)
-    _ (sized (r .before)) (k .before .before .clear .ensures) (w .write-addresses .ensures)
+    let e = found k .before .before .before in
+    outcome-notice _ (opened (first e)) (rest (found k)) _ (sized e) (k .before .before .clear .ensures) (w .write-addresses .ensures)
 
 pub read-spec : {M : Type 1} → statement M
 read-spec =

@@ -1,9 +1,11 @@
 -- `write_addresses` goes through the addresses again and sets each one's bit: its loop keeps `Writing`. The measure is the count of addresses left.
-use mathlib.Core.Path.{refl}
+use mathlib.Core.Path.{_≡_, refl, sym, _∙_}
 use Prim.Native.Nat.{_+_, _*_, _<_}
 use native.Mathlib.Omega.{arith}
 use borrow.Author.Needs.{needs}
 use lib.ListN.{length}
+use Rattle.groups.specs.Number.{numberAt}
+use Rattle.groups.specs.declared.Number.the-variants.{Value}
 use Rattle.notice.proofs.Passes.{Writing, written, write-refused, write-below, write-on}
 use Rattle.notice.proofs.write_addresses.Statement.{statement}
 use Rattle.notice.proofs.write_addresses.Tie as tie
@@ -14,19 +16,24 @@ Inv-loop bytes m faults₀ left₀ at₀ base₀ faults left at base = Writing m
 abbrev μ-loop : tie.MeasureT-loop
 μ-loop bytes m faults₀ left₀ at₀ base₀ faults left at base = left
 
--- where the turn began, from where its number was answered, and from where it was taken apart; and the turn's end
+-- where the turn began, from where its number was answered, and from where it was taken apart; and where it was, from the turn's end
 abbrev begun : tie.After-number-at Inv-loop μ-loop → tie.At-loop Inv-loop μ-loop
 begun c = c .before .before
 
 abbrev turn : tie.After-number Inv-loop μ-loop → tie.At-loop Inv-loop μ-loop
 turn c = begun (c .before .before)
 
-abbrev opened : tie.After-slice-known2 Inv-loop μ-loop → tie.After-number Inv-loop μ-loop
-opened c = c .before .before .before .before .before
+abbrev apart : tie.After-slice-known2 Inv-loop μ-loop → tie.After-number Inv-loop μ-loop
+apart c = c .before .before .before .before .before
+
+-- the turn's number
+opened : (c : tie.After-number Inv-loop μ-loop)
+    → Value (c .number .given .0 .0) (c .number .given .0 .1 .0) ≡ numberAt (turn c .before .before .before .args .bytes .now) (turn c .loop .at)
+opened c = sym (c .number .given .1) ∙ c .before .before .number-at .ensures
 
 -- the turn's address has its bit in the table, and so it is small
 below : (c : tie.After-number Inv-loop μ-loop) → turn c .loop .base + c .number .given .0 .0 < 8 * length (turn c .loop .faults)
-below c = write-below (turn c .loop .inv) (omega arith) (c .before .before .number-at .ensures) (c .number .given .1)
+below c = write-below (turn c .loop .inv) (omega arith) (opened c)
 
 small : (c : tie.After-number Inv-loop μ-loop) → turn c .loop .base + c .number .given .0 .0 < 4096
 small c = omega (arith, below c, turn c .loop .inv .sized, turn c .before .before .before .pre .0)
@@ -49,7 +56,7 @@ same-length c = begun (c .before .before) .loop .inv .sized
 returns : tie.Need-returns Inv-loop μ-loop
 returns c =
     let a = c .before .before in
-    write-refused (begun a .loop .inv) (omega arith) (a .number-at .ensures) (c .enum-told .given .1)
+    write-refused (begun a .loop .inv) (omega arith) (sym (c .enum-told .given .1) ∙ a .number-at .ensures)
 
 add-node : tie.Need-add-node Inv-loop μ-loop
 add-node c = omega (arith, small (c .before))
@@ -58,7 +65,7 @@ set-bit-requires : tie.Need-set-bit-requires Inv-loop μ-loop
 set-bit-requires c κs = omega (arith, below (c .before .before))
 
 add-base : tie.Need-add-base Inv-loop μ-loop
-add-base c = omega (arith, small (opened c))
+add-base c = omega (arith, small (apart c))
 
 sub-left : tie.Need-sub-left Inv-loop μ-loop
 sub-left c = omega arith
@@ -68,8 +75,8 @@ loop-less c = omega arith
 
 loop-again : tie.Need-loop-again Inv-loop μ-loop
 loop-again c =
-    let o = opened c in
-    write-on (turn o .loop .inv) (omega arith) (o .before .before .number-at .ensures) (o .number .given .1) (c .before .before .set-bit .ensures)
+    let o = apart c in
+    write-on (turn o .loop .inv) (omega arith) (opened o) (c .before .before .set-bit .ensures)
 
 same-length-2 : tie.Need-same-length-2 Inv-loop μ-loop
 same-length-2 c = c .before .loop .inv .sized
