@@ -64,10 +64,10 @@ refused-number s at k =
 
 -- ---- a first group that has its high bit set, and a byte behind it: there are two groups, and the second decides
 
-module _ (s : List ℕ) (at : ℕ) (more : at + 1 < length s) (first : 128 ≤ getD s at 0) where
+module _ (s : List ℕ) (at : ℕ) (more : at + 1 < length s) (high : 128 ≤ getD s at 0) where
   both : numberAt s at ≡ twoGroups (getD s at 0) (getD s (at + 1) 0) (at + 2)
   unfolding numberAt
-  both = rw (lt-leb (length s) at (omega arith), le-ltb (getD s at 0) 128 first, lt-leb (length s) (at + 1) more)
+  both = rw (lt-leb (length s) at (omega arith), le-ltb (getD s at 0) 128 high, lt-leb (length s) (at + 1) more)
 
   pub second-refused : (eqb (getD s (at + 1) 0) 0 || leb 128 (getD s (at + 1) 0)) ≡ true → Refused 10 ≡ numberAt s at
   unfolding twoGroups

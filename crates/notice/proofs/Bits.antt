@@ -1,5 +1,5 @@
--- The bits of a fault table that addresses make: setting node a's bit changes that bit and no other, so a table of zeros with the bits of addresses set has
--- node k's bit exactly where k is one of the addresses.
+-- The bits of a fault table that addresses make: setting node a's bit changes that bit and no other, so a table of zeros with the bits of addresses
+-- set has node k's bit exactly where k is one of the addresses.
 use mathlib.Core.Path.{_≡_, refl, sym, ap, _∙_}
 use mathlib.Core.Logic.{_⊎_, inl, inr}
 use mathlib.Core.Bool.{true, false, xor, _||_, or-false, or-assoc}

@@ -1,5 +1,5 @@
--- The outcomes of a notice, one law each, in the terms of the code: what a callee answered, and how the answer was taken apart. Refused, the table is
--- kept and the tail begins at the end; accepted, the table has room for every address, so that the writing pass may go, and holds their bits after it.
+-- The outcomes of a notice, one law each, as the code comes to them: what the number at hand is, and so what the notice is. Refused, the table is kept
+-- and the tail begins at the end; accepted, the table has room for every address, so that the writing pass may go, and holds their bits after it.
 use mathlib.Core.Path.{_≡_, refl, sym, ap, ap₂, _∙_}
 use mathlib.Core.Logic.{_⊎_, inl, inr}
 use mathlib.Core.Bool.{true, false}

@@ -35,8 +35,8 @@ pub record TableOf (n m : ℕ) (l after : List ℕ) : Type 0 where
   pub unused : unusedSet n after ≡ false
 
 -- "04 04 02 01 03 06 0D 00 ..", the listing's input: nodes 2, 4, 8 and 15 of a 4-cube, and what stands behind the notice
-abbrev pub listing : List ℕ
-listing = 0x04 ∷ 0x04 ∷ 0x02 ∷ 0x01 ∷ 0x03 ∷ 0x06 ∷ 0x0D ∷ 0x00 ∷ []
+abbrev pub listingBytes : List ℕ
+listingBytes = 0x04 ∷ 0x04 ∷ 0x02 ∷ 0x01 ∷ 0x03 ∷ 0x06 ∷ 0x0D ∷ 0x00 ∷ []
 
 pub record NoticeLaws : Type 0 where
   -- "Accepted: the notice reader overwrites all of the fault table and returns dimension, count and the number of bytes the notice took"
@@ -52,10 +52,10 @@ pub record NoticeLaws : Type 0 where
   -- "if the notice is refused for anything but the table's length, it gives the empty part at their end"
   pub tail-empty : (s t : List ℕ) (k : ℕ) → noticed s t ≡ Refused k → k ≢ 2 → (tailAt s ≡ length s) × (drop (tailAt s) s ≡ [])
   -- the listing's notice, read over an old table
-  pub listing-answer : noticed listing (0 ∷ 255 ∷ []) ≡ Notice 4 4 6
-  pub listing-nodes : addressesOf listing ≡ 2 ∷ 4 ∷ 8 ∷ 15 ∷ []
-  pub listing-table : tableAfter listing (0 ∷ 255 ∷ []) ≡ 0x14 ∷ 0x81 ∷ []
-  pub listing-tail : tailAt listing ≡ 6
+  pub listing-answer : noticed listingBytes (0 ∷ 255 ∷ []) ≡ Notice 4 4 6
+  pub listing-nodes : addressesOf listingBytes ≡ 2 ∷ 4 ∷ 8 ∷ 15 ∷ []
+  pub listing-table : tableAfter listingBytes (0 ∷ 255 ∷ []) ≡ 0x14 ∷ 0x81 ∷ []
+  pub listing-tail : tailAt listingBytes ≡ 6
   -- a missing count, behind a table of the wrong length and of the right one: 2 stands before it
   pub two-first : noticed (0x04 ∷ []) (0 ∷ []) ≡ Refused 2
   pub nine-then : noticed (0x04 ∷ []) (0 ∷ 0 ∷ []) ≡ Refused 9

@@ -59,14 +59,14 @@ more : (m : ℕ) (s : List ℕ) (k base v : ℕ) (l : List ℕ) (end : ℕ) → 
     → AddressAnswers m s (suc k) (base + v + 1) l end → AddressAnswers (suc m) s k base ((base + v) ∷ l) end
 unfolding addressesFrom values
 more m s k base v l end t e r = record {
-  each = first;
+  each = all;
   addresses = rw e (ap (λ (u : List ℕ). (base + v) ∷ u) (r .addresses));
   last = let z : k + suc m ≡ suc k + m = omega arith in ap (places s) z ∙ r .last;
 }
   where
-    first : (j : ℕ) → j < suc m → Told s (k + j)
-    first zero h = let z : k + 0 ≡ k = omega arith in rw z t
-    first (suc j) h = let z : suc k + j ≡ k + suc j = omega arith in rw z at (r .each j (omega arith))
+    all : (j : ℕ) → j < suc m → Told s (k + j)
+    all zero h = let z : k + 0 ≡ k = omega arith in rw z t
+    all (suc j) h = let z : suc k + j ≡ k + suc j = omega arith in rw z at (r .each j (omega arith))
 
 address-answers : (m : ℕ) (s : List ℕ) (start at base size end last k : ℕ) → addressesEnd m (drop start s) at base size ≡ Value end last
     → places s k ≡ start + at → AddressAnswers m s k base (addressesAt m (drop start s) at base) (start + last)

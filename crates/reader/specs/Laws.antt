@@ -4,7 +4,7 @@ use mathlib.Core.List.{List, [], _∷_}
 use Prim.Native.Nat.{ℕ, suc, _+_, _<_}
 use Rattle.groups.specs.Number.{numberAt, valueIn}
 use Rattle.groups.specs.declared.Number.the-variants as number
-use Rattle.notice.specs.Laws.{listing}
+use Rattle.notice.specs.Laws.{listingBytes}
 use Rattle.notice.specs.Notice.{noticed, addressesOf}
 use Rattle.notice.specs.declared.Noticed.the-variants.{Notice}
 use Rattle.reader.specs.Reader.{placeAfter}
@@ -33,5 +33,5 @@ pub record ReaderLaws : Type 0 where
   -- what the notice reader accepts, on a fault table t, is read through a reader too
   pub whole : (s t : List ℕ) (n m taken : ℕ) → noticed s t ≡ Notice n m taken → ReadThrough s n m taken
   -- the listing's notice, n = 4 with faulty 2, 4, 8, 15
-  pub listing-values : values 6 listing 0 ≡ 4 ∷ 4 ∷ 2 ∷ 1 ∷ 3 ∷ 6 ∷ []
-  pub listing-nodes : addressesFrom 0 (values 4 listing 2) ≡ 2 ∷ 4 ∷ 8 ∷ 15 ∷ []
+  pub listing-values : values 6 listingBytes 0 ≡ 4 ∷ 4 ∷ 2 ∷ 1 ∷ 3 ∷ 6 ∷ []
+  pub listing-nodes : addressesFrom 0 (values 4 listingBytes 2) ≡ 2 ∷ 4 ∷ 8 ∷ 15 ∷ []

@@ -1,4 +1,4 @@
--- `dimension` opens the first number and tests its value.
+-- `dimension` opens the first number and tests its value: a refusal of the number stays, and then the table of the dimension decides.
 use mathlib.Core.Path.{_≡_, refl, sym, _∙_}
 use borrow.Author.Needs.{needs}
 use Rattle.cube.specs.Refusal.{first}

@@ -23,15 +23,15 @@ abbrev lent : tie.After-first → List ℕ
 lent c = c .before .before .before .before .before .args .faults .now
 
 -- past the second test the table has its length
-abbrev first : tie.Else1 → tie.After-first
-first c = c .before .before .before
+abbrev head : tie.Else1 → tie.After-first
+head c = c .before .before .before
 
-sized : (c : tie.Else1) → length (lent (first c)) ≡ tableLen (first c .first .given .0 .0)
+sized : (c : tie.Else1) → length (lent (head c)) ≡ tableLen (head c .first .given .0 .0)
 sized c = c .if1 .left ∙ c .before .table-len .ensures
 
 -- the rest, where it was taken apart, and where that was
 rest : (c : tie.After-found2)
-    → let a = first (c .before .before .before) in
+    → let a = head (c .before .before .before) in
     Addresses (c .found2 .given .0 .0) (c .found2 .given .0 .1 .0) (c .found2 .given .0 .1 .1 .0)
     ≡ restAt (a .first .given .0 .0) (a .before .before .before .before .before .args .bytes .now) (a .first .given .0 .1 .0)
 rest c = sym (c .found2 .given .1) ∙ c .before .before .check-rest .ensures
@@ -61,7 +61,7 @@ returns-2 : tie.Need-returns-2
 returns-2 c = outcome-length _ (opened (c .before .before .before)) _ (λ e. c .if1 .taken (e ∙ sym (c .before .table-len .ensures)))
 
 check-rest-requires : tie.Need-check-rest-requires
-check-rest-requires c κs = small _ (opened (first c))
+check-rest-requires c κs = small _ (opened (head c))
 
 enum-known-found : tie.Need-enum-known-found
 enum-known-found c = search needs
@@ -73,7 +73,7 @@ clear-requires : tie.Need-clear-requires
 clear-requires c κs = search needs
 
 sub-write-addresses : tie.Need-sub-write-addresses
-sub-write-addresses c = let f = found c in rest-read _ (opened (first (f .before .before .before))) (rest f) .begins
+sub-write-addresses c = let f = found c in rest-read _ (opened (head (f .before .before .before))) (rest f) .begins
 
 part-write-addresses-start : tie.Need-part-write-addresses-start
 part-write-addresses-start = sub-write-addresses
@@ -85,13 +85,13 @@ write-addresses-requires : tie.Need-write-addresses-requires
 write-addresses-requires c κs =
     let k = c .before .before in
     let e = found k .before .before .before in
-    outcome-room _ (opened (first e)) (rest (found k)) (lent (first e)) (sized e) (k .before .before .clear .ensures)
+    outcome-room _ (opened (head e)) (rest (found k)) (lent (head e)) (sized e) (k .before .before .clear .ensures)
 
 returns-3 : tie.Need-returns-3
 returns-3 c =
     let r = c .before .before .before in
     let e = r .before in
-    outcome-rest _ (opened (first e)) _ (sized e) (sym (c .before .found .given .1) ∙ r .check-rest .ensures)
+    outcome-rest _ (opened (head e)) _ (sized e) (sym (c .before .found .given .1) ∙ r .check-rest .ensures)
 
 same-length : tie.Need-same-length
 same-length c = search needs
@@ -101,7 +101,7 @@ returns-4 c =
     let w = c .before .before in
     let k = w .before .before .before in
     let e = found k .before .before .before in
-    outcome-notice _ (opened (first e)) (rest (found k)) _ (sized e) (k .before .before .clear .ensures) (w .write-addresses .ensures)
+    outcome-notice _ (opened (head e)) (rest (found k)) _ (sized e) (k .before .before .clear .ensures) (w .write-addresses .ensures)
 
 pub read-spec : {M : Type 1} → statement M
 read-spec =

@@ -1,4 +1,4 @@
--- `set_bit` sets bit k mod 8 of byte k / 8: `1 << (k % 8)` does not wrap in a byte.
+-- `set_bit` sets bit k mod 8 of byte k / 8, as `withBit` does: `1 << (k % 8)` does not wrap in a byte.
 use mathlib.Core.Path.{ap, _∙_}
 use Prim.Native.Nat.{ℕ, _/_, _%_}
 use native.Mathlib.Nat.{one-mul}

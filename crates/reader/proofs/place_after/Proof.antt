@@ -1,4 +1,4 @@
--- `place_after` takes the answer apart as `placed` does: a value gives the next place, and a refusal the place that it was asked at.
+-- `place_after` takes the answer apart as `nextPlace` does: a value gives the next place, and a refusal the place that it was asked at.
 use borrow.Author.Needs.{needs}
 use Rattle.reader.proofs.place_after.Statement.{statement}
 use Rattle.reader.proofs.place_after.Tie as tie
