@@ -1,20 +1,16 @@
 -- The outcomes of a notice, one law each, as the code comes to them: what the number at hand is, and so what the notice is. Refused, the table is kept
 -- and the tail begins at the end; accepted, the table has room for every address, so that the writing pass may go, and holds their bits after it.
 use mathlib.Core.Path.{_≡_, refl, sym, ap, ap₂, _∙_}
-use mathlib.Core.Logic.{_⊎_, inl, inr}
-use mathlib.Core.Bool.{true, false}
+use mathlib.Core.Bool.{true}
 use mathlib.Core.List.{List}
 use Prim.Native.Nat.{ℕ, _+_, _-_, _*_, _^_, _≤_, _<_}
 use native.Mathlib.Omega.{arith}
-use lib.Dec.{leb}
 use lib.ListN.{length, take, drop, replicate, length-drop, length-replicate}
-use lib.Pow.{pow-mono}
 use lib.Seq.{take-all}
-use borrow.Author.Tests.{leb-true, leb-false, lt-ltb, le-ltb, eq-eqb, ne-eqb}
+use borrow.Author.Tests.{lt-ltb, le-ltb, eq-eqb, ne-eqb}
 use Rattle.cube.specs.Refusal.{first}
 use Rattle.cube.specs.Tables.{tableLen}
-use Rattle.cube.proofs.Bools.{either}
-use Rattle.cube.proofs.Tables.{len-small, table-full, table-room}
+use Rattle.cube.proofs.Tables.{table-few, table-room}
 use Rattle.groups.specs.Number.{numberAt}
 use Rattle.groups.specs.declared.Number.{Number}
 use Rattle.groups.specs.declared.Number.the-variants as number
@@ -113,13 +109,6 @@ module _ (s : List ℕ) where
 abbrev pub Outcome : (s t : List ℕ) → Noticed → List ℕ → Type 0
 Outcome s t answer after = (answer ≡ noticed s t) × (after ≡ tableAfter s t)
 
-table-small : (n : ℕ) → n ≤ 12 → tableLen n ≤ 512
-table-small n h = go (either (leb 3 n))
-  where
-    go : (leb 3 n ≡ true) ⊎ (leb 3 n ≡ false) → tableLen n ≤ 512
-    go (inl a) = omega (arith, table-full n (leb-true 3 n a), pow-mono h)
-    go (inr a) = let l = leb-false 3 n a in omega (arith, len-small n (omega arith))
-
 outcome-refused : (s t : List ℕ) {k : ℕ} → Refused k ≡ noticed s t → Outcome s t (Refused k) t
 unfolding tableAfter
 outcome-refused s t e = (e, rw (sym e))
@@ -160,7 +149,7 @@ module _ (s : List ℕ) where
         pub outcome-room : (length zeros ≤ 512)
             × (rising 0 (8 * length zeros) (addressesAt m (take (length s - start) (drop start s)) 0 0) ≡ true)
         outcome-room = (
-          omega (arith, cleared, table-small n small),
+          omega (arith, cleared, table-few n small),
           rw (part-drop s start)
               (rising-wider 0 (2 ^ n) (8 * length zeros) (addressesAt m (drop start s) 0 0) (omega (arith, cleared, table-room n)) (rest-read .rises)),
         )
