@@ -25,6 +25,11 @@ getD-tab zero f i h = absurd (not-suc-le-zero h)
 getD-tab (suc n) f zero h = refl
 getD-tab (suc n) f (suc i) h = getD-tab n (λ k. f (suc k)) i (le-of-suc-le-suc h)
 
+pub tab-zeros : (n : ℕ) → tab n (λ _. 0) ≡ replicate n 0
+unfolding tab
+tab-zeros zero = refl
+tab-zeros (suc n) = ap (λ (l : List ℕ). 0 ∷ l) (tab-zeros n)
+
 tab-snoc : (n : ℕ) (f : ℕ → ℕ) → tab (suc n) f ≡ tab n f ++ (f n ∷ [])
 unfolding tab
 tab-snoc zero f = refl

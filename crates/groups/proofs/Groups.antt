@@ -2,21 +2,18 @@
 -- 128 * 128, since each group has seven bits, and at least 128, since the second is not zero.
 use mathlib.Core.Path.{_≡_, refl, sym, _∙_}
 use mathlib.Core.Logic.{_⊎_, inl, inr}
-use mathlib.Core.Bool.{Bool, true, false, cond, _||_}
+use mathlib.Core.Bool.{true, false, _||_}
 use mathlib.Core.List.{List}
 use Prim.Native.Nat.{ℕ, zero, suc, _+_, _*_, _%_, _≤_, _<_}
 use native.Mathlib.Omega.{arith}
 use lib.Dec.{eqb, ltb, leb}
 use lib.ListN.{length, getD}
 use borrow.Author.Tests.{leb-false, ltb-true, lt-leb, le-ltb, ne-eqb}
+use Rattle.cube.proofs.Bools.{by-cases}
 use Rattle.groups.specs.Number.{numberAt, twoGroups}
 use Rattle.groups.specs.Laws.{ReadNumber}
 use Rattle.groups.specs.declared.Number.{Number}
 use Rattle.groups.specs.declared.Number.the-variants.{Value, Refused}
-
-by-cases : (P : Number → Type 0) (b : Bool) {x y : Number} → (b ≡ true → P x) → (b ≡ false → P y) → P (cond b x y)
-by-cases P true f g = f refl
-by-cases P false f g = g refl
 
 -- a refusal is no value
 pub no-value : {k v next : ℕ} → Refused k ≡ Value v next → ⊥

@@ -44,7 +44,7 @@ pub record NoticeLaws : Type 0 where
   pub written : (s t : List ℕ) (n m taken : ℕ) → noticed s t ≡ Notice n m taken → TableOf n m (addressesOf s) (tableAfter s t)
   -- "Refused: lent tables keep every byte", and the number is one of the table's
   pub kept : (s t : List ℕ) (k : ℕ) → noticed s t ≡ Refused k → tableAfter s t ≡ t
-  pub number : (s t : List ℕ) (k : ℕ) → noticed s t ≡ Refused k → k ≤ 12
+  pub number : (s t : List ℕ) (k : ℕ) → noticed s t ≡ Refused k → (1 ≤ k) × (k ≤ 12)
   -- the tail question "isn't given" the table's length: it takes for a notice, or refuses, what the reader does, unless the reader answers 2
   pub same-notice : (s t : List ℕ) (x : Noticed) → noticed s t ≡ x → x ≢ Refused 2 → noticeOf s ≡ x
   -- "one question gives the bytes after the first notice"

@@ -15,7 +15,11 @@ use Rattle.rule.specs.Cabinet.{Cabinet}
 use Rattle.labels.specs.Labelling.{labelRefusal, labelled, labelsAfter}
 use Rattle.labels.specs.declared.Labelled.the-variants as labelled
 use Rattle.labels.proofs.Refusal.{of-refused}
-use Rattle.notice.proofs.Named as named
+use Rattle.notice.specs.Addresses.{withBits}
+use Rattle.notice.specs.Notice.{addressesOf, noticed, refusalOf, tableAfter}
+use Rattle.notice.specs.declared.Noticed.{Noticed}
+use Rattle.notice.specs.declared.Noticed.the-variants as noticed
+use Rattle.notice.proofs.Laws.{notice-laws}
 use Rattle.route.specs.Hop.{hopped}
 use Rattle.route.specs.Walk.{endingOf, last, refused, row, rowBytes, stops, walkFrom, walkRefusal, walkTests, walked}
 use Rattle.route.specs.declared.Decision.{Decision}
@@ -83,12 +87,27 @@ row-kept w before k e = rw e
 walk-number : (w : Walked) (k : ℕ) → Blank w → w .ending ≡ ending.Refused k → walkNumber w ≡ k * 16777216
 walk-number w k b e = let z = b k e .count in rw (e) (omega arith)
 
+-- ---- a notice whose refusal is 0 is accepted: no refusal has that number
+
+accepted : (bytes before : List ℕ) → refusalOf (noticed bytes before) ≡ 0
+    → (n : ℕ) × (m : ℕ) × (taken : ℕ) × (noticed bytes before ≡ noticed.Notice n m taken)
+accepted bytes before = go (noticed bytes before) refl
+  where
+    go : (x : Noticed) → noticed bytes before ≡ x → refusalOf x ≡ 0 → (n : ℕ) × (m : ℕ) × (taken : ℕ) × (x ≡ noticed.Notice n m taken)
+    go (noticed.Notice n m taken) e z = (n, m, taken, refl)
+    go (noticed.Refused k) e z = absurd (omega (arith, notice-laws .number bytes before k e))
+
+table-written : (bytes before : List ℕ) → refusalOf (noticed bytes before) ≡ 0
+    → tableAfter bytes before ≡ withBits (replicate (length before) 0) (addressesOf bytes)
+unfolding tableAfter
+table-written bytes before z = let a = accepted bytes before z in rw (a .3)
+
 pub demand1 : Demand1
 unfolding labelled labelsAfter hopped
 demand1 =
     record {
       labels-kept = labels-kept;
-      table-kept = named.kept;
+      table-kept = notice-laws .kept;
       row-kept = λ n s d m lab before. row-kept (walked n s d m (length before) lab) before;
       label-number = λ k. omega arith;
       hop-number = λ k. omega arith;
@@ -100,4 +119,6 @@ demand1 =
       hop-answered = λ n c d m lab e. rw e;
       walk-answered = walk-answered;
       row-written = λ n s d m lab before. row-written n s d m (length before) lab before;
+      notice-answered = accepted;
+      table-written = table-written;
     }

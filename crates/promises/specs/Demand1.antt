@@ -1,15 +1,16 @@
--- Demand 1: no input makes it misbehave. No entry point has a `requires`; the refusals that each gives are its table (labelTests, hopTests, walkTests; a
--- notice's are read from left to right, noticeOf). Here: what a refusal and an acceptance do with what was lent.
+-- Demand 1: no input makes it misbehave. No entry point has a `requires`; the refusals that each gives are its tables (labelTests, hopTests, walkTests;
+-- for a notice one a number, crates/notice/specs/Tests.antt). Here: what a refusal and an acceptance do with what was lent.
 use mathlib.Core.List.{List}
 use mathlib.Core.Path.{_≡_}
 use Prim.Native.Nat.{ℕ, _*_}
-use lib.ListN.{getD, length}
+use lib.ListN.{getD, length, replicate}
 use Rattle.cube.specs.Tables.{tab}
 use Rattle.hcube.specs.Answers.{hopNumber, labelNumber, noticeNumber, rowAfter, rowByte, walkNumber}
 use Rattle.rule.specs.Cabinet.{Cabinet, labelsOf, roundsOf}
 use Rattle.labels.specs.Labelling.{labelRefusal, labelled, labelsAfter}
 use Rattle.labels.specs.declared.Labelled.the-variants as labelled
-use Rattle.notice.specs.Notice.{noticed, tableAfter}
+use Rattle.notice.specs.Addresses.{withBits}
+use Rattle.notice.specs.Notice.{addressesOf, noticed, refusalOf, tableAfter}
 use Rattle.notice.specs.declared.Noticed.the-variants as noticed
 use Rattle.route.specs.Hop.{hop, hopRefusal, hopped}
 use Rattle.route.specs.Walk.{row, rowBytes, walkFrom, walkRefusal, walked}
@@ -39,3 +40,8 @@ pub record Demand1 : Type 0 where
   pub row-written :
       (n s d m : ℕ) (lab : ℕ → ℕ) (before : List ℕ) → walkRefusal n s d m (length before) lab ≡ 0
       → rowAfter (walked n s d m (length before) lab) before ≡ tab rowBytes (rowByte (row n lab d s))
+  pub notice-answered :
+      (bytes before : List ℕ) → refusalOf (noticed bytes before) ≡ 0
+      → (n : ℕ) × (m : ℕ) × (taken : ℕ) × (noticed bytes before ≡ noticed.Notice n m taken)
+  pub table-written :
+      (bytes before : List ℕ) → refusalOf (noticed bytes before) ≡ 0 → tableAfter bytes before ≡ withBits (replicate (length before) 0) (addressesOf bytes)

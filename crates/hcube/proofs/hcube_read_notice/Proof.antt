@@ -24,7 +24,7 @@ enum-known-answer-2 c = search needs
 pack-notice-requires-2 : tie.Need-pack-notice-requires-2
 pack-notice-requires-2 c κs =
     let few = refused-few _ _ _ (sym (c .before .before .before .before .before .read .ensures .0) ∙ c .before .answer2 .given .1) in
-    (few, (omega arith, (omega arith, omega arith)))
+    (few .1, (omega arith, (omega arith, omega arith)))
 
 same-length : tie.Need-same-length
 same-length c = search needs

@@ -1,7 +1,7 @@
 -- `list_pair` comes to a place behind the pair: each number takes a byte at least.
 use mathlib.Core.Path.{sym, _∙_}
 use native.Mathlib.Omega.{arith}
-use Rattle.groups.proofs.Groups.{read}
+use Rattle.groups.proofs.Groups.{read-number}
 use borrow.Author.Needs.{needs}
 use Rattle.listing.proofs.list_pair.Statement.{statement}
 use Rattle.listing.proofs.list_pair.Tie as tie
@@ -45,8 +45,8 @@ returns-3 c =
     let first = second .before .before .before .before in
     omega (
       arith,
-      read _ _ _ _ (sym (first .before .before .number-at .ensures) ∙ first .first .given .1) .beyond,
-      read _ _ _ _ (sym (second .before .before .number-at2 .ensures) ∙ second .second .given .1) .beyond,
+      read-number _ _ _ _ (sym (first .before .before .number-at .ensures) ∙ first .first .given .1) .beyond,
+      read-number _ _ _ _ (sym (second .before .before .number-at2 .ensures) ∙ second .second .given .1) .beyond,
     )
 
 pub list-pair-spec : {M : Type 1} → statement M

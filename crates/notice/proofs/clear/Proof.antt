@@ -1,18 +1,12 @@
 -- `clear` sets every byte to 0: the loop fills the table with zeros from the front. The measure is what is left of it.
-use mathlib.Core.Path.{_≡_, refl, ap, _∙_}
-use mathlib.Core.List.{List, _∷_}
-use Prim.Native.Nat.{ℕ, zero, suc, _-_}
+use mathlib.Core.Path.{refl, _∙_}
+use Prim.Native.Nat.{_-_}
 use native.Mathlib.Omega.{arith}
-use lib.ListN.{length, replicate}
-use Rattle.cube.specs.Tables.{tab}
+use lib.ListN.{length}
+use Rattle.cube.proofs.Front.{tab-zeros}
 use Rattle.cube.proofs.Filling.{Filled, fill-start, fill-write, fill-end}
 use Rattle.notice.proofs.clear.Statement.{statement}
 use Rattle.notice.proofs.clear.Tie as tie
-
-tab-zeros : (m : ℕ) → tab m (λ _. 0) ≡ replicate m 0
-unfolding tab
-tab-zeros zero = refl
-tab-zeros (suc m) = ap (λ (l : List ℕ). 0 ∷ l) (tab-zeros m)
 
 abbrev Inv-loop : tie.InvT-loop
 Inv-loop faults₀ i₀ faults i = Filled (λ _. 0) faults₀ faults i
