@@ -1,5 +1,6 @@
 pub mod Bools
 pub mod Count
+pub mod Search
 pub mod Cube
 pub mod Front
 pub mod Filling

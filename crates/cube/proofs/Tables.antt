@@ -15,7 +15,7 @@ use Rattle.cube.specs.Count.{some}
 use Rattle.cube.specs.Cube.{bit}
 use Rattle.cube.specs.Tables.{isDimension, tableLen, nodeBit, unusedSet}
 use Rattle.cube.proofs.Bools.{either, clash, and-true}
-use Rattle.cube.proofs.Count.{some-none, some-found, none-some}
+use Rattle.cube.proofs.Search.{some-none, some-found, none-some}
 use Rattle.cube.proofs.Cube.{bit-none, bit-shift, bits-same}
 
 -- ---- the dimension

@@ -9,7 +9,7 @@ use lib.Dec.{eqb}
 use borrow.Author.Tests.{eqb-true, not-false}
 use Rattle.cube.specs.Tables.{tab}
 use Rattle.cube.proofs.Bools.{by-cases}
-use Rattle.cube.proofs.Count.{the-least}
+use Rattle.cube.proofs.Search.{the-least}
 use Rattle.cube.proofs.Refusal.{first-le, first-none}
 use Rattle.cube.proofs.Tables.{dimension-is}
 use Rattle.rule.specs.Cabinet.{Cabinet}

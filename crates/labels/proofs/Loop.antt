@@ -19,7 +19,8 @@ use Rattle.cube.specs.Count.{count, some}
 use Rattle.cube.specs.Cube.{flip}
 use Rattle.cube.specs.Tables.{tab, labelIn}
 use Rattle.cube.proofs.Bools.{either, or-left, or-right}
-use Rattle.cube.proofs.Count.{below-suc, none-counted, some-same}
+use Rattle.cube.proofs.Count.{below-suc, none-counted}
+use Rattle.cube.proofs.Search.{some-same}
 use Rattle.cube.proofs.Cube.{flip-lt}
 use Rattle.cube.proofs.Front.{length-tab, getD-tab, tab-cong}
 use Rattle.rule.specs.Cabinet.{Cabinet, labelsOf, out, outByte, roundsOf, ruleOf}

@@ -14,7 +14,8 @@ use Rattle.cube.specs.Count.{count, some}
 use Rattle.cube.specs.Cube.{flip}
 use Rattle.cube.specs.Tables.{labelIn}
 use Rattle.cube.proofs.Bools.{either, and-true}
-use Rattle.cube.proofs.Count.{count-in, count-out, some-same}
+use Rattle.cube.proofs.Count.{count-in, count-out}
+use Rattle.cube.proofs.Search.{some-same}
 use Rattle.cube.proofs.Front.{front, front-before, front-after}
 use Rattle.labels.specs.Passes.{outIn, markIn, plainIn, fresh, ordinary, oneWhere}
 use Rattle.rule.specs.Rule.{meets}

@@ -11,7 +11,8 @@ use lib.ListN.{length, replicate, length-replicate}
 use borrow.Author.Tests.{eqb-true, leb-true, not-false}
 use Rattle.cube.specs.Refusal.{first}
 use Rattle.cube.specs.Tables.{isDimension, tableLen, nodeBit, unusedSet}
-use Rattle.cube.proofs.Count.{count-same, some-none}
+use Rattle.cube.proofs.Count.{count-same}
+use Rattle.cube.proofs.Search.{some-none}
 use Rattle.cube.proofs.Refusal.{first-none}
 use Rattle.cube.proofs.Tables.{table-room}
 use Rattle.groups.specs.Number.{numberAt}

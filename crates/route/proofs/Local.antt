@@ -11,7 +11,7 @@ use borrow.Author.Tests.{ltb-true}
 use Rattle.cube.specs.Cube.{dist, flip}
 use Rattle.cube.specs.Tables.{highest}
 use Rattle.cube.proofs.Bools.{either}
-use Rattle.cube.proofs.Count.{least-same, some-same, the-least}
+use Rattle.cube.proofs.Search.{least-same, some-same, the-least}
 use Rattle.cube.proofs.Cube.{flip-lt}
 use Rattle.cube.proofs.Front.{tab-cong}
 use Rattle.scans.specs.Scans.{firstScan, lowest, noScan}

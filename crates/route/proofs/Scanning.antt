@@ -11,7 +11,8 @@ use lib.Dec.{eqb, leb, ltb}
 use borrow.Author.Tests.{ne-eqb, lt-ltb, le-ltb}
 use Rattle.cube.specs.Count.{least}
 use Rattle.cube.specs.Cube.{dist}
-use Rattle.cube.proofs.Count.{below-suc, least-is}
+use Rattle.cube.proofs.Count.{below-suc}
+use Rattle.cube.proofs.Search.{least-is}
 use Rattle.cube.proofs.Cube.{dist-self, dist-zero}
 use Rattle.scans.specs.Scans.{firstScan, forward, lowest, noScan, scanAt, scanOf, spare, suits, takes}
 use Rattle.route.specs.Helpers.{across, inSet, chosen}

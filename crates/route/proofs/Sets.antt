@@ -15,7 +15,7 @@ use lib.Pow.{pow-pos}
 use Rattle.cube.specs.Count.{least}
 use Rattle.cube.specs.Cube.{bit, flip, apart}
 use Rattle.cube.proofs.Bools.{and-both, beq-no, beq-yes, by-cases, xor-not}
-use Rattle.cube.proofs.Count.{Least, the-least, least-found, least-is, least-same, find}
+use Rattle.cube.proofs.Search.{Least, the-least, least-found, least-is, least-same, find}
 use Rattle.cube.proofs.Cube.{bit-low, bit-suc, bit-none, bit-xor, bit-flip-other, bits-same}
 use Rattle.route.specs.Helpers.{inSet}
 use Rattle.scans.specs.Scans.{forward, spare, scanOf, suits}

@@ -12,7 +12,7 @@ use lib.Dec.{leb}
 use lib.ListN.{replicate, set}
 use Rattle.cube.specs.Cube.{flip}
 use Rattle.cube.specs.Tables.{tab}
-use Rattle.cube.proofs.Count.{least-is}
+use Rattle.cube.proofs.Search.{least-is}
 use Rattle.cube.proofs.Cube.{flip-lt}
 use Rattle.cube.proofs.Front.{front, front-zero, front-zeros, front-write}
 use Rattle.route.specs.Helpers.{walkOrRefusal}

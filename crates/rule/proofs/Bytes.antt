@@ -8,7 +8,7 @@ use native.Mathlib.Omega.{arith}
 use Rattle.cube.specs.Count.{some}
 use Rattle.cube.specs.Cube.{flip}
 use Rattle.cube.proofs.Bools.{either, clash}
-use Rattle.cube.proofs.Count.{some-found, none-some}
+use Rattle.cube.proofs.Search.{some-found, none-some}
 use Rattle.rule.specs.Rule.{labelOf}
 
 module _ (n : ℕ) (F : ℕ → Bool) (byte : ℕ → ℕ) (S : ℕ → Bool) where

@@ -10,7 +10,8 @@ use borrow.Author.Tests.{ltb-true, ltb-false, eqb-true, eqb-false, eq-eqb, not-t
 use Rattle.cube.specs.Count.{count}
 use Rattle.cube.specs.Cube.{flip}
 use Rattle.cube.proofs.Bools.{either, clash, is-false, and-true, or-true}
-use Rattle.cube.proofs.Count.{count-bound, count-le, count-same, count-sum, count-none, none-counted, find, the-least, least-is}
+use Rattle.cube.proofs.Count.{count-bound, count-le, count-same, count-sum, count-none, none-counted}
+use Rattle.cube.proofs.Search.{find, the-least, least-is}
 use Rattle.cube.proofs.Tables.{nodes-few}
 use Rattle.rule.specs.Rounds.{Rested}
 use Rattle.rule.specs.Rule.{meets, newly, marked, quiet, working, rounds}

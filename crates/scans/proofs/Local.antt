@@ -2,7 +2,7 @@
 use mathlib.Core.Path.{_≡_}
 use Prim.Native.Nat.{ℕ, _<_}
 use lib.Dec.{ltb}
-use Rattle.cube.proofs.Count.{least-same}
+use Rattle.cube.proofs.Search.{least-same}
 use Rattle.scans.specs.Scans.{firstScan, lowest, noScan, suits, takes}
 
 module _ (n c d own : ℕ) (near near′ : ℕ → ℕ) (same : (i : ℕ) → i < n → near i ≡ near′ i) where

@@ -8,7 +8,7 @@ use lib.Dec.{leb, ltb}
 use borrow.Author.Tests.{ltb-true, ltb-false, leb-true, leb-false}
 use Rattle.cube.specs.Cube.{flip, apart, dist}
 use Rattle.cube.proofs.Bools.{beq-same, beq-true, clash, and-true}
-use Rattle.cube.proofs.Count.{Least, the-least}
+use Rattle.cube.proofs.Search.{Least, the-least}
 use Rattle.scans.specs.Picks.{Misses, NonePicks, Picks, firstScanAt, lowestAt, takesAt}
 use Rattle.scans.specs.Scans.{Scan, firstScan, lowest, noScan, scanAt, suits, takes}
 

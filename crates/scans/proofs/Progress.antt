@@ -67,8 +67,9 @@ module _ (n : ℕ) (lab : ℕ → ℕ) (G : Good n lab) (d : ℕ) (hd : d < 2 ^ 
         no e = let r = safe-step n lab G c d hc hd e h in omega (arith, r .3, miss n lab c d 1 (r .0) (m1 (r .0) (r .1)) refl (r .2))
 
     -- a forward scan and a spare one that take nothing: every neighbour has a higher label than both ask for
-    both-miss : (s t b : ℕ) → scanHere n lab c d s .side ≡ forward → scanHere n lab c d s .allowed ≡ true → b ≤ scanHere n lab c d s .top → scanHere n lab c d t .side ≡ spare
-        → scanHere n lab c d t .allowed ≡ true → b ≤ scanHere n lab c d t .top → Misses n lab c d s → Misses n lab c d t → (i : ℕ) → i < n → b < lab (flip i c)
+    both-miss : (s t b : ℕ) → scanHere n lab c d s .side ≡ forward → scanHere n lab c d s .allowed ≡ true → b ≤ scanHere n lab c d s .top
+        → scanHere n lab c d t .side ≡ spare → scanHere n lab c d t .allowed ≡ true → b ≤ scanHere n lab c d t .top
+        → Misses n lab c d s → Misses n lab c d t → (i : ℕ) → i < n → b < lab (flip i c)
     both-miss s t b fs os bs ft ot bt ms mt i hi =
         ⊎-elim
         (λ (a : apart i c d ≡ true). omega (arith, miss n lab c d s i (ms i hi) os (a ∙ sym fs)))

@@ -11,7 +11,8 @@ use lib.Dec.{leb, eqb}
 use borrow.Author.Tests.{leb-false, eqb-true, eqb-false}
 use Rattle.cube.specs.Cube.{flip, apart, dist}
 use Rattle.cube.proofs.Bools.{clash}
-use Rattle.cube.proofs.Count.{pigeon, find}
+use Rattle.cube.proofs.Count.{pigeon}
+use Rattle.cube.proofs.Search.{find}
 use Rattle.rule.specs.Good.{Good}
 use Rattle.cube.proofs.Cube.{flip-lt, flip-flip, apart-same, apart-other, dist-count, dist-zero, dist-fall, neighbour}
 

@@ -12,7 +12,7 @@ use Rattle.cube.specs.Cube.{apart, dist, flip}
 use Rattle.cube.specs.Refusal.{first}
 use Rattle.cube.specs.Tables.{highest, isDimension}
 use Rattle.cube.proofs.Bools.{either, is-false}
-use Rattle.cube.proofs.Count.{find, some-none}
+use Rattle.cube.proofs.Search.{find, some-none}
 use Rattle.cube.proofs.Cube.{flip-lt}
 use Rattle.cube.proofs.Front.{length-tab, getD-tab}
 use Rattle.rule.specs.Cabinet.{Cabinet, labelsOf, out}

@@ -10,7 +10,8 @@ use lib.Dec.{ltb}
 use borrow.Author.Tests.{ltb-true, ltb-false}
 use Rattle.cube.specs.Cube.{flip, apart, dist}
 use Rattle.cube.proofs.Bools.{either, clash}
-use Rattle.cube.proofs.Count.{count-bound, Least, the-least}
+use Rattle.cube.proofs.Count.{count-bound}
+use Rattle.cube.proofs.Search.{Least, the-least}
 use Rattle.cube.proofs.Cube.{dist-count, dist-self, dist-zero, dist-fall, dist-rise}
 use Rattle.rule.specs.Good.{Good}
 use Rattle.scans.specs.Progress.{GoodProgress, Inside, Progress, rank}

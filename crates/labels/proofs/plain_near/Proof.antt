@@ -7,7 +7,7 @@ use borrow.Author.Count.{below-more}
 use borrow.Author.Tests.{eq-eqb, ne-eqb}
 use Rattle.cube.specs.Cube.{flip}
 use Rattle.cube.specs.Tables.{labelIn}
-use Rattle.cube.proofs.Count.{some-hit, some-none}
+use Rattle.cube.proofs.Search.{some-hit, some-none}
 use Rattle.cube.proofs.Cube.{flip-lt}
 use Rattle.labels.specs.Passes.{plainIn}
 use Rattle.labels.proofs.plain_near.Statement.{statement}

@@ -14,7 +14,7 @@ use lib.Pow.{pow-lt}
 use Rattle.cube.specs.Count.{largest}
 use Rattle.cube.specs.Cube.{flip}
 use Rattle.cube.specs.Tables.{labelIn}
-use Rattle.cube.proofs.Count.{largest-next, largest-none}
+use Rattle.cube.proofs.Search.{largest-next, largest-none}
 use Rattle.cube.proofs.Front.{front, front-zero, front-zeros, front-write}
 use Rattle.route.specs.Helpers.{gathered}
 use Rattle.route.proofs.gather.Statement.{statement}

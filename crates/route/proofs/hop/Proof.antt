@@ -10,7 +10,7 @@ use Rattle.cube.specs.Count.{some}
 use Rattle.cube.specs.Cube.{flip}
 use Rattle.cube.specs.Refusal.{first}
 use Rattle.cube.specs.Tables.{highest, labelIn}
-use Rattle.cube.proofs.Count.{largest-above}
+use Rattle.cube.proofs.Search.{largest-above}
 use Rattle.route.specs.Helpers.{Placed, nearTests}
 use Rattle.route.specs.Hop.{hopRefusal}
 use Rattle.route.proofs.Gathered.{arrives, goes}

@@ -6,7 +6,7 @@ use borrow.Author.Needs.{needs}
 use lib.ListN.{length}
 use Rattle.cube.specs.Count.{largest}
 use Rattle.cube.specs.Tables.{labelIn}
-use Rattle.cube.proofs.Count.{largest-next, largest-none}
+use Rattle.cube.proofs.Search.{largest-next, largest-none}
 use Rattle.route.proofs.walks.largest.Statement.{statement}
 use Rattle.route.proofs.walks.largest.Tie as tie
 

@@ -10,7 +10,7 @@ use lib.ListN.{length}
 use Rattle.cube.specs.Count.{some}
 use Rattle.cube.specs.Refusal.{first}
 use Rattle.cube.specs.Tables.{highest, labelIn}
-use Rattle.cube.proofs.Count.{largest-above}
+use Rattle.cube.proofs.Search.{largest-above}
 use Rattle.route.specs.Helpers.{Placed, startRefusal, tableTests}
 use Rattle.route.proofs.Refusals.{placed, start-misplaced, start-placed}
 use Rattle.route.proofs.walks.start_refusal.Statement.{statement}
