@@ -20,7 +20,7 @@ KEPT = {".text", ".section", ".p2align", ".byte", ".short", ".long", ".quad", ".
 
 
 def plain(line):
-    """The line with each quoted name, as "route::chosen", written as an identifier."""
+    """The line with each quoted name, as "hop::chosen", written as an identifier."""
     if line.split(None, 1)[0] in (".section", ".ascii", ".asciz", ".file", ".ident"):
         return line
     return re.sub(r'"([^"]*)"', lambda name: re.sub(r"[^A-Za-z0-9_]", "_", name.group(1)), line)

@@ -16,13 +16,13 @@ use Rattle.rule.specs.Cabinet.{Cabinet}
 use Rattle.rule.proofs.Cabinet.{rounds-few}
 use Rattle.labels.specs.Labelling as L
 use Rattle.labels.proofs.Refusal.{fitting, refusal-le}
-use Rattle.route.specs.Hop as H
-use Rattle.route.specs.Walk as W
-use Rattle.route.specs.declared.Decision.{Decision}
-use Rattle.route.specs.declared.Decision.the-variants.{Deliver, Hop, Halted}
-use Rattle.route.specs.declared.Walked.{Walked}
-use Rattle.route.proofs.Local.{hop-dim}
-use Rattle.route.proofs.Refusals.{hop-good}
+use Rattle.hop.specs.Hop as H
+use Rattle.walk.specs.Walk as W
+use Rattle.hop.specs.declared.Decision.{Decision}
+use Rattle.hop.specs.declared.Decision.the-variants.{Deliver, Hop, Halted}
+use Rattle.walk.specs.declared.Walked.{Walked}
+use Rattle.hop.proofs.Local.{hop-dim}
+use Rattle.hop.proofs.Refusals.{hop-good}
 use Rattle.hcube.specs.Answers.{hasRow, rowAfter, rowByte}
 use Rattle.hcube.specs.Fits.{HopFits, LabelFits, RowFits, WalkFits}
 

@@ -9,12 +9,12 @@ use Rattle.labels.specs.Labelling as L
 use Rattle.labels.specs.declared.Labelled.{Labelled}
 use Rattle.notice.specs.Notice as N
 use Rattle.notice.specs.declared.Noticed.{Noticed}
-use Rattle.route.specs.Hop as H
-use Rattle.route.specs.Walk as W
-use Rattle.route.specs.declared.Ending.{Ending}
-use Rattle.route.specs.declared.Ending.the-variants as ending
-use Rattle.route.specs.declared.Hopped.{Hopped}
-use Rattle.route.specs.declared.Walked.{Walked}
+use Rattle.hop.specs.Hop as H
+use Rattle.walk.specs.Walk as W
+use Rattle.walk.specs.declared.Ending.{Ending}
+use Rattle.walk.specs.declared.Ending.the-variants as ending
+use Rattle.hop.specs.declared.Hopped.{Hopped}
+use Rattle.walk.specs.declared.Walked.{Walked}
 
 -- one number for the refusal, the kind and the value. An accepted answer has refusal 0; a refusal has kind 0 and value 0
 abbrev pub packed : (refusal kind value : ℕ) → ℕ

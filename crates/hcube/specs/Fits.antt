@@ -5,10 +5,10 @@ use mathlib.Core.Path.{_≡_}
 use Prim.Native.Nat.{ℕ, _<_}
 use Rattle.labels.specs.Labelling as L
 use Rattle.labels.specs.declared.Labelled.{Labelled}
-use Rattle.route.specs.Hop as H
-use Rattle.route.specs.Walk as W
-use Rattle.route.specs.declared.Hopped.{Hopped}
-use Rattle.route.specs.declared.Walked.{Walked}
+use Rattle.hop.specs.Hop as H
+use Rattle.walk.specs.Walk as W
+use Rattle.hop.specs.declared.Hopped.{Hopped}
+use Rattle.walk.specs.declared.Walked.{Walked}
 use Rattle.hcube.specs.Answers.{hasRow}
 
 abbrev pub LabelFits : Labelled → Type 0

@@ -6,17 +6,17 @@ ghost use Rattle.hcube.specs.Answers.{hasRow, hopNumber, labelNumber, no
 ghost use Rattle.hcube.specs.Fits.{RowFits, WalkFits};
 ghost use Rattle.labels.specs.Labelling.{labelled, labelsAfter};
 ghost use Rattle.notice.specs.Notice.{noticed, tableAfter};
-ghost use Rattle.route.specs.Hop.{decisionKind, decisionValue, hopped};
-ghost use Rattle.route.specs.Walk.{rowBytes};
+ghost use Rattle.hop.specs.Hop.{decisionKind, decisionValue, hopped};
+ghost use Rattle.walk.specs.Walk.{rowBytes};
 ghost use Rattle.rule.specs.Cabinet.{cabinet};
 ghost use lib.ListN.{length};
 ghost use mathlib.Core.Path.{_≡_};
+use hop::Decision;
+use hop::Hopped;
 use labels::Labelled;
 use notice::Noticed;
-use route::Decision;
-use route::Ending;
-use route::Hopped;
-use route::Walked;
+use walk::Ending;
+use walk::Walked;
 
 // One number for the refusal, the kind and the value.
 fn pack(refusal: u32, kind: u32, value: usize) -> u32
@@ -56,7 +56,7 @@ fn pack_decision(x: Decision) -> u32
 pub extern "C" fn hcube_hop(n: u32, c: u32, d: u32, labels: &[u8]) -> u32
     ensures { λ r. ⌜ r ≡ hopNumber (hopped n c d (length (now (labels .entry))) (labelIn (now (labels .entry)))) ⌝ }
 {
-    let answer = route::hop(n as usize, c as usize, d as usize, labels);
+    let answer = hop::hop(n as usize, c as usize, d as usize, labels);
     match answer {
         Hopped::Refused(k) => pack(k, 0, 0),
         Hopped::Decided(x) => pack_decision(x),
@@ -130,7 +130,7 @@ pub extern "C" fn hcube_walk(n: u32, s: u32, d: u32, labels: &[u8], row: &mut [u
     ensures answer { λ r. ⌜ r ≡ walkNumber (walkedBy n s d (now (labels .entry)) (now (row .entry))) ⌝ }
     ensures row { λ r. ⌜ now (row .exit) ≡ rowAfter (walkedBy n s d (now (labels .entry)) (now (row .entry))) (now (row .entry)) ⌝ }
 {
-    let walked = route::walk_for(n as usize, s as usize, d as usize, labels, row.len());
+    let walked = walk::walk_for(n as usize, s as usize, d as usize, labels, row.len());
     write_row(walked, row);
     pack_walk(walked)
 }

@@ -12,8 +12,8 @@ use labels::Labelled;
 use libc::STDIN_FILENO;
 use libc::STDOUT_FILENO;
 use notice::Noticed;
-use route::Ending;
-use route::Walked;
+use walk::Ending;
+use walk::Walked;
 
 fn say(text: &[u8]) {
     io::write_all(STDOUT_FILENO, text);
@@ -94,7 +94,7 @@ fn say_walked(walked: Walked) {
 fn say_pair(n: usize, s: usize, d: usize, labels: &[u8]) {
     say_number(s);
     say_field(b" ", d);
-    say_walked(route::walk(n, s, d, labels));
+    say_walked(walk::walk(n, s, d, labels));
 }
 
 // One pair, and the place behind it: the end of the bytes where a number of it is refused, so that nothing follows.

@@ -20,12 +20,12 @@ use Rattle.notice.specs.Notice.{addressesOf, noticed, refusalOf, tableAfter}
 use Rattle.notice.specs.declared.Noticed.{Noticed}
 use Rattle.notice.specs.declared.Noticed.the-variants as noticed
 use Rattle.notice.proofs.Laws.{notice-laws}
-use Rattle.route.specs.Hop.{hopped}
-use Rattle.route.specs.Walk.{endingOf, last, refused, row, rowBytes, stops, walkFrom, walkRefusal, walkTests, walked}
-use Rattle.route.specs.declared.Decision.{Decision}
-use Rattle.route.specs.declared.Decision.the-variants.{Deliver, Hop, Halted}
-use Rattle.route.specs.declared.Ending.the-variants as ending
-use Rattle.route.specs.declared.Walked.{Walked}
+use Rattle.hop.specs.Hop.{hopped}
+use Rattle.walk.specs.Walk.{endingOf, last, refused, row, rowBytes, stops, walkFrom, walkRefusal, walkTests, walked}
+use Rattle.hop.specs.declared.Decision.{Decision}
+use Rattle.hop.specs.declared.Decision.the-variants.{Deliver, Hop, Halted}
+use Rattle.walk.specs.declared.Ending.the-variants as ending
+use Rattle.walk.specs.declared.Walked.{Walked}
 use Rattle.promises.specs.Demand1.{Demand1}
 
 labels-kept : (K : Cabinet) (before : List ℕ) (k : ℕ) → labelled K (length before) ≡ labelled.Refused k → labelsAfter K before ≡ before

@@ -11,9 +11,9 @@ use Rattle.rule.specs.Cabinet.{Cabinet, labelsOf, roundsOf}
 use Rattle.rule.specs.Rule.{meets, newly, marked, quiet, working, rounds, safe, labelOf, label}
 use Rattle.scans.specs.Scans.{suits, takes, lowest, firstScan}
 use Rattle.labels.specs.Labelling.{labelRefusal, labelled}
-use Rattle.route.specs.Hop.{answer, decide, hop}
-use Rattle.route.specs.Walk.{onto, stops, spot, turn, hops, last, row, rowBytes, refused, walkFrom, walkRefusal, walked}
-use Rattle.route.specs.declared.Walked.{Walked}
+use Rattle.hop.specs.Hop.{answer, decide, hop}
+use Rattle.walk.specs.Walk.{onto, stops, spot, turn, hops, last, row, rowBytes, refused, walkFrom, walkRefusal, walked}
+use Rattle.walk.specs.declared.Walked.{Walked}
 use Rattle.theorems.specs.Words.{walkOf}
 use Rattle.promises.specs.Worked.{k4, q3, those, visited, Worked}
 use lib.ListN.{length}

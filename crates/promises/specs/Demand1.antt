@@ -12,10 +12,10 @@ use Rattle.labels.specs.declared.Labelled.the-variants as labelled
 use Rattle.notice.specs.Addresses.{withBits}
 use Rattle.notice.specs.Notice.{addressesOf, noticed, refusalOf, tableAfter}
 use Rattle.notice.specs.declared.Noticed.the-variants as noticed
-use Rattle.route.specs.Hop.{hop, hopRefusal, hopped}
-use Rattle.route.specs.Walk.{row, rowBytes, walkFrom, walkRefusal, walked}
-use Rattle.route.specs.declared.Ending.the-variants as ending
-use Rattle.route.specs.declared.Hopped.the-variants as hopped
+use Rattle.hop.specs.Hop.{hop, hopRefusal, hopped}
+use Rattle.walk.specs.Walk.{row, rowBytes, walkFrom, walkRefusal, walked}
+use Rattle.walk.specs.declared.Ending.the-variants as ending
+use Rattle.hop.specs.declared.Hopped.the-variants as hopped
 
 pub record Demand1 : Type 0 where
   -- a refusal writes nothing into any buffer it was lent

@@ -15,10 +15,10 @@ use Rattle.labels.specs.declared.Labelled.{Labelled}
 use Rattle.notice.specs.Notice.{noticed, tableAfter, tailAt}
 use Rattle.notice.specs.declared.Noticed.{Noticed}
 use Rattle.reader.specs.Reader.{placeAfter}
-use Rattle.route.specs.Hop.{hopped}
-use Rattle.route.specs.Walk.{rowBytes, walked}
-use Rattle.route.specs.declared.Hopped.{Hopped}
-use Rattle.route.specs.declared.Walked.{Walked}
+use Rattle.hop.specs.Hop.{hopped}
+use Rattle.walk.specs.Walk.{rowBytes, walked}
+use Rattle.hop.specs.declared.Hopped.{Hopped}
+use Rattle.walk.specs.declared.Walked.{Walked}
 
 -- at most one r has P; at most one r and after have P
 abbrev pub One : {A : Type 0} → (A → Type 0) → Type 0
@@ -38,9 +38,9 @@ pub record Settled : Type 0 where
   pub labels-label :
       (K : Cabinet) (labels : List ℕ)
       → OneEach (λ (r : Labelled) (after : List ℕ). (r ≡ labelled K (length labels)) × (after ≡ labelsAfter K labels))
-  pub route-hop : (n c d : ℕ) (labels : List ℕ) → One (λ (r : Hopped). r ≡ hopped n c d (length labels) (labelIn labels))
-  pub route-walk : (n s d : ℕ) (labels : List ℕ) → One (λ (r : Walked). r ≡ walked n s d (length labels) rowBytes (labelIn labels))
-  pub route-walk-for : (n s d : ℕ) (labels : List ℕ) (room : ℕ) → One (λ (r : Walked). r ≡ walked n s d (length labels) room (labelIn labels))
+  pub hop-hop : (n c d : ℕ) (labels : List ℕ) → One (λ (r : Hopped). r ≡ hopped n c d (length labels) (labelIn labels))
+  pub walk-walk : (n s d : ℕ) (labels : List ℕ) → One (λ (r : Walked). r ≡ walked n s d (length labels) rowBytes (labelIn labels))
+  pub walk-walk-for : (n s d : ℕ) (labels : List ℕ) (room : ℕ) → One (λ (r : Walked). r ≡ walked n s d (length labels) room (labelIn labels))
   -- the reader's bytes are the caller's own reference, not only equal bytes
   pub reader-new : (bytes : RefT (List ℕ)) → OneEach (λ (r : RefT (List ℕ)) (at : ℕ). (r ≡ bytes) × (at ≡ 0))
   -- the answer, and the reader afterwards: the same bytes, and the place

@@ -9,9 +9,9 @@ use Rattle.rule.specs.Cabinet.{Cabinet, cabinet, out}
 use Rattle.rule.specs.Rule.{marked, safe}
 use Rattle.labels.specs.Labelling.{labelled}
 use Rattle.labels.specs.declared.Labelled.the-variants.{Rounds}
-use Rattle.route.specs.declared.Ending.{Ending}
-use Rattle.route.specs.declared.Ending.the-variants.{Delivered, Halted}
-use Rattle.route.specs.declared.Walked.{Walked}
+use Rattle.walk.specs.declared.Ending.{Ending}
+use Rattle.walk.specs.declared.Ending.the-variants.{Delivered, Halted}
+use Rattle.walk.specs.declared.Walked.{Walked}
 use Rattle.theorems.specs.Words.{labelAt, walkOf}
 
 abbrev pub k4 : Cabinet

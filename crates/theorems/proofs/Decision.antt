@@ -11,7 +11,7 @@ use Rattle.cube.proofs.Bools.{either}
 use Rattle.scans.specs.Picks.{firstScanAt, lowestAt}
 use Rattle.scans.specs.Scans.{noScan}
 use Rattle.scans.proofs.Picking.{first-picks, none-picks}
-use Rattle.route.specs.Hop.{answer, decide, hop}
+use Rattle.hop.specs.Hop.{answer, decide, hop}
 use Rattle.theorems.specs.Picked.{Picked, arrived, took, stopped}
 
 module _ (n : ℕ) (lab : ℕ → ℕ) (c d : ℕ) where

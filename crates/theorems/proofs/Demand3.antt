@@ -20,13 +20,13 @@ use Rattle.rule.specs.Good.{Good}
 use Rattle.rule.proofs.Cabinet.{label-bytes, labels-length, table-good}
 use Rattle.scans.specs.Progress.{Inside}
 use Rattle.labels.proofs.Refusal.{fitting}
-use Rattle.route.specs.Walk.{endingOf, spot, turn, hops, last, row, rowBytes, stops, walkFrom, walkRefusal, walked}
-use Rattle.route.specs.declared.Decision.{Decision}
-use Rattle.route.specs.declared.Decision.the-variants.{Deliver, Halted}
-use Rattle.route.specs.declared.Ending.{Ending}
-use Rattle.route.specs.declared.Ending.the-variants as ending
-use Rattle.route.specs.declared.Walked.{Walked}
-use Rattle.route.proofs.Steps.{spot-zero}
+use Rattle.walk.specs.Walk.{endingOf, spot, turn, hops, last, row, rowBytes, stops, walkFrom, walkRefusal, walked}
+use Rattle.hop.specs.declared.Decision.{Decision}
+use Rattle.hop.specs.declared.Decision.the-variants.{Deliver, Halted}
+use Rattle.walk.specs.declared.Ending.{Ending}
+use Rattle.walk.specs.declared.Ending.the-variants as ending
+use Rattle.walk.specs.declared.Walked.{Walked}
+use Rattle.walk.proofs.Steps.{spot-zero}
 use Rattle.theorems.specs.Demand3.{Stepped, Arrives, Stuck, Demand3}
 use Rattle.theorems.specs.Words.{Accepted, Works, labelAt, SomeSafe, walkOf, place}
 use Rattle.theorems.proofs.Demand2.{faulty, works}

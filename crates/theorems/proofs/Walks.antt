@@ -16,11 +16,11 @@ use Rattle.cube.proofs.Cube.{dist-count, dist-self, dist-zero, dist-fall, dist-
 use Rattle.rule.specs.Good.{Good}
 use Rattle.scans.specs.Progress.{GoodProgress, Inside, Progress, rank}
 use Rattle.scans.proofs.Progress.{rank-le, good-progress}
-use Rattle.route.specs.Hop.{hop}
-use Rattle.route.specs.Walk.{onto, stops, spot, turn, hops, last}
-use Rattle.route.specs.declared.Decision.{Decision}
-use Rattle.route.specs.declared.Decision.the-variants.{Deliver, Hop, Halted}
-use Rattle.route.proofs.Steps.{spot-zero}
+use Rattle.hop.specs.Hop.{hop}
+use Rattle.walk.specs.Walk.{onto, stops, spot, turn, hops, last}
+use Rattle.hop.specs.declared.Decision.{Decision}
+use Rattle.hop.specs.declared.Decision.the-variants.{Deliver, Hop, Halted}
+use Rattle.walk.proofs.Steps.{spot-zero}
 use Rattle.theorems.specs.Picked.{Picked, arrived, took, stopped}
 use Rattle.theorems.proofs.Decision.{picked}
 

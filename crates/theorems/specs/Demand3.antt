@@ -6,10 +6,10 @@ use mathlib.Core.Path.{_≡_}
 use Prim.Native.Nat.{ℕ, _+_, _*_, _≤_, _<_}
 use Rattle.cube.specs.Cube.{apart, dist, flip}
 use Rattle.rule.specs.Cabinet.{Cabinet, out}
-use Rattle.route.specs.Hop.{hop}
-use Rattle.route.specs.declared.Decision.the-variants.{Deliver, Hop, Halted}
-use Rattle.route.specs.declared.Ending.the-variants as ending
-use Rattle.route.specs.declared.Walked.{Walked}
+use Rattle.hop.specs.Hop.{hop}
+use Rattle.hop.specs.declared.Decision.the-variants.{Deliver, Hop, Halted}
+use Rattle.walk.specs.declared.Ending.the-variants as ending
+use Rattle.walk.specs.declared.Walked.{Walked}
 use Rattle.theorems.specs.Words.{SomeSafe, Works, labelAt, place, walkOf}
 
 -- the hop count is the number of steps that ROUTE takes: the row begins at the source, each place is the decision's own at the place before,

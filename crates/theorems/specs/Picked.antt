@@ -4,8 +4,8 @@ use mathlib.Core.Path.{_≡_}
 use Prim.Native.Nat.{ℕ, _<_}
 use Rattle.cube.specs.Cube.{dist}
 use Rattle.scans.specs.Picks.{NonePicks, Picks}
-use Rattle.route.specs.Hop.{hop}
-use Rattle.route.specs.declared.Decision.the-variants.{Deliver, Hop, Halted}
+use Rattle.hop.specs.Hop.{hop}
+use Rattle.hop.specs.declared.Decision.the-variants.{Deliver, Hop, Halted}
 
 -- deliver at distance 0; otherwise hop across the dimension that a scan picks, and halted where none picks one
 pub data Picked (n : ℕ) (lab : ℕ → ℕ) (c d : ℕ) : Type 0 where

@@ -6,8 +6,8 @@ use lib.ListN.{getD, length}
 use Rattle.cube.specs.Tables.{labelIn}
 use Rattle.rule.specs.Cabinet.{Cabinet, labelsOf, out}
 use Rattle.labels.specs.Labelling.{labelRefusal}
-use Rattle.route.specs.Walk.{rowBytes, walked}
-use Rattle.route.specs.declared.Walked.{Walked}
+use Rattle.walk.specs.Walk.{rowBytes, walked}
+use Rattle.walk.specs.declared.Walked.{Walked}
 
 -- labelling accepts the cabinet, with a label table of the right length
 abbrev pub Accepted : (K : Cabinet) → Type 0

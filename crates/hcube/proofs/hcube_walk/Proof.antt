@@ -2,7 +2,7 @@
 use mathlib.Core.Path.{ap, _∙_}
 use lib.ListN.{length}
 use Rattle.cube.specs.Tables.{labelIn}
-use Rattle.route.specs.declared.Walked.{Walked}
+use Rattle.walk.specs.declared.Walked.{Walked}
 use Rattle.hcube.specs.Answers.{rowAfter, walkNumber}
 use Rattle.hcube.proofs.Small.{row-fits, walk-small}
 use borrow.Author.Needs.{needs}

@@ -3,8 +3,8 @@ use mathlib.Core.Path.{sym, ap, _∙_}
 use Prim.Native.Nat.{ℕ}
 use native.Mathlib.Omega.{arith}
 use borrow.Author.Needs.{needs}
-use Rattle.route.specs.Hop.{decisionKind, decisionValue}
-use Rattle.route.specs.declared.Decision.{Decision}
+use Rattle.hop.specs.Hop.{decisionKind, decisionValue}
+use Rattle.hop.specs.declared.Decision.{Decision}
 use Rattle.hcube.specs.Answers.{packed}
 use Rattle.hcube.proofs.pack_decision.Statement.{statement}
 use Rattle.hcube.proofs.pack_decision.Tie as tie

@@ -2,9 +2,9 @@
 use mathlib.Core.Path.{sym, ap, _∙_}
 use Prim.Native.Nat.{ℕ}
 use native.Mathlib.Omega.{arith}
-use Rattle.route.specs.Walk.{refusalOf, kindOf}
-use Rattle.route.specs.declared.Ending.{Ending}
-use Rattle.route.specs.declared.Walked.{Walked}
+use Rattle.walk.specs.Walk.{refusalOf, kindOf}
+use Rattle.walk.specs.declared.Ending.{Ending}
+use Rattle.walk.specs.declared.Walked.{Walked}
 use borrow.Author.Needs.{needs}
 use Rattle.hcube.specs.Answers.{packed}
 use Rattle.hcube.proofs.pack_walk.Statement.{statement}

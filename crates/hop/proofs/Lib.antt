@@ -1,0 +1,5 @@
+pub mod Refusals
+pub mod Local
+pub mod Sets
+pub mod Scanning
+pub mod Gathered

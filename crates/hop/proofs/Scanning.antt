@@ -1,0 +1,88 @@
+-- The scans as the code makes them, one after the other: a scan that finds nothing is passed, and the first that finds a dimension picks it.
+-- No scan has the number 0, so scan 1 is the first.
+use mathlib.Core.Path.{_≡_, refl, sym, ap, _∙_}
+use mathlib.Core.Logic.{⊎-elim, _≢_}
+use mathlib.Core.Bool.{true, false, _||_}
+use Prim.Native.Nat.{ℕ, suc, _-_, _^_, _≤_, _<_}
+use native.Mathlib.Omega.{arith}
+use lib.Arith.{lt-one}
+use lib.Bits.{bitXor}
+use lib.Dec.{eqb, leb, ltb}
+use borrow.Author.Tests.{ne-eqb, lt-ltb, le-ltb}
+use Rattle.cube.specs.Count.{least}
+use Rattle.cube.specs.Cube.{dist}
+use Rattle.cube.proofs.Count.{below-suc}
+use Rattle.cube.proofs.Search.{least-is}
+use Rattle.cube.proofs.Cube.{dist-self, dist-zero}
+use Rattle.scans.specs.Scans.{firstScan, forward, lowest, noScan, scanAt, scanOf, spare, suits, takes}
+use Rattle.hop.specs.Helpers.{across, inSet, chosen}
+use Rattle.hop.specs.Hop.{answer, decide}
+use Rattle.hop.specs.declared.Decision.the-variants.{Deliver}
+use Rattle.hop.proofs.Sets.{least-none, forward-set, spare-set}
+
+module _ (n c d own : ℕ) (near : ℕ → ℕ) where
+  -- ---- what a scan finds
+
+  -- one that takes no dimension
+  idle : (s : ℕ) → ((i : ℕ) → takes c d own near s i ≡ false) → lowest n c d own near s ≡ n
+  unfolding lowest
+  idle s f = least-none n (takes c d own near s) (λ i _. f i)
+
+  -- scan s by its row: it is allowed, and the set is the dimensions of its side
+  pub forward-scan : (s t : ℕ) → scanAt (dist c d) own s ≡ scanOf forward t true → least n (inSet (bitXor c d) near t) ≡ lowest n c d own near s
+  unfolding lowest takes
+  forward-scan s t e = forward-set n c d near t ∙ ap (λ z. least n (suits c d near z)) (sym e)
+
+  pub spare-scan : (s t : ℕ) → scanAt (dist c d) own s ≡ scanOf spare t true
+      → least n (inSet (bitXor (bitXor c d) (2 ^ n - 1)) near t) ≡ lowest n c d own near s
+  unfolding lowest takes
+  spare-scan s t e = spare-set n c d near t ∙ ap (λ z. least n (suits c d near z)) (sym e)
+
+  -- the third, by its test
+  pub third-open : (eqb own 2 || leb (dist c d) 2) ≡ true → least n (inSet (bitXor c d) near 2) ≡ lowest n c d own near 3
+  third-open e = forward-scan 3 2 (ap (scanOf forward 2) e)
+
+  pub third-shut : (eqb own 2 || leb (dist c d) 2) ≡ false → n ≡ lowest n c d own near 3
+  unfolding takes suits
+  third-shut e = sym (idle 3 (λ i. rw e))
+
+  -- ---- what is picked
+
+  -- the scans before s find nothing
+  abbrev pub Past : ℕ → Type 0
+  Past s = (t : ℕ) → t < s → n ≤ lowest n c d own near t
+
+  pub past-none : Past 1
+  unfolding takes suits
+  past-none t h = omega (arith, idle 0 (λ i. refl), ap (lowest n c d own near) (lt-one h))
+
+  -- scan s gives i: none, and the next one is due
+  pub pass : (s i : ℕ) → Past s → i ≡ lowest n c d own near s → n ≤ i → Past (suc s)
+  pass s i p e l t h = ⊎-elim (λ (k : t ≡ s). omega (arith, ap (lowest n c d own near) k)) (λ (k : t < s). p t k) (below-suc h)
+
+  first-at : (s : ℕ) → s ≤ noScan → Past s → (s < noScan → lowest n c d own near s < n) → firstScan n c d own near ≡ s
+  unfolding firstScan
+  first-at s h p g =
+      least-is noScan (λ t. ltb (lowest n c d own near t) n) s h (λ t l. le-ltb (lowest n c d own near t) n (p t l))
+      (λ l. lt-ltb (lowest n c d own near s) n (g l))
+
+  -- or a dimension, and that is picked
+  pub take : (s i : ℕ) → s < noScan → Past s → i ≡ lowest n c d own near s → i < n → record { scan = s; dimension = i } ≡ chosen n c d own near
+  unfolding chosen
+  take s i h p e l = rw (first-at s (omega arith) p (λ _. omega arith)) (ap (λ (j : ℕ). record { scan = s; dimension = j }) e)
+
+  -- all five find nothing
+  pub take-none : Past noScan → record { scan = noScan; dimension = n } ≡ chosen n c d own near
+  unfolding chosen takes suits
+  take-none p =
+      rw (first-at noScan (omega arith) p (λ l. absurd (omega arith))) (ap (λ (j : ℕ). record { scan = noScan; dimension = j }) (sym (idle noScan (λ i. refl))))
+
+  -- ---- the decision
+
+  pub deliver : c ≡ d → Deliver ≡ decide n c d own near
+  unfolding decide answer
+  deliver e = rw (e, dist-self)
+
+  pub decided : c < 2 ^ n → d < 2 ^ n → c ≢ d → across (chosen n c d own near) ≡ decide n c d own near
+  unfolding decide answer chosen across
+  decided hc hd far = rw (ne-eqb (dist c d) 0 (λ e. far (dist-zero n c d hc hd e)))

@@ -1,0 +1,83 @@
+-- `gather`: after i dimensions step is 2 ^ i, the first i places hold the labels of those neighbours, the others 0, and high is the largest of them.
+-- The measure is what is left of n.
+use mathlib.Core.Path.{_≡_, refl, ap, _∙_}
+use Prim.Native.Nat.{ℕ, _≤_, _-_, _^_}
+use native.Mathlib.Nat.{pow-suc}
+use native.Mathlib.Numerals.{add-one}
+use native.Mathlib.Omega.{arith}
+use borrow.Author.Needs.{needs}
+use borrow.Author.Tests.{lt-ltb, le-ltb}
+use lib.Bits.{bitXor, xor-lt}
+use lib.Dec.{ltb}
+use lib.ListN.{replicate}
+use lib.Pow.{pow-lt}
+use Rattle.cube.specs.Count.{largest}
+use Rattle.cube.specs.Cube.{flip}
+use Rattle.cube.specs.Tables.{labelIn}
+use Rattle.cube.proofs.Search.{largest-next, largest-none}
+use Rattle.cube.proofs.Front.{front, front-zero, front-zeros, front-write}
+use Rattle.hop.specs.Helpers.{gathered}
+use Rattle.hop.proofs.gather.Statement.{statement}
+use Rattle.hop.proofs.gather.Tie as tie
+
+abbrev Inv-loop : tie.InvT-loop
+Inv-loop n labels c near₀ high₀ step₀ i₀ near high step i =
+    (i ≤ n) × (step ≡ 2 ^ i) × (near ≡ front (λ k. labelIn labels (flip k c)) i (replicate 12 0)) × (high ≡ largest i (λ k. labelIn labels (flip k c)))
+
+abbrev μ-loop : tie.MeasureT-loop
+μ-loop n labels c near₀ high₀ step₀ i₀ near high step i = n - i
+
+loop-holds : tie.Need-loop-holds Inv-loop μ-loop
+loop-holds c = (omega arith, refl, c .before .pre .3 ∙ front-zero _ _, largest-none _)
+
+shared-slice-read-y : tie.Need-shared-slice-read-y Inv-loop μ-loop
+shared-slice-read-y c =
+    let l = c .before .before in
+    let s = l .before .before in
+    omega (arith, xor-lt (s .args .n) (s .args .c) (l .loop .step) (s .pre .1) (omega (arith, pow-lt {i = l .loop .i} {j = s .args .n} (omega arith))))
+
+element-write-near : tie.Need-element-write-near Inv-loop μ-loop
+element-write-near c = omega arith
+
+larger-requires : tie.Need-larger-requires Inv-loop μ-loop
+larger-requires c κs = search needs
+
+add-step : tie.Need-add-step Inv-loop μ-loop
+add-step c = omega (arith, pow-lt {i = c .before .before .before .loop .i} {j = 12} (omega arith))
+
+add-i : tie.Need-add-i Inv-loop μ-loop
+add-i c = omega arith
+
+loop-less : tie.Need-loop-less Inv-loop μ-loop
+loop-less c = omega arith
+
+loop-again : tie.Need-loop-again Inv-loop μ-loop
+unfolding labelIn flip
+loop-again c =
+    let l = c .before .before .before .loop in
+    let a = c .before .before .before .before .before .args in
+    let f : ℕ → ℕ = λ k. labelIn (a .labels .now) (flip k (a .c)) in
+    let e = ap (λ (x : ℕ). labelIn (a .labels .now) (bitXor (a .c) x)) (l .inv .1) in (
+      omega arith,
+      rw (add-one, pow-suc) (omega arith),
+      front-write f (l .i) (replicate 12 0) (l .near) _ (omega arith) (l .inv .2) e,
+      largest-next f (l .high) _ (l .i) (l .inv .3) (c .larger .ensures ∙ rw e),
+    )
+
+returns : tie.Need-returns Inv-loop μ-loop
+unfolding gathered
+returns c =
+    let s = c .before .before .before in
+    let n = s .args .n in
+    let l = c .before .loop in
+    let f : ℕ → ℕ = λ k. labelIn (s .args .labels .now) (flip k (s .args .c)) in
+    let e : l .i ≡ n = omega arith in (
+      l .inv .2 ∙ ap (λ (i : ℕ). front f i (replicate 12 0)) e
+          ∙ front-zeros f (λ i. ltb i n) n 12 (s .pre .0) (λ i h. lt-ltb i n h) (λ i h. le-ltb i n h),
+      l .inv .3 ∙ ap (λ (i : ℕ). largest i f) e,
+    )
+
+pub gather-spec : {M : Type 1} → statement M
+gather-spec =
+    tie.close
+    (tie.spec Inv-loop μ-loop loop-holds shared-slice-read-y element-write-near larger-requires add-step add-i loop-less loop-again returns)

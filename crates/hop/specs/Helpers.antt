@@ -1,0 +1,61 @@
+-- What the functions inside the crate answer, and what they may assume; the walk shares the refusals that need no label. No contract of a question cites
+-- these: proofs/Refusals.antt shows how the refusals of a hop are made of them, proofs/Scanning.antt how the decision is.
+use mathlib.Core.Bool.{Bool, cond, not, _&&_, _||_}
+use mathlib.Core.List.{List, [], _∷_}
+use mathlib.Core.Path.{_≡_}
+use Prim.Native.Nat.{ℕ, _^_, _<_, _≤_}
+use lib.Dec.{eqb, leb, ltb}
+use Rattle.cube.specs.Count.{some}
+use Rattle.cube.specs.Cube.{bit, flip}
+use Rattle.cube.specs.Refusal.{Test, first, _⇒_}
+use Rattle.cube.specs.Tables.{highest, isDimension, tab}
+use Rattle.scans.specs.Scans.{firstScan, lowest, noScan}
+use Rattle.hop.specs.declared.Choice.{Choice}
+use Rattle.hop.specs.declared.Decision.{Decision}
+use Rattle.hop.specs.declared.Decision.the-variants.{Hop, Halted}
+
+-- ---- the refusals, in two parts
+
+-- those that need no label, of nodes a and b and a label table of m bytes; `other` says that another lent buffer has a wrong length
+abbrev pub placeTests : (n a b m : ℕ) (other : Bool) → List Test
+placeTests n a b m other =
+    not (isDimension n) ⇒ 1
+    ∷ not (eqb m (2 ^ n)) ⇒ 2
+    ∷ other ⇒ 2
+    ∷ (leb (2 ^ n) a || leb (2 ^ n) b) ⇒ 5
+    ∷ []
+
+unfoldable pub placeRefusal : (n a b m : ℕ) (other : Bool) → ℕ
+placeRefusal n a b m other = first (placeTests n a b m other)
+
+-- what holds where none of them is given
+pub record Placed (n a b m : ℕ) : Type 0 where
+  pub small : n ≤ 12
+  pub sized : m ≡ 2 ^ n
+  pub first : a < 2 ^ n
+  pub second : b < 2 ^ n
+
+-- then those that c's label and its neighbours' give
+abbrev pub nearTests : (n own : ℕ) (near : ℕ → ℕ) → List Test
+nearTests n own near =
+    (ltb highest own || some n (λ i. ltb highest (near i))) ⇒ 4
+    ∷ eqb own 3 ⇒ 6
+    ∷ []
+
+-- ---- the decision
+
+-- the labels of c's n neighbours in twelve places, the others 0
+unfoldable pub gathered : (n : ℕ) (lab : ℕ → ℕ) (c : ℕ) → List ℕ
+gathered n lab c = tab 12 (λ i. cond (ltb i n) (lab (flip i c)) 0)
+
+-- dimension i is in the set, a number whose bits are the dimensions, and the label of the neighbour across it is at most top
+unfoldable pub inSet : (set : ℕ) (near : ℕ → ℕ) (top i : ℕ) → Bool
+inSet set near top i = bit i set && leb (near i) top
+
+-- what the scans pick
+unfoldable pub chosen : (n c d own : ℕ) (near : ℕ → ℕ) → Choice
+chosen n c d own near = record { scan = firstScan n c d own near; dimension = lowest n c d own near (firstScan n c d own near) }
+
+-- the decision away from the destination, by what they picked
+unfoldable pub across : Choice → Decision
+across p = cond (ltb (p .scan) noScan) (Hop (p .dimension)) Halted

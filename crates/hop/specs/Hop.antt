@@ -1,0 +1,71 @@
+-- One hop: the decision that Algorithm ROUTE takes at a node, and its refusals.
+-- The decision is a function of n, c, d, c's own label and the labels of its n neighbours, and of nothing else: `hop` takes these from the labels
+-- of all nodes. The question `hopped` is asked of any label table: m is its length, and lab x the byte of node x.
+use mathlib.Core.Bool.{cond, not, _||_}
+use mathlib.Core.List.{List, [], _∷_}
+use Prim.Native.Nat.{ℕ, _^_}
+use lib.Dec.{eqb, leb, ltb}
+use Rattle.cube.specs.Count.{some}
+use Rattle.cube.specs.Cube.{dist, flip}
+use Rattle.cube.specs.Refusal.{Test, first, _⇒_}
+use Rattle.cube.specs.Tables.{highest, isDimension}
+use Rattle.scans.specs.Scans.{firstScan, lowest, noScan}
+use Rattle.hop.specs.declared.Decision.{Decision}
+use Rattle.hop.specs.declared.Decision.the-variants.{Deliver, Hop, Halted}
+use Rattle.hop.specs.declared.Hopped.{Hopped}
+use Rattle.hop.specs.declared.Hopped.the-variants.{Decided, Refused}
+
+-- ---- the decision at c for the destination d. own is c's label, and near i the label of the neighbour across dimension i.
+
+-- at distance l, where scan s picked dimension i
+unfoldable pub answer : (l s i : ℕ) → Decision
+answer l s i = cond (eqb l 0) Deliver (cond (ltb s noScan) (Hop i) Halted)
+
+unfoldable pub decide : (n c d own : ℕ) (near : ℕ → ℕ) → Decision
+decide n c d own near = answer (dist c d) (firstScan n c d own near) (lowest n c d own near (firstScan n c d own near))
+
+-- the decision with the labels lab
+unfoldable pub hop : (n : ℕ) (lab : ℕ → ℕ) (c d : ℕ) → Decision
+hop n lab c d = decide n c d (lab c) (λ i. lab (flip i c))
+
+-- ---- the question
+
+-- the refusals in order
+abbrev pub hopTests : (n c d m : ℕ) (lab : ℕ → ℕ) → List Test
+hopTests n c d m lab =
+    not (isDimension n) ⇒ 1
+    ∷ not (eqb m (2 ^ n)) ⇒ 2
+    ∷ (leb (2 ^ n) c || leb (2 ^ n) d) ⇒ 5
+    ∷ (ltb highest (lab c) || some n (λ i. ltb highest (lab (flip i c)))) ⇒ 4
+    ∷ eqb (lab c) 3 ⇒ 6
+    ∷ []
+
+unfoldable pub hopRefusal : (n c d m : ℕ) (lab : ℕ → ℕ) → ℕ
+hopRefusal n c d m lab = first (hopTests n c d m lab)
+
+-- the answer: the decision, or the refusal
+unfoldable pub hopped : (n c d m : ℕ) (lab : ℕ → ℕ) → Hopped
+hopped n c d m lab = cond (eqb (hopRefusal n c d m lab) 0) (Decided (hop n lab c d)) (Refused (hopRefusal n c d m lab))
+
+-- document 01's numbers for the cases
+abbrev pub decisionKind : Decision → ℕ
+decisionKind Deliver = 0
+decisionKind (Hop i) = 1
+decisionKind Halted = 2
+
+abbrev pub decisionValue : Decision → ℕ
+decisionValue Deliver = 0
+decisionValue (Hop i) = i
+decisionValue Halted = 0
+
+abbrev pub refusalOf : Hopped → ℕ
+refusalOf (Decided x) = 0
+refusalOf (Refused k) = k
+
+abbrev pub kindOf : Hopped → ℕ
+kindOf (Decided x) = decisionKind x
+kindOf (Refused k) = 0
+
+abbrev pub valueOf : Hopped → ℕ
+valueOf (Decided x) = decisionValue x
+valueOf (Refused k) = 0

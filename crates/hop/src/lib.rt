@@ -1,0 +1,200 @@
+// One hop: the decision at a node. `hop` is the question: it takes any numbers and bytes, and tests them. `place_refusal` and `hop_at` are lent to the
+// walk, which tests its whole table once; the other functions are theirs.
+ghost use Prim.Native.Nat.{_<_, _≤_, _^_};
+ghost use Rattle.cube.specs.Count.{largest, least};
+ghost use Rattle.cube.specs.Cube.{flip};
+ghost use Rattle.cube.specs.Tables.{labelIn};
+ghost use Rattle.hop.specs.Helpers.{Placed, across, chosen, gathered, inSet, placeRefusal};
+ghost use Rattle.hop.specs.Hop as spec;
+ghost use Rattle.scans.specs.Scans as scans;
+ghost use lib.ListN.{getD, length, replicate};
+ghost use mathlib.Core.Path.{_≡_};
+use cube::distance;
+use cube::is_dimension;
+use cube::larger;
+use cube::nodes;
+
+const HIGHEST: u8 = 3; // the highest label
+
+const NO_SCAN: usize = 6; // the scans are 1 to 5
+
+// The decision at a node.
+pub enum Decision {
+    Deliver,
+    Hop(usize),
+    Halted,
+}
+
+pub enum Hopped {
+    Decided(Decision),
+    Refused(u32),
+}
+
+// What the scans pick: the scan, and its dimension.
+struct Choice {
+    scan: usize,
+    dimension: usize,
+}
+
+// The refusals that need no label, 0 for none: of two nodes, a label table of len bytes, and whether another lent buffer has a wrong length.
+pub fn place_refusal(n: usize, a: usize, b: usize, len: usize, other: bool) -> u32
+    ensures { λ r. ⌜ r ≡ placeRefusal n a b len other ⌝ }
+{
+    if !is_dimension(n) {
+        return 1;
+    }
+    let size = nodes(n);
+    if len != size {
+        return 2;
+    }
+    if other {
+        return 2;
+    }
+    if (size <= a) | (size <= b) {
+        return 5;
+    }
+    0
+}
+
+// Reads the labels of c's neighbours, each once, into the first n places of near, and answers the largest. step is 2 ^ i.
+fn gather(n: usize, labels: &[u8], c: usize, near: &mut [u8; 12]) -> u8
+    requires { ⌜ (n ≤ 12) × (c < 2 ^ n) × (length (now labels) ≡ 2 ^ n) × (now near ≡ replicate 12 0) ⌝ }
+    ensures near { λ r. ⌜ now (near .exit) ≡ gathered n (labelIn (now (labels .entry))) c ⌝ }
+    ensures largest { λ r. ⌜ r ≡ largest n (λ i. labelIn (now (labels .entry)) (flip i c)) ⌝ }
+{
+    let mut high = 0u8;
+    let mut step: usize = 1;
+    let mut i = 0;
+    while i < n {
+        let y = labels[c ^ step];
+        near[i] = y;
+        high = larger(high, y);
+        step = step + step;
+        i += 1;
+    }
+    high
+}
+
+// The lowest dimension of a set whose neighbour's label is at most top; n where there is none. The bits of a number are the set's dimensions:
+// its trailing zeros give the lowest of them, and `rest & (rest - 1)` is the rest without it.
+fn lowest(n: usize, set: usize, near: &[u8; 12], top: u8) -> usize
+    requires { ⌜ (n ≤ 12) × (set < 2 ^ n) ⌝ }
+    ensures { λ r. ⌜ r ≡ least n (inSet set (λ i. getD (now (near .entry)) i 0) top) ⌝ }
+{
+    let mut rest = set;
+    while rest != 0 {
+        let i = usize::trailing_zeros(rest) as usize;
+        if near[i] <= top {
+            return i;
+        }
+        rest = rest & (rest - 1);
+    }
+    n
+}
+
+// The third scan: a strongly unsafe node is entered from another, or near the destination.
+fn third(n: usize, c: usize, d: usize, own: u8, near: &[u8; 12]) -> usize
+    requires { ⌜ (n ≤ 12) × (c < 2 ^ n) × (d < 2 ^ n) ⌝ }
+    ensures { λ r. ⌜ r ≡ scans.lowest n c d own (λ i. getD (now (near .entry)) i 0) 3 ⌝ }
+{
+    if (own == 2) | (distance(c, d) <= 2) {
+        return lowest(n, c ^ d, near, 2);
+    }
+    n
+}
+
+// What the first of the five scans that takes a dimension picks at c, whose label is own and whose neighbours' labels are near.
+fn chosen(n: usize, c: usize, d: usize, own: u8, near: &[u8; 12]) -> Choice
+    requires { ⌜ (n ≤ 12) × (c < 2 ^ n) × (d < 2 ^ n) ⌝ }
+    ensures { λ r. ⌜ r ≡ chosen n c d own (λ i. getD (now (near .entry)) i 0) ⌝ }
+{
+    let forward = c ^ d;
+    let i1 = lowest(n, forward, near, 0);
+    if i1 < n {
+        return Choice {
+            scan: 1,
+            dimension: i1,
+        };
+    }
+    let i2 = lowest(n, forward, near, 1);
+    if i2 < n {
+        return Choice {
+            scan: 2,
+            dimension: i2,
+        };
+    }
+    let i3 = third(n, c, d, own, near);
+    if i3 < n {
+        return Choice {
+            scan: 3,
+            dimension: i3,
+        };
+    }
+    let spare = forward ^ (nodes(n) - 1);
+    let i4 = lowest(n, spare, near, 0);
+    if i4 < n {
+        return Choice {
+            scan: 4,
+            dimension: i4,
+        };
+    }
+    let i5 = lowest(n, spare, near, 1);
+    if i5 < n {
+        return Choice {
+            scan: 5,
+            dimension: i5,
+        };
+    }
+    Choice {
+        scan: NO_SCAN,
+        dimension: n,
+    }
+}
+
+// The decision away from the destination, by what the scans picked.
+fn across(choice: Choice) -> Decision
+    ensures { λ r. ⌜ r ≡ across choice ⌝ }
+{
+    let scan = choice.scan;
+    if scan < NO_SCAN {
+        return Decision::Hop(choice.dimension);
+    }
+    Decision::Halted
+}
+
+// The decision at c on the way to d. It reads c's label and each neighbour's once, and no other byte.
+pub fn hop(n: usize, c: usize, d: usize, labels: &[u8]) -> Hopped
+    ensures { λ r. ⌜ r ≡ spec.hopped n c d (length (now (labels .entry))) (labelIn (now (labels .entry))) ⌝ }
+{
+    let k = place_refusal(n, c, d, labels.len(), false);
+    if k != 0 {
+        return Hopped::Refused(k);
+    }
+    let own = labels[c];
+    let mut near = [0u8; 12];
+    let high = gather(n, labels, c, &mut near);
+    if (HIGHEST < own) | (HIGHEST < high) {
+        return Hopped::Refused(4);
+    }
+    if own == 3 {
+        return Hopped::Refused(6);
+    }
+    if c == d {
+        return Hopped::Decided(Decision::Deliver);
+    }
+    Hopped::Decided(across(chosen(n, c, d, own, &near)))
+}
+
+// The decision at c by a label table that was tested: what a walk asks at each node. At the destination it reads nothing.
+pub fn hop_at(n: usize, c: usize, d: usize, labels: &[u8]) -> Decision
+    requires { ⌜ Placed n c d (length (now labels)) ⌝ }
+    ensures { λ r. ⌜ r ≡ spec.hop n (labelIn (now (labels .entry))) c d ⌝ }
+{
+    if c == d {
+        return Decision::Deliver;
+    }
+    let own = labels[c];
+    let mut near = [0u8; 12];
+    gather(n, labels, c, &mut near);
+    across(chosen(n, c, d, own, &near))
+}

@@ -1,6 +1,0 @@
-pub mod Refusals
-pub mod Local
-pub mod Sets
-pub mod Scanning
-pub mod Gathered
-pub mod Steps

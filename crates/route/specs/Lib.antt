@@ -1,4 +1,0 @@
-pub mod Hop
-pub mod Walk
-pub mod Local
-pub mod Helpers

@@ -1,0 +1,28 @@
+-- What the functions inside the crate answer. No contract of a question cites these: proofs/Refusals.antt shows how the refusals of a walk are made
+-- of them.
+use mathlib.Core.Bool.{cond, not}
+use mathlib.Core.List.{List, [], _∷_, _++_}
+use Prim.Native.Nat.{ℕ, _^_}
+use lib.Dec.{eqb, ltb}
+use Rattle.cube.specs.Count.{some}
+use Rattle.cube.specs.Refusal.{Test, first, _⇒_}
+use Rattle.cube.specs.Tables.{highest}
+use Rattle.hop.specs.Helpers.{placeTests}
+use Rattle.walk.specs.Walk.{last, refused, rowBytes, stops, walkFrom}
+use Rattle.walk.specs.declared.Walked.{Walked}
+
+-- the refusals that the labels give
+abbrev pub tableTests : (n s d : ℕ) (lab : ℕ → ℕ) → List Test
+tableTests n s d lab =
+    some (2 ^ n) (λ x. ltb highest (lab x)) ⇒ 4
+    ∷ eqb (lab s) 3 ⇒ 6
+    ∷ eqb (lab d) 3 ⇒ 7
+    ∷ []
+
+-- all of a walk but for 8: first those that need no label
+unfoldable pub startRefusal : (n s d m room : ℕ) (lab : ℕ → ℕ) → ℕ
+startRefusal n s d m room lab = first (placeTests n s d m (not (eqb room rowBytes)) ++ tableTests n s d lab)
+
+-- the walk where these are past: refused with 8 where it would go on
+unfoldable pub walkOrRefusal : (n : ℕ) (lab : ℕ → ℕ) (d s : ℕ) → Walked
+walkOrRefusal n lab d s = cond (stops (last n lab d s)) (walkFrom n lab d s) (refused 8)

@@ -1,0 +1,105 @@
+-- The walk: hops from the source until a decision is no hop. n is the dimension, lab the labels, d the destination, s the source.
+-- It is given place by place: `spot` is the node after k hops and `turn` the decision there; the hop count, the row and the ending are read off them.
+-- The question `walked` is asked of any label table: m is its length, and lab x the byte of node x.
+use mathlib.Core.Bool.{Bool, true, false, cond, not, _||_}
+use mathlib.Core.List.{List, [], _∷_}
+use Prim.Native.Nat.{ℕ, zero, suc, _+_, _^_}
+use lib.Dec.{eqb, leb, ltb}
+use lib.ListN.{replicate}
+use Rattle.cube.specs.Count.{least, some}
+use Rattle.cube.specs.Cube.{flip}
+use Rattle.cube.specs.Refusal.{Test, first, _⇒_}
+use Rattle.cube.specs.Tables.{highest, isDimension, tab}
+use Rattle.hop.specs.Hop.{hop}
+use Rattle.hop.specs.declared.Decision.{Decision}
+use Rattle.hop.specs.declared.Decision.the-variants.{Deliver, Hop, Halted}
+use Rattle.walk.specs.declared.Ending.{Ending}
+use Rattle.walk.specs.declared.Ending.the-variants as ending
+use Rattle.walk.specs.declared.Message.{Message}
+use Rattle.walk.specs.declared.Walked.{Walked}
+
+-- where a decision at x leads
+unfoldable pub onto : Decision → ℕ → ℕ
+onto Deliver x = x
+onto (Hop i) x = flip i x
+onto Halted x = x
+
+-- a decision that is no hop ends the walk
+unfoldable pub stops : Decision → Bool
+stops Deliver = true
+stops (Hop i) = false
+stops Halted = true
+
+-- the node after k hops
+unfoldable pub spot : (n : ℕ) (lab : ℕ → ℕ) (d s k : ℕ) → ℕ
+spot n lab d s zero = s
+spot n lab d s (suc k) = let x : ℕ = spot n lab d s k in onto (hop n lab x d) x
+
+-- the decision after k hops
+unfoldable pub turn : (n : ℕ) (lab : ℕ → ℕ) (d s k : ℕ) → Decision
+turn n lab d s k = hop n lab (spot n lab d s k) d
+
+-- how many hops: up to the first decision that is no hop, and at most n + 4
+unfoldable pub hops : (n : ℕ) (lab : ℕ → ℕ) (d s : ℕ) → ℕ
+hops n lab d s = least (n + 4) (λ k. stops (turn n lab d s k))
+
+-- the decision after the last hop
+unfoldable pub last : (n : ℕ) (lab : ℕ → ℕ) (d s : ℕ) → Decision
+last n lab d s = turn n lab d s (hops n lab d s)
+
+-- the 17 places of the row: the nodes visited, and zeros
+unfoldable pub row : (n : ℕ) (lab : ℕ → ℕ) (d s : ℕ) → List ℕ
+row n lab d s = tab 17 (λ k. cond (leb k (hops n lab d s)) (spot n lab d s k) 0)
+
+-- ---- the question
+
+-- the bytes of a row that is lent: two for each place
+abbrev pub rowBytes : ℕ
+rowBytes = 34
+
+-- the refusals in order, for a caller who lends a row of `room` bytes
+abbrev pub walkTests : (n s d m room : ℕ) (lab : ℕ → ℕ) → List Test
+walkTests n s d m room lab =
+    not (isDimension n) ⇒ 1
+    ∷ not (eqb m (2 ^ n)) ⇒ 2
+    ∷ not (eqb room rowBytes) ⇒ 2
+    ∷ (leb (2 ^ n) s || leb (2 ^ n) d) ⇒ 5
+    ∷ some (2 ^ n) (λ x. ltb highest (lab x)) ⇒ 4
+    ∷ eqb (lab s) 3 ⇒ 6
+    ∷ eqb (lab d) 3 ⇒ 7
+    ∷ not (stops (last n lab d s)) ⇒ 8
+    ∷ []
+
+unfoldable pub walkRefusal : (n s d m room : ℕ) (lab : ℕ → ℕ) → ℕ
+walkRefusal n s d m room lab = first (walkTests n s d m room lab)
+
+-- how a walk ends, by its last decision
+abbrev pub endingOf : Decision → Ending
+endingOf Deliver = ending.Delivered
+endingOf (Hop i) = ending.Refused 8
+endingOf Halted = ending.Halted
+
+-- the answer: the walk, or the refusal, which has hop count 0 and a row of zeros
+unfoldable pub walkFrom : (n : ℕ) (lab : ℕ → ℕ) (d s : ℕ) → Walked
+walkFrom n lab d s = record { row = row n lab d s; hops = hops n lab d s; ending = endingOf (last n lab d s) }
+
+unfoldable pub refused : ℕ → Walked
+refused k = record { row = replicate 17 0; hops = 0; ending = ending.Refused k }
+
+unfoldable pub walked : (n s d m room : ℕ) (lab : ℕ → ℕ) → Walked
+walked n s d m room lab = cond (eqb (walkRefusal n s d m room lab) 0) (walkFrom n lab d s) (refused (walkRefusal n s d m room lab))
+
+-- the travelling message one hop on, across dimension i
+unfoldable pub moved : Message → ℕ → Message
+moved m i = record { at = flip i (m .at); to = m .to; hops = m .hops + 1 }
+
+-- document 01's numbers for the cases; the value is the hop count
+abbrev pub refusalOf : Ending → ℕ
+refusalOf ending.Delivered = 0
+refusalOf ending.Halted = 0
+refusalOf (ending.Refused k) = k
+
+abbrev pub kindOf : Ending → ℕ
+kindOf ending.Delivered = 0
+kindOf ending.Halted = 1
+kindOf (ending.Refused k) = 0

@@ -1,0 +1,156 @@
+// The walk: a message is moved by hops until a decision is no hop. `walk` and `walk_for` are the questions: they take any numbers and bytes, and test
+// them. The other functions are theirs.
+ghost use Prim.Native.Nat.{_<_};
+ghost use Rattle.cube.specs.Count.{largest};
+ghost use Rattle.cube.specs.Tables.{labelIn};
+ghost use Rattle.hop.specs.Helpers.{Placed};
+ghost use Rattle.walk.specs.Helpers.{startRefusal, walkOrRefusal};
+ghost use Rattle.walk.specs.Walk.{moved, refused, rowBytes, walked};
+ghost use lib.ListN.{length};
+ghost use mathlib.Core.Path.{_≡_};
+use cube::larger;
+use cube::neighbour;
+use hop::Decision;
+use hop::hop_at;
+use hop::place_refusal;
+
+const HIGHEST: u8 = 3; // the highest label
+
+const ROW_BYTES: usize = 34; // a row that is lent: two bytes for each of 17 places
+
+// The travelling message: where it is, where it goes, and its hops so far.
+pub struct Message {
+    pub at: usize,
+    pub to: usize,
+    pub hops: usize,
+}
+
+pub enum Ending {
+    Delivered,
+    Halted,
+    Refused(u32),
+}
+
+pub struct Walked {
+    pub row: [u16; 17],
+    pub hops: usize,
+    pub ending: Ending,
+}
+
+impl Message {
+    // The message one hop on, across dimension i.
+    fn moved(self, i: usize) -> Self
+        requires { ⌜ (i < 64) × (self .hops < 64) ⌝ }
+        ensures { λ r. ⌜ r ≡ moved self i ⌝ }
+    {
+        let at = self.at;
+        let hops = self.hops;
+        let next = neighbour(at, i);
+        Message {
+            at: next,
+            to: self.to,
+            hops: hops + 1,
+        }
+    }
+}
+
+// A refused walk: hop count 0 and a row of zeros.
+fn refused(k: u32) -> Walked
+    ensures { λ r. ⌜ r ≡ refused k ⌝ }
+{
+    Walked {
+        row: [0u16; 17],
+        hops: 0,
+        ending: Ending::Refused(k),
+    }
+}
+
+// The walk from s: a message is moved until a decision is no hop. 8 where it would go on after n + 4 hops.
+fn walk_from(n: usize, s: usize, d: usize, labels: &[u8]) -> Walked
+    requires { ⌜ Placed n s d (length (now labels)) ⌝ }
+    ensures { λ r. ⌜ r ≡ walkOrRefusal n (labelIn (now (labels .entry))) d s ⌝ }
+{
+    let mut row = [0u16; 17];
+    row[0] = s as u16;
+    let mut m = Message {
+        at: s,
+        to: d,
+        hops: 0,
+    };
+    loop {
+        let at = m.at;
+        let to = m.to;
+        let hops = m.hops;
+        match hop_at(n, at, to, labels) {
+            Decision::Deliver => return Walked {
+                row,
+                hops,
+                ending: Ending::Delivered,
+            },
+            Decision::Halted => return Walked {
+                row,
+                hops,
+                ending: Ending::Halted,
+            },
+            Decision::Hop(i) => {
+                if n + 4 <= hops {
+                    return refused(8);
+                }
+                m = m.moved(i);
+                let next = m.at;
+                row[hops + 1] = next as u16;
+            }
+        }
+    }
+}
+
+// The largest byte: one compare with it tells whether a byte is above the highest label, and the loop has one way out and runs on whole vectors.
+fn largest(labels: &[u8]) -> u8
+    ensures { λ r. ⌜ r ≡ largest (length (now (labels .entry))) (labelIn (now (labels .entry))) ⌝ }
+{
+    let mut high = 0u8;
+    let mut x = 0;
+    while x < labels.len() {
+        high = larger(high, labels[x]);
+        x += 1;
+    }
+    high
+}
+
+// The refusals of a walk but for 8, 0 for none. room is the length of the row that the caller lends.
+fn start_refusal(n: usize, s: usize, d: usize, labels: &[u8], room: usize) -> u32
+    ensures { λ r. ⌜ r ≡ startRefusal n s d (length (now (labels .entry))) room (labelIn (now (labels .entry))) ⌝ }
+{
+    let k = place_refusal(n, s, d, labels.len(), room != ROW_BYTES);
+    if k != 0 {
+        return k;
+    }
+    if HIGHEST < largest(labels) {
+        return 4;
+    }
+    if labels[s] == 3 {
+        return 6;
+    }
+    if labels[d] == 3 {
+        return 7;
+    }
+    0
+}
+
+// The walk from s to d, for a caller who lends a row of `room` bytes: another length than 34 is refused.
+pub fn walk_for(n: usize, s: usize, d: usize, labels: &[u8], room: usize) -> Walked
+    ensures { λ r. ⌜ r ≡ walked n s d (length (now (labels .entry))) room (labelIn (now (labels .entry))) ⌝ }
+{
+    let k = start_refusal(n, s, d, labels, room);
+    if k != 0 {
+        return refused(k);
+    }
+    walk_from(n, s, d, labels)
+}
+
+// The walk from s to d, for a caller who takes the row from the answer.
+pub fn walk(n: usize, s: usize, d: usize, labels: &[u8]) -> Walked
+    ensures { λ r. ⌜ r ≡ walked n s d (length (now (labels .entry))) rowBytes (labelIn (now (labels .entry))) ⌝ }
+{
+    walk_for(n, s, d, labels, ROW_BYTES)
+}
