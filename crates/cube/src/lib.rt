@@ -1,7 +1,6 @@
 // The cube: nodes as numbers, the neighbour across a dimension, the Hamming distance, and the bits of a fault table.
 // Nothing here refuses: the crates above test what they are handed before they ask.
 ghost use Prim.Native.Nat.{_/_, _^_, _<_, _≤_};
-ghost use Rattle.cube.specs.Count.{larger};
 ghost use Rattle.cube.specs.Cube.{dist, flip};
 ghost use Rattle.cube.specs.Tables.{isDimension, nodeBit, tableLen, unusedSet};
 ghost use lib.ListN.{length};
@@ -28,13 +27,6 @@ pub fn distance(c: usize, d: usize) -> u32
     ensures { λ r. ⌜ r ≡ dist c d ⌝ }
 {
     usize::count_ones(c ^ d)
-}
-
-// The larger of two bytes: what a loop keeps that looks for the largest.
-pub fn larger(a: u8, b: u8) -> u8
-    ensures { λ r. ⌜ r ≡ larger a b ⌝ }
-{
-    if a < b { b } else { a }
 }
 
 // Whether n is a dimension that the library takes, 1 to 12.

@@ -81,7 +81,7 @@ fn put_row(row: &[u16; 17], out: &mut [u8])
     ensures { λ _. ⌜ now (out .exit) ≡ tab rowBytes (rowByte (now (row .entry))) ⌝ }
 {
     let mut k: usize = 0;
-    while k < out.len() {
+    while k < 34 {
         out[k] = row_byte(row, k);
         k += 1;
     }

@@ -12,7 +12,6 @@ use Rattle.cube.specs.Cube.{flip}
 use Rattle.cube.proofs.Front.{getD-tab}
 use Rattle.hop.specs.Helpers.{across, chosen, gathered}
 use Rattle.hop.specs.Hop.{hop}
-use Rattle.hop.specs.declared.Choice.{Choice}
 use Rattle.hop.specs.declared.Decision.the-variants.{Deliver}
 use Rattle.hop.proofs.Local.{decide-same}
 use Rattle.hop.proofs.Scanning.{deliver, decided}
@@ -23,10 +22,10 @@ module _ (n : ℕ) (lab : ℕ → ℕ) (c : ℕ) (near : List ℕ) (small : n �
   near-at i h = rw copied (getD-tab 12 (λ k. cond (ltb k n) (lab (flip k c)) 0) i (omega arith) ∙ rw (lt-ltb i n h))
 
   -- away from the destination
-  pub goes : (d : ℕ) (p : Choice) → c < 2 ^ n → d < 2 ^ n → c ≢ d → p ≡ chosen n c d (lab c) (λ i. getD near i 0) → across p ≡ hop n lab c d
+  pub goes : (d p : ℕ) → c < 2 ^ n → d < 2 ^ n → c ≢ d → p ≡ chosen n c d (lab c) (λ i. getD near i 0) → across p ≡ hop n lab c d
   unfolding hop
   goes d p hc hd far e =
-      ap across e ∙ decided n c d (lab c) (λ i. getD near i 0) hc hd far ∙ decide-same n c d (lab c) (λ i. getD near i 0) (λ i. lab (flip i c)) near-at
+      ap across e ∙ decided n c d (lab c) (λ i. getD near i 0) small hc hd far ∙ decide-same n c d (lab c) (λ i. getD near i 0) (λ i. lab (flip i c)) near-at
 
 -- and at it
 pub arrives : (n : ℕ) (lab : ℕ → ℕ) (c d : ℕ) → c ≡ d → Deliver ≡ hop n lab c d

@@ -2,4 +2,5 @@ pub mod Refusals
 pub mod Local
 pub mod Sets
 pub mod Scanning
+pub mod Joined
 pub mod Gathered

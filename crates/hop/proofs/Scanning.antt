@@ -2,22 +2,23 @@
 -- No scan has the number 0, so scan 1 is the first.
 use mathlib.Core.Path.{_≡_, refl, sym, ap, _∙_}
 use mathlib.Core.Logic.{⊎-elim, _≢_}
-use mathlib.Core.Bool.{true, false, _||_}
-use Prim.Native.Nat.{ℕ, suc, _-_, _^_, _≤_, _<_}
+use mathlib.Core.Bool.{true, false, cond, _||_}
+use Prim.Native.Nat.{ℕ, suc, _+_, _*_, _%_, _-_, _^_, _≤_, _<_}
 use native.Mathlib.Omega.{arith}
 use lib.Arith.{lt-one}
 use lib.Bits.{bitXor}
 use lib.Dec.{eqb, leb, ltb}
-use borrow.Author.Tests.{ne-eqb, lt-ltb, le-ltb}
+use borrow.Author.Tests.{ne-eqb, lt-ltb, le-ltb, ltb-true, ltb-false}
 use Rattle.cube.specs.Count.{least}
 use Rattle.cube.specs.Cube.{dist}
 use Rattle.cube.proofs.Count.{below-suc}
-use Rattle.cube.proofs.Search.{least-is}
+use Rattle.cube.proofs.Bools.{either}
+use Rattle.cube.proofs.Search.{least-is, the-least}
 use Rattle.cube.proofs.Cube.{dist-self, dist-zero}
 use Rattle.scans.specs.Scans.{firstScan, forward, lowest, noScan, scanAt, scanOf, spare, suits, takes}
 use Rattle.hop.specs.Helpers.{across, inSet, chosen}
 use Rattle.hop.specs.Hop.{answer, decide}
-use Rattle.hop.specs.declared.Decision.the-variants.{Deliver}
+use Rattle.hop.specs.declared.Decision.the-variants.{Deliver, Hop, Halted}
 use Rattle.hop.proofs.Sets.{least-none, forward-set, spare-set}
 
 module _ (n c d own : ℕ) (near : ℕ → ℕ) where
@@ -67,15 +68,14 @@ module _ (n c d own : ℕ) (near : ℕ → ℕ) where
       (λ l. lt-ltb (lowest n c d own near s) n (g l))
 
   -- or a dimension, and that is picked
-  pub take : (s i : ℕ) → s < noScan → Past s → i ≡ lowest n c d own near s → i < n → record { scan = s; dimension = i } ≡ chosen n c d own near
+  pub take : (s i : ℕ) → s < noScan → Past s → i ≡ lowest n c d own near s → i < n → s * 16 + i ≡ chosen n c d own near
   unfolding chosen
-  take s i h p e l = rw (first-at s (omega arith) p (λ _. omega arith)) (ap (λ (j : ℕ). record { scan = s; dimension = j }) e)
+  take s i h p e l = rw (first-at s (omega arith) p (λ _. omega arith)) (omega arith)
 
   -- all five find nothing
-  pub take-none : Past noScan → record { scan = noScan; dimension = n } ≡ chosen n c d own near
+  pub take-none : Past noScan → noScan * 16 + n ≡ chosen n c d own near
   unfolding chosen takes suits
-  take-none p =
-      rw (first-at noScan (omega arith) p (λ l. absurd (omega arith))) (ap (λ (j : ℕ). record { scan = noScan; dimension = j }) (sym (idle noScan (λ i. refl))))
+  take-none p = rw (first-at noScan (omega arith) p (λ l. absurd (omega arith))) (omega (arith, idle noScan (λ i. refl)))
 
   -- ---- the decision
 
@@ -83,6 +83,20 @@ module _ (n c d own : ℕ) (near : ℕ → ℕ) where
   unfolding decide answer
   deliver e = rw (e, dist-self)
 
-  pub decided : c < 2 ^ n → d < 2 ^ n → c ≢ d → across (chosen n c d own near) ≡ decide n c d own near
+  lowest-within : (s : ℕ) → lowest n c d own near s ≤ n
+  unfolding lowest
+  lowest-within s = the-least n (takes c d own near s) .within
+
+  pub decided : n ≤ 12 → c < 2 ^ n → d < 2 ^ n → c ≢ d → across (chosen n c d own near) ≡ decide n c d own near
   unfolding decide answer chosen across
-  decided hc hd far = rw (ne-eqb (dist c d) 0 (λ e. far (dist-zero n c d hc hd e)))
+  decided small hc hd far =
+      rw (ne-eqb (dist c d) 0 (λ e. far (dist-zero n c d hc hd e))) (apart-again (firstScan n c d own near) (lowest n c d own near _) (omega (arith, lowest-within (firstScan n c d own near))))
+    where
+      -- the number taken apart again
+      apart-again : (s i : ℕ) → i < 16 → cond (ltb (s * 16 + i) (noScan * 16)) (Hop ((s * 16 + i) % 16)) Halted ≡ cond (ltb s noScan) (Hop i) Halted
+      apart-again s i h =
+          let m : (s * 16 + i) % 16 ≡ i = omega arith in
+          ⊎-elim
+          (λ (t : ltb s noScan ≡ true). rw (t, m, lt-ltb (s * 16 + i) (noScan * 16) (omega (arith, ltb-true s noScan t))))
+          (λ (t : ltb s noScan ≡ false). rw (t, le-ltb (s * 16 + i) (noScan * 16) (omega (arith, ltb-false s noScan t))))
+          (either (ltb s noScan))

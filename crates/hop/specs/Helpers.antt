@@ -3,14 +3,13 @@
 use mathlib.Core.Bool.{Bool, cond, not, _&&_, _||_}
 use mathlib.Core.List.{List, [], _∷_}
 use mathlib.Core.Path.{_≡_}
-use Prim.Native.Nat.{ℕ, _^_, _<_, _≤_}
+use Prim.Native.Nat.{ℕ, _+_, _*_, _%_, _^_, _<_, _≤_}
 use lib.Dec.{eqb, leb, ltb}
 use Rattle.cube.specs.Count.{some}
 use Rattle.cube.specs.Cube.{bit, flip}
 use Rattle.cube.specs.Refusal.{Test, first, _⇒_}
 use Rattle.cube.specs.Tables.{highest, isDimension, tab}
 use Rattle.scans.specs.Scans.{firstScan, lowest, noScan}
-use Rattle.hop.specs.declared.Choice.{Choice}
 use Rattle.hop.specs.declared.Decision.{Decision}
 use Rattle.hop.specs.declared.Decision.the-variants.{Hop, Halted}
 
@@ -48,14 +47,18 @@ nearTests n own near =
 unfoldable pub gathered : (n : ℕ) (lab : ℕ → ℕ) (c : ℕ) → List ℕ
 gathered n lab c = tab 12 (λ i. cond (ltb i n) (lab (flip i c)) 0)
 
+-- what raises the highest label to a number that is all ones in binary
+abbrev pub slack : ℕ
+slack = 0
+
 -- dimension i is in the set, a number whose bits are the dimensions, and the label of the neighbour across it is at most top
 unfoldable pub inSet : (set : ℕ) (near : ℕ → ℕ) (top i : ℕ) → Bool
 inSet set near top i = bit i set && leb (near i) top
 
--- what the scans pick
-unfoldable pub chosen : (n c d own : ℕ) (near : ℕ → ℕ) → Choice
-chosen n c d own near = record { scan = firstScan n c d own near; dimension = lowest n c d own near (firstScan n c d own near) }
+-- what the scans pick, as one number: the scan, and its dimension, which is below 16
+unfoldable pub chosen : (n c d own : ℕ) (near : ℕ → ℕ) → ℕ
+chosen n c d own near = firstScan n c d own near * 16 + lowest n c d own near (firstScan n c d own near)
 
 -- the decision away from the destination, by what they picked
-unfoldable pub across : Choice → Decision
-across p = cond (ltb (p .scan) noScan) (Hop (p .dimension)) Halted
+unfoldable pub across : (picked : ℕ) → Decision
+across picked = cond (ltb picked (noScan * 16)) (Hop (picked % 16)) Halted

@@ -1,22 +1,28 @@
 // One hop: the decision at a node. `hop` is the question: it takes any numbers and bytes, and tests them. `place_refusal` and `hop_at` are lent to the
 // walk, which tests its whole table once; the other functions are theirs.
-ghost use Prim.Native.Nat.{_<_, _≤_, _^_};
-ghost use Rattle.cube.specs.Count.{largest, least};
+ghost use Prim.Native.Nat.{_+_, _*_, _<_, _≤_, _^_};
+ghost use Rattle.cube.specs.Count.{least, some};
 ghost use Rattle.cube.specs.Cube.{flip};
-ghost use Rattle.cube.specs.Tables.{labelIn};
-ghost use Rattle.hop.specs.Helpers.{Placed, across, chosen, gathered, inSet, placeRefusal};
+ghost use Rattle.cube.specs.Tables.{highest, labelIn};
+ghost use Rattle.hop.specs.Helpers.{Placed, across, chosen, gathered, inSet, placeRefusal, slack};
 ghost use Rattle.hop.specs.Hop as spec;
 ghost use Rattle.scans.specs.Scans as scans;
+ghost use lib.Dec.{ltb};
 ghost use lib.ListN.{getD, length, replicate};
 ghost use mathlib.Core.Path.{_≡_};
 use cube::distance;
 use cube::is_dimension;
-use cube::larger;
 use cube::nodes;
 
 const HIGHEST: u8 = 3; // the highest label
 
+const SLACK: usize = 0; // what raises the highest label to a number that is all ones
+
+const ONES: usize = 3; // that number: HIGHEST + SLACK
+
 const NO_SCAN: usize = 6; // the scans are 1 to 5
+
+const NO_CHOICE: usize = 96; // from here on a choice has no scan: NO_SCAN * 16
 
 // The decision at a node.
 pub enum Decision {
@@ -28,12 +34,6 @@ pub enum Decision {
 pub enum Hopped {
     Decided(Decision),
     Refused(u32),
-}
-
-// What the scans pick: the scan, and its dimension.
-struct Choice {
-    scan: usize,
-    dimension: usize,
 }
 
 // The refusals that need no label, 0 for none: of two nodes, a label table of len bytes, and whether another lent buffer has a wrong length.
@@ -56,23 +56,30 @@ pub fn place_refusal(n: usize, a: usize, b: usize, len: usize, other: bool) -> u
     0
 }
 
-// Reads the labels of c's neighbours, each once, into the first n places of near, and answers the largest. step is 2 ^ i.
-fn gather(n: usize, labels: &[u8], c: usize, near: &mut [u8; 12]) -> u8
+// A label raised, so that the highest is all ones: raised labels joined by `|` are above that exactly where one of them is.
+fn raised(label: u8) -> usize
+    ensures { λ r. ⌜ r ≡ label + slack ⌝ }
+{
+    label as usize + SLACK
+}
+
+// Reads the labels of c's neighbours, each once, into the first n places of near, and answers whether one is above the highest label. step is 2 ^ i.
+fn gather(n: usize, labels: &[u8], c: usize, near: &mut [u8; 12]) -> bool
     requires { ⌜ (n ≤ 12) × (c < 2 ^ n) × (length (now labels) ≡ 2 ^ n) × (now near ≡ replicate 12 0) ⌝ }
     ensures near { λ r. ⌜ now (near .exit) ≡ gathered n (labelIn (now (labels .entry))) c ⌝ }
-    ensures largest { λ r. ⌜ r ≡ largest n (λ i. labelIn (now (labels .entry)) (flip i c)) ⌝ }
+    ensures high { λ r. ⌜ r ≡ some n (λ i. ltb highest (labelIn (now (labels .entry)) (flip i c))) ⌝ }
 {
-    let mut high = 0u8;
+    let mut any: usize = 0;
     let mut step: usize = 1;
     let mut i = 0;
     while i < n {
         let y = labels[c ^ step];
         near[i] = y;
-        high = larger(high, y);
+        any = any | raised(y);
         step = step + step;
         i += 1;
     }
-    high
+    ONES < any
 }
 
 // The lowest dimension of a set whose neighbour's label is at most top; n where there is none. The bits of a number are the set's dimensions:
@@ -103,61 +110,51 @@ fn third(n: usize, c: usize, d: usize, own: u8, near: &[u8; 12]) -> usize
     n
 }
 
-// What the first of the five scans that takes a dimension picks at c, whose label is own and whose neighbours' labels are near.
-fn chosen(n: usize, c: usize, d: usize, own: u8, near: &[u8; 12]) -> Choice
+// A scan and its dimension in one number, which stays in a register where a struct goes through memory.
+fn choice(scan: usize, dimension: usize) -> usize
+    requires { ⌜ (scan ≤ 6) × (dimension ≤ 12) ⌝ }
+    ensures { λ r. ⌜ r ≡ scan * 16 + dimension ⌝ }
+{
+    scan * 16 + dimension
+}
+
+// What the first of the five scans that takes a dimension picks at c, whose label is own and whose neighbours' labels are near; NO_SCAN and n where none
+// takes one.
+fn chosen(n: usize, c: usize, d: usize, own: u8, near: &[u8; 12]) -> usize
     requires { ⌜ (n ≤ 12) × (c < 2 ^ n) × (d < 2 ^ n) ⌝ }
     ensures { λ r. ⌜ r ≡ chosen n c d own (λ i. getD (now (near .entry)) i 0) ⌝ }
 {
     let forward = c ^ d;
     let i1 = lowest(n, forward, near, 0);
     if i1 < n {
-        return Choice {
-            scan: 1,
-            dimension: i1,
-        };
+        return choice(1, i1);
     }
     let i2 = lowest(n, forward, near, 1);
     if i2 < n {
-        return Choice {
-            scan: 2,
-            dimension: i2,
-        };
+        return choice(2, i2);
     }
     let i3 = third(n, c, d, own, near);
     if i3 < n {
-        return Choice {
-            scan: 3,
-            dimension: i3,
-        };
+        return choice(3, i3);
     }
     let spare = forward ^ (nodes(n) - 1);
     let i4 = lowest(n, spare, near, 0);
     if i4 < n {
-        return Choice {
-            scan: 4,
-            dimension: i4,
-        };
+        return choice(4, i4);
     }
     let i5 = lowest(n, spare, near, 1);
     if i5 < n {
-        return Choice {
-            scan: 5,
-            dimension: i5,
-        };
+        return choice(5, i5);
     }
-    Choice {
-        scan: NO_SCAN,
-        dimension: n,
-    }
+    choice(NO_SCAN, n)
 }
 
 // The decision away from the destination, by what the scans picked.
-fn across(choice: Choice) -> Decision
-    ensures { λ r. ⌜ r ≡ across choice ⌝ }
+fn across(picked: usize) -> Decision
+    ensures { λ r. ⌜ r ≡ across picked ⌝ }
 {
-    let scan = choice.scan;
-    if scan < NO_SCAN {
-        return Decision::Hop(choice.dimension);
+    if picked < NO_CHOICE {
+        return Decision::Hop(picked % 16);
     }
     Decision::Halted
 }
@@ -173,7 +170,7 @@ pub fn hop(n: usize, c: usize, d: usize, labels: &[u8]) -> Hopped
     let own = labels[c];
     let mut near = [0u8; 12];
     let high = gather(n, labels, c, &mut near);
-    if (HIGHEST < own) | (HIGHEST < high) {
+    if (HIGHEST < own) | high {
         return Hopped::Refused(4);
     }
     if own == 3 {

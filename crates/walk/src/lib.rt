@@ -1,14 +1,13 @@
 // The walk: a message is moved by hops until a decision is no hop. `walk` and `walk_for` are the questions: they take any numbers and bytes, and test
 // them. The other functions are theirs.
 ghost use Prim.Native.Nat.{_<_};
-ghost use Rattle.cube.specs.Count.{largest};
+ghost use Rattle.cube.specs.Count.{larger, largest};
 ghost use Rattle.cube.specs.Tables.{labelIn};
 ghost use Rattle.hop.specs.Helpers.{Placed};
 ghost use Rattle.walk.specs.Helpers.{startRefusal, walkOrRefusal};
 ghost use Rattle.walk.specs.Walk.{moved, refused, rowBytes, walked};
 ghost use lib.ListN.{length};
 ghost use mathlib.Core.Path.{_≡_};
-use cube::larger;
 use cube::neighbour;
 use hop::Decision;
 use hop::hop_at;
@@ -102,6 +101,13 @@ fn walk_from(n: usize, s: usize, d: usize, labels: &[u8]) -> Walked
             }
         }
     }
+}
+
+// The larger of two bytes.
+fn larger(a: u8, b: u8) -> u8
+    ensures { λ r. ⌜ r ≡ larger a b ⌝ }
+{
+    if a < b { b } else { a }
 }
 
 // The largest byte: one compare with it tells whether a byte is above the highest label, and the loop has one way out and runs on whole vectors.

@@ -66,20 +66,37 @@ others c = let w = within (at3 (c .before)) in (w .0, rw (c .nodes .ensures) (xo
 lowest-requires : tie.Need-lowest-requires
 lowest-requires c κs = within c
 
+choice-requires : tie.Need-choice-requires
+choice-requires c κs = search needs
+
 returns : tie.Need-returns
-returns c = take _ _ _ _ _ 1 _ (omega arith) (past-none _ _ _ _ _) (c .before .lowest .ensures ∙ forward-scan _ _ _ _ _ 1 0 refl) (c .if1 .taken)
+returns c =
+    let t = c .before in
+    c .choice .ensures
+    ∙ take _ _ _ _ _ 1 _ (omega arith) (past-none _ _ _ _ _) (t .before .lowest .ensures ∙ forward-scan _ _ _ _ _ 1 0 refl) (t .if1 .taken)
 
 lowest-requires-2 : tie.Need-lowest-requires-2
-lowest-requires-2 c κs = within (c .before .before)
+lowest-requires-2 c κs = within (at1 c)
+
+choice-requires-2 : tie.Need-choice-requires-2
+choice-requires-2 c κs = search needs
 
 returns-2 : tie.Need-returns-2
-returns-2 c = take _ _ _ _ _ 2 _ (omega arith) (past2 (c .before .before)) (c .before .lowest2 .ensures ∙ forward-scan _ _ _ _ _ 2 1 refl) (c .if2 .taken)
+returns-2 c =
+    let t = c .before in
+    c .choice2 .ensures
+    ∙ take _ _ _ _ _ 2 _ (omega arith) (past2 (t .before .before)) (t .before .lowest2 .ensures ∙ forward-scan _ _ _ _ _ 2 1 refl) (t .if2 .taken)
 
 third-requires : tie.Need-third-requires
 third-requires c κs = search needs
 
+choice-requires-3 : tie.Need-choice-requires-3
+choice-requires-3 c κs = search needs
+
 returns-3 : tie.Need-returns-3
-returns-3 c = take _ _ _ _ _ 3 _ (omega arith) (past3 (c .before .before)) (c .before .third .ensures) (c .if3 .taken)
+returns-3 c =
+    let t = c .before in
+    c .choice3 .ensures ∙ take _ _ _ _ _ 3 _ (omega arith) (past3 (t .before .before)) (t .before .third .ensures) (t .if3 .taken)
 
 nodes-requires : tie.Need-nodes-requires
 nodes-requires c κs = search needs
@@ -90,32 +107,51 @@ sub-spare c = search needs
 lowest-requires-3 : tie.Need-lowest-requires-3
 lowest-requires-3 c κs = others c
 
+choice-requires-4 : tie.Need-choice-requires-4
+choice-requires-4 c κs = search needs
+
 returns-4 : tie.Need-returns-4
-returns-4 c = take _ _ _ _ _ 4 _ (omega arith) (past4 (c .before .before .before)) (find4 (c .before)) (c .if4 .taken)
+returns-4 c =
+    let t = c .before in
+    c .choice4 .ensures ∙ take _ _ _ _ _ 4 _ (omega arith) (past4 (t .before .before .before)) (find4 (t .before)) (t .if4 .taken)
 
 lowest-requires-4 : tie.Need-lowest-requires-4
 lowest-requires-4 c κs = others (c .before .before)
 
+choice-requires-5 : tie.Need-choice-requires-5
+choice-requires-5 c κs = search needs
+
 returns-5 : tie.Need-returns-5
-returns-5 c = take _ _ _ _ _ 5 _ (omega arith) (past5 (c .before .before)) (find5 (c .before)) (c .if5 .taken)
+returns-5 c =
+    let t = c .before in
+    c .choice5 .ensures ∙ take _ _ _ _ _ 5 _ (omega arith) (past5 (t .before .before)) (find5 (t .before)) (t .if5 .taken)
+
+choice-requires-6 : tie.Need-choice-requires-6
+choice-requires-6 c κs = search needs
 
 returns-6 : tie.Need-returns-6
-returns-6 c = take-none _ _ _ _ _ (past6 c)
+returns-6 c = c .choice6 .ensures ∙ take-none _ _ _ _ _ (past6 (c .before))
 
 pub chosen-spec : {M : Type 1} → statement M
 chosen-spec =
     tie.close
     (tie.spec
     lowest-requires
+    choice-requires
     returns
     lowest-requires-2
+    choice-requires-2
     returns-2
     third-requires
+    choice-requires-3
     returns-3
     nodes-requires
     sub-spare
     lowest-requires-3
+    choice-requires-4
     returns-4
     lowest-requires-4
+    choice-requires-5
     returns-5
+    choice-requires-6
     returns-6)

@@ -1,5 +1,5 @@
--- `gather`: after i dimensions step is 2 ^ i, the first i places hold the labels of those neighbours, the others 0, and high is the largest of them.
--- The measure is what is left of n.
+-- `gather`: after i dimensions step is 2 ^ i, the first i places hold the labels of those neighbours, the others 0, and the labels joined are above the
+-- highest exactly where one of them is. The measure is what is left of n.
 use mathlib.Core.Path.{_≡_, refl, ap, _∙_}
 use Prim.Native.Nat.{ℕ, _≤_, _-_, _^_}
 use native.Mathlib.Nat.{pow-suc}
@@ -11,24 +11,26 @@ use lib.Bits.{bitXor, xor-lt}
 use lib.Dec.{ltb}
 use lib.ListN.{replicate}
 use lib.Pow.{pow-lt}
-use Rattle.cube.specs.Count.{largest}
+use Rattle.cube.specs.Count.{least, some}
 use Rattle.cube.specs.Cube.{flip}
-use Rattle.cube.specs.Tables.{labelIn}
-use Rattle.cube.proofs.Search.{largest-next, largest-none}
+use Rattle.cube.specs.Tables.{highest, labelIn}
 use Rattle.cube.proofs.Front.{front, front-zero, front-zeros, front-write}
-use Rattle.hop.specs.Helpers.{gathered}
+use Rattle.hop.specs.Helpers.{gathered, slack}
+use Rattle.hop.proofs.Joined.{joined-next}
 use Rattle.hop.proofs.gather.Statement.{statement}
 use Rattle.hop.proofs.gather.Tie as tie
 
 abbrev Inv-loop : tie.InvT-loop
-Inv-loop n labels c near₀ high₀ step₀ i₀ near high step i =
-    (i ≤ n) × (step ≡ 2 ^ i) × (near ≡ front (λ k. labelIn labels (flip k c)) i (replicate 12 0)) × (high ≡ largest i (λ k. labelIn labels (flip k c)))
+Inv-loop n labels c near₀ any₀ step₀ i₀ near any step i =
+    (i ≤ n) × (step ≡ 2 ^ i) × (near ≡ front (λ k. labelIn labels (flip k c)) i (replicate 12 0))
+    × (ltb 3 any ≡ some i (λ k. ltb highest (labelIn labels (flip k c))))
 
 abbrev μ-loop : tie.MeasureT-loop
-μ-loop n labels c near₀ high₀ step₀ i₀ near high step i = n - i
+μ-loop n labels c near₀ any₀ step₀ i₀ near any step i = n - i
 
 loop-holds : tie.Need-loop-holds Inv-loop μ-loop
-loop-holds c = (omega arith, refl, c .before .pre .3 ∙ front-zero _ _, largest-none _)
+unfolding some least
+loop-holds c = (omega arith, refl, c .before .pre .3 ∙ front-zero _ _, refl)
 
 shared-slice-read-y : tie.Need-shared-slice-read-y Inv-loop μ-loop
 shared-slice-read-y c =
@@ -39,8 +41,8 @@ shared-slice-read-y c =
 element-write-near : tie.Need-element-write-near Inv-loop μ-loop
 element-write-near c = omega arith
 
-larger-requires : tie.Need-larger-requires Inv-loop μ-loop
-larger-requires c κs = search needs
+raised-requires : tie.Need-raised-requires Inv-loop μ-loop
+raised-requires c κs = search needs
 
 add-step : tie.Need-add-step Inv-loop μ-loop
 add-step c = omega (arith, pow-lt {i = c .before .before .before .loop .i} {j = 12} (omega arith))
@@ -61,7 +63,7 @@ loop-again c =
       omega arith,
       rw (add-one, pow-suc) (omega arith),
       front-write f (l .i) (replicate 12 0) (l .near) _ (omega arith) (l .inv .2) e,
-      largest-next f (l .high) _ (l .i) (l .inv .3) (c .larger .ensures ∙ rw e),
+      joined-next 3 2 refl highest slack refl f (l .any) _ (l .i) (l .inv .3) (c .raised .ensures ∙ rw e),
     )
 
 returns : tie.Need-returns Inv-loop μ-loop
@@ -74,10 +76,10 @@ returns c =
     let e : l .i ≡ n = omega arith in (
       l .inv .2 ∙ ap (λ (i : ℕ). front f i (replicate 12 0)) e
           ∙ front-zeros f (λ i. ltb i n) n 12 (s .pre .0) (λ i h. lt-ltb i n h) (λ i h. le-ltb i n h),
-      l .inv .3 ∙ ap (λ (i : ℕ). largest i f) e,
+      l .inv .3 ∙ ap (λ (i : ℕ). some i (λ k. ltb highest (f k))) e,
     )
 
 pub gather-spec : {M : Type 1} → statement M
 gather-spec =
     tie.close
-    (tie.spec Inv-loop μ-loop loop-holds shared-slice-read-y element-write-near larger-requires add-step add-i loop-less loop-again returns)
+    (tie.spec Inv-loop μ-loop loop-holds shared-slice-read-y element-write-near raised-requires add-step add-i loop-less loop-again returns)

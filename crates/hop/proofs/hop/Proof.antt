@@ -1,16 +1,12 @@
 -- `hop`: the place first, then the labels of the node and its neighbours, then the decision by the labels gathered, which are the table's.
-use mathlib.Core.Path.{_≡_, refl, sym, ap, _∙_}
-use mathlib.Core.Bool.{Bool, _||_}
+use mathlib.Core.Path.{_≡_, refl, sym, _∙_}
 use native.Mathlib.Omega.{arith}
 use borrow.Author.Needs.{needs}
 use borrow.Author.Tests.{eq-eqb, ne-eqb}
-use lib.Dec.{ltb}
 use lib.ListN.{length}
-use Rattle.cube.specs.Count.{some}
 use Rattle.cube.specs.Cube.{flip}
 use Rattle.cube.specs.Refusal.{first}
-use Rattle.cube.specs.Tables.{highest, labelIn}
-use Rattle.cube.proofs.Search.{largest-above}
+use Rattle.cube.specs.Tables.{labelIn}
 use Rattle.hop.specs.Helpers.{Placed, nearTests}
 use Rattle.hop.specs.Hop.{hopRefusal}
 use Rattle.hop.proofs.Gathered.{arrives, goes}
@@ -37,15 +33,6 @@ near-is : (c : tie.Else1) → let a = start c .args in let lab = labelIn (a .lab
     hopRefusal (a .n) (a .c) (a .d) (length (a .labels .now)) lab ≡ first (nearTests (a .n) (lab (a .c)) (λ i. lab (flip i (a .c))))
 near-is c = hop-placed _ _ _ _ _ (sym (c .before .place-refusal .ensures) ∙ c .if1 .left)
 
--- some byte near c is too high exactly where the largest is, or c's own
-high-is : (c : tie.After-gather) → let a = start (placed-at c) .args in let lab = labelIn (a .labels .now) in
-    (ltb highest (lab (a .c)) || some (a .n) (λ i. ltb highest (lab (flip i (a .c))))) ≡ (ltb highest (lab (a .c)) || ltb highest (c .gather .result))
-high-is c =
-    let a = start (placed-at c) .args in
-    let lab = labelIn (a .labels .now) in
-    ap (λ (b : Bool). ltb highest (lab (a .c)) || b)
-    (sym (largest-above highest (a .n) (λ i. lab (flip i (a .c)))) ∙ ap (ltb highest) (sym (c .gather .ensures .1)))
-
 place-refusal-requires : tie.Need-place-refusal-requires
 place-refusal-requires c κs = search needs
 
@@ -60,13 +47,13 @@ gather-requires c κs = let g = good (c .before .before) in (g .small, g .first,
 
 returns-2 : tie.Need-returns-2
 unfolding labelIn first
-returns-2 c = hop-refuses _ _ _ _ _ 4 (λ z. omega arith) (near-is (placed-at (c .before)) ∙ rw (high-is (c .before), c .if2 .taken))
+returns-2 c = hop-refuses _ _ _ _ _ 4 (λ z. omega arith) (near-is (placed-at (c .before)) ∙ rw (rw (c .before .gather .ensures .1) at (c .if2 .taken)))
 
 returns-3 : tie.Need-returns-3
 unfolding labelIn first
 returns-3 c =
     let g = c .before .before in
-    hop-refuses _ _ _ _ _ 6 (λ z. omega arith) (near-is (placed-at g) ∙ rw (high-is g, c .before .if2 .left, eq-eqb _ _ (c .if3 .taken)))
+    hop-refuses _ _ _ _ _ 6 (λ z. omega arith) (near-is (placed-at g) ∙ rw (rw (g .gather .ensures .1) at (c .before .if2 .left), eq-eqb _ _ (c .if3 .taken)))
 
 -- past the third test nothing is refused
 nothing : (c : tie.Else3) → let a = start (placed-at (gathered-at c)) .args in
@@ -74,7 +61,7 @@ nothing : (c : tie.Else3) → let a = start (placed-at (gathered-at c)) .args in
 unfolding labelIn first
 nothing c =
     let g = gathered-at c in
-    near-is (placed-at g) ∙ rw (high-is g, c .before .if2 .left, ne-eqb _ _ (c .if3 .left))
+    near-is (placed-at g) ∙ rw (rw (g .gather .ensures .1) at (c .before .if2 .left), ne-eqb _ _ (c .if3 .left))
 
 returns-4 : tie.Need-returns-4
 returns-4 c = hop-decides _ _ _ _ _ _ (nothing (c .before)) (arrives _ _ _ _ (c .if4 .taken))

@@ -1,7 +1,7 @@
 -- `larger` compares.
 use borrow.Author.Tests.{lt-ltb, le-ltb}
-use Rattle.cube.proofs.larger.Statement.{statement}
-use Rattle.cube.proofs.larger.Tie as tie
+use Rattle.walk.proofs.larger.Statement.{statement}
+use Rattle.walk.proofs.larger.Tie as tie
 
 returns : tie.Need-returns
 returns c = rw (lt-ltb _ _ (c .if1 .taken))
