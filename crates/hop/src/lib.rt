@@ -187,11 +187,11 @@ pub fn hop_at(n: usize, c: usize, d: usize, labels: &[u8]) -> Decision
     requires { ⌜ Placed n c d (length (now labels)) ⌝ }
     ensures { λ r. ⌜ r ≡ spec.hop n (labelIn (now (labels .entry))) c d ⌝ }
 {
-    if c == d {
-        return Decision::Deliver;
+    if c != d {
+        let own = labels[c];
+        let mut near = [0u8; 12];
+        gather(n, labels, c, &mut near);
+        return across(chosen(n, c, d, own, &near));
     }
-    let own = labels[c];
-    let mut near = [0u8; 12];
-    gather(n, labels, c, &mut near);
-    across(chosen(n, c, d, own, &near))
+    Decision::Deliver
 }
