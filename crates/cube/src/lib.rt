@@ -1,10 +1,12 @@
 // The cube: nodes as numbers, the neighbour across a dimension, the Hamming distance, and the bits of a fault table.
 // Nothing here refuses: the crates above test what they are handed before they ask.
-ghost use Prim.Native.Nat.{_/_, _^_, _<_, _≤_};
+ghost use Prim.Native.Nat.{_/_, _^_, _<_};
 ghost use Rattle.cube.specs.Cube.{dist, flip};
 ghost use Rattle.cube.specs.Tables.{isDimension, nodeBit, tableLen, unusedSet};
 ghost use lib.ListN.{length};
 ghost use mathlib.Core.Path.{_≡_};
+
+pub const HIGHEST: u8 = 3; // the highest label
 
 // How many nodes an n-cube has.
 pub fn nodes(n: usize) -> usize

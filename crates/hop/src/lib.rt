@@ -10,11 +10,10 @@ ghost use Rattle.scans.specs.Scans as scans;
 ghost use lib.Dec.{ltb};
 ghost use lib.ListN.{getD, length, replicate};
 ghost use mathlib.Core.Path.{_≡_};
+use cube::HIGHEST;
 use cube::distance;
 use cube::is_dimension;
 use cube::nodes;
-
-const HIGHEST: u8 = 3; // the highest label
 
 const SLACK: usize = 0; // what raises the highest label to a number that is all ones
 

@@ -1,1 +1,1 @@
-// No code: the theorems of demands 2 and 3 and the worked numbers, over the definitions that the contracts cite.
+// The promises on top, without code: demand 1, that each contract settles its result and every lent byte, and the worked numbers of document 01.

@@ -8,12 +8,11 @@ ghost use Rattle.walk.specs.Helpers.{startRefusal, walkOrRefusal};
 ghost use Rattle.walk.specs.Walk.{moved, refused, rowBytes, walked};
 ghost use lib.ListN.{length};
 ghost use mathlib.Core.Path.{_≡_};
+use cube::HIGHEST;
 use cube::neighbour;
 use hop::Decision;
 use hop::hop_at;
 use hop::place_refusal;
-
-const HIGHEST: u8 = 3; // the highest label
 
 const ROW_BYTES: usize = 34; // a row that is lent: two bytes for each of 17 places
 
