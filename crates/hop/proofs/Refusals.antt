@@ -12,8 +12,8 @@ use Rattle.cube.specs.Tables.{isDimension}
 use Rattle.cube.proofs.Bools.{or-false}
 use Rattle.cube.proofs.Refusal.{None, first-none, first-passes, first-stops}
 use Rattle.cube.proofs.Tables.{dimension-is}
-use Rattle.hop.specs.Helpers.{Placed, nearTests, placeRefusal, placeTests}
-use Rattle.hop.specs.Hop.{hop, hopRefusal, hopped}
+use Rattle.hop.specs.Helpers.{Placed, placeRefusal, placeTests}
+use Rattle.hop.specs.Hop.{hop, hopRefusal, hopped, nearTests}
 use Rattle.hop.specs.declared.Decision.{Decision}
 use Rattle.hop.specs.declared.Hopped.the-variants.{Decided, Refused}
 

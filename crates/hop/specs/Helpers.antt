@@ -1,7 +1,7 @@
 -- What the functions inside the crate answer, and what they may assume; the walk shares the refusals that need no label. No contract of a question cites
 -- these: proofs/Refusals.antt shows how the refusals of a hop are made of them, proofs/Scanning.antt how the decision is.
 use mathlib.Core.Bool.{Bool, cond, not, _&&_, _||_}
-use mathlib.Core.List.{List, [], _∷_}
+use mathlib.Core.List.{List, _∷_, _++_}
 use mathlib.Core.Path.{_≡_}
 use Prim.Native.Nat.{ℕ, _+_, _*_, _%_, _^_, _<_, _≤_}
 use lib.Dec.{eqb, leb, ltb}
@@ -10,19 +10,15 @@ use Rattle.cube.specs.Cube.{bit, flip}
 use Rattle.cube.specs.Refusal.{Test, first, _⇒_}
 use Rattle.cube.specs.Tables.{highest, isDimension, tab}
 use Rattle.scans.specs.Scans.{firstScan, lowest, noScan}
+use Rattle.hop.specs.Hop.{nodeTests, sizeTests}
 use Rattle.hop.specs.declared.Decision.{Decision}
 use Rattle.hop.specs.declared.Decision.the-variants.{Hop, Halted}
 
--- ---- the refusals, in two parts
+-- ---- the refusals that need no label
 
--- those that need no label, of nodes a and b and a label table of m bytes; `other` says that another lent buffer has a wrong length
+-- of nodes a and b and a label table of m bytes; `other` says that another lent buffer has a wrong length
 abbrev pub placeTests : (n a b m : ℕ) (other : Bool) → List Test
-placeTests n a b m other =
-    not (isDimension n) ⇒ 1
-    ∷ not (eqb m (2 ^ n)) ⇒ 2
-    ∷ other ⇒ 2
-    ∷ (leb (2 ^ n) a || leb (2 ^ n) b) ⇒ 5
-    ∷ []
+placeTests n a b m other = sizeTests n m ++ (other ⇒ 2 ∷ nodeTests n a b)
 
 unfoldable pub placeRefusal : (n a b m : ℕ) (other : Bool) → ℕ
 placeRefusal n a b m other = first (placeTests n a b m other)
@@ -33,13 +29,6 @@ pub record Placed (n a b m : ℕ) : Type 0 where
   pub sized : m ≡ 2 ^ n
   pub first : a < 2 ^ n
   pub second : b < 2 ^ n
-
--- then those that c's label and its neighbours' give
-abbrev pub nearTests : (n own : ℕ) (near : ℕ → ℕ) → List Test
-nearTests n own near =
-    (ltb highest own || some n (λ i. ltb highest (near i))) ⇒ 4
-    ∷ eqb own 3 ⇒ 6
-    ∷ []
 
 -- ---- the decision
 

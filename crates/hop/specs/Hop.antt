@@ -2,7 +2,7 @@
 -- The decision is a function of n, c, d, c's own label and the labels of its n neighbours, and of nothing else: `hop` takes these from the labels
 -- of all nodes. The question `hopped` is asked of any label table: m is its length, and lab x the byte of node x.
 use mathlib.Core.Bool.{cond, not, _||_}
-use mathlib.Core.List.{List, [], _∷_}
+use mathlib.Core.List.{List, [], _∷_, _++_}
 use Prim.Native.Nat.{ℕ, _^_}
 use lib.Dec.{eqb, leb, ltb}
 use Rattle.cube.specs.Count.{some}
@@ -30,15 +30,25 @@ hop n lab c d = decide n c d (lab c) (λ i. lab (flip i c))
 
 -- ---- the question
 
--- the refusals in order
-abbrev pub hopTests : (n c d m : ℕ) (lab : ℕ → ℕ) → List Test
-hopTests n c d m lab =
+-- its refusals, by parts: of the dimension and a label table of m bytes; of two nodes; of c's label and those of its neighbours
+abbrev pub sizeTests : (n m : ℕ) → List Test
+sizeTests n m =
     not (isDimension n) ⇒ 1
     ∷ not (eqb m (2 ^ n)) ⇒ 2
-    ∷ (leb (2 ^ n) c || leb (2 ^ n) d) ⇒ 5
-    ∷ (ltb highest (lab c) || some n (λ i. ltb highest (lab (flip i c)))) ⇒ 4
-    ∷ eqb (lab c) 3 ⇒ 6
     ∷ []
+
+abbrev pub nodeTests : (n a b : ℕ) → List Test
+nodeTests n a b = (leb (2 ^ n) a || leb (2 ^ n) b) ⇒ 5 ∷ []
+
+abbrev pub nearTests : (n own : ℕ) (near : ℕ → ℕ) → List Test
+nearTests n own near =
+    (ltb highest own || some n (λ i. ltb highest (near i))) ⇒ 4
+    ∷ eqb own 3 ⇒ 6
+    ∷ []
+
+-- and in order: 1, 2, 5, 4, 6
+abbrev pub hopTests : (n c d m : ℕ) (lab : ℕ → ℕ) → List Test
+hopTests n c d m lab = sizeTests n m ++ (nodeTests n c d ++ nearTests n (lab c) (λ i. lab (flip i c)))
 
 unfoldable pub hopRefusal : (n c d m : ℕ) (lab : ℕ → ℕ) → ℕ
 hopRefusal n c d m lab = first (hopTests n c d m lab)

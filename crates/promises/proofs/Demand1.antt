@@ -2,7 +2,7 @@
 use mathlib.Core.Bool.{true}
 use mathlib.Core.List.{List}
 use mathlib.Core.Path.{_≡_, refl, ap, _∙_}
-use Prim.Native.Nat.{ℕ, zero, suc, _*_}
+use Prim.Native.Nat.{ℕ, zero, suc, _+_, _*_}
 use native.Mathlib.Omega.{arith}
 use lib.Dec.{eqb}
 use lib.ListN.{getD, length, replicate}
@@ -16,8 +16,7 @@ use Rattle.labels.specs.Labelling.{labelRefusal, labelled, labelsAfter}
 use Rattle.labels.specs.declared.Labelled.the-variants as labelled
 use Rattle.labels.proofs.Refusal.{of-refused}
 use Rattle.notice.specs.Addresses.{withBits}
-use Rattle.notice.specs.Notice.{addressesOf, noticed, refusalOf, tableAfter}
-use Rattle.notice.specs.declared.Noticed.{Noticed}
+use Rattle.notice.specs.Notice.{addressesOf, dimensionAt, noticeFrom, noticed, restAt, tableAfter}
 use Rattle.notice.specs.declared.Noticed.the-variants as noticed
 use Rattle.notice.proofs.Laws.{notice-laws}
 use Rattle.hop.specs.Hop.{hopped}
@@ -26,7 +25,7 @@ use Rattle.hop.specs.declared.Decision.{Decision}
 use Rattle.hop.specs.declared.Decision.the-variants.{Deliver, Hop, Halted}
 use Rattle.walk.specs.declared.Ending.the-variants as ending
 use Rattle.walk.specs.declared.Walked.{Walked}
-use Rattle.promises.specs.Demand1.{Demand1}
+use Rattle.promises.specs.Demand1.{Demand1, Passes}
 
 labels-kept : (K : Cabinet) (before : List ℕ) (k : ℕ) → labelled K (length before) ≡ labelled.Refused k → labelsAfter K before ≡ before
 unfolding labelsAfter
@@ -87,20 +86,16 @@ row-kept w before k e = rw e
 walk-number : (w : Walked) (k : ℕ) → Blank w → w .ending ≡ ending.Refused k → walkNumber w ≡ k * 16777216
 walk-number w k b e = let z = b k e .count in rw (e) (omega arith)
 
--- ---- a notice whose refusal is 0 is accepted: no refusal has that number
+-- ---- a notice each of whose numbers passes its tests is accepted
 
-accepted : (bytes before : List ℕ) → refusalOf (noticed bytes before) ≡ 0
-    → (n : ℕ) × (m : ℕ) × (taken : ℕ) × (noticed bytes before ≡ noticed.Notice n m taken)
-accepted bytes before = go (noticed bytes before) refl
-  where
-    go : (x : Noticed) → noticed bytes before ≡ x → refusalOf x ≡ 0 → (n : ℕ) × (m : ℕ) × (taken : ℕ) × (x ≡ noticed.Notice n m taken)
-    go (noticed.Notice n m taken) e z = (n, m, taken, refl)
-    go (noticed.Refused k) e z = absurd (omega (arith, notice-laws .number bytes before k e))
+module _ (bytes before : List ℕ) (n at m start base taken : ℕ) (P : Passes bytes before n at m start base taken) where
+  notice-answered : noticed bytes before ≡ noticed.Notice n m (start + taken)
+  unfolding noticed noticeFrom dimensionAt restAt
+  notice-answered = rw (P .dimension, P .count, P .addresses)
 
-table-written : (bytes before : List ℕ) → refusalOf (noticed bytes before) ≡ 0
-    → tableAfter bytes before ≡ withBits (replicate (length before) 0) (addressesOf bytes)
-unfolding tableAfter
-table-written bytes before z = let a = accepted bytes before z in rw (a .3)
+  table-written : tableAfter bytes before ≡ withBits (replicate (length before) 0) (addressesOf bytes)
+  unfolding tableAfter
+  table-written = rw notice-answered
 
 pub demand1 : Demand1
 unfolding labelled labelsAfter hopped
@@ -119,6 +114,6 @@ demand1 =
       hop-answered = λ n c d m lab e. rw e;
       walk-answered = walk-answered;
       row-written = λ n s d m lab before. row-written n s d m (length before) lab before;
-      notice-answered = accepted;
+      notice-answered = notice-answered;
       table-written = table-written;
     }

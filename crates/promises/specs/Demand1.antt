@@ -2,20 +2,29 @@
 -- for a notice one a number, crates/notice/specs/Tests.antt). Here: what a refusal and an acceptance do with what was lent.
 use mathlib.Core.List.{List}
 use mathlib.Core.Path.{_≡_}
-use Prim.Native.Nat.{ℕ, _*_}
-use lib.ListN.{getD, length, replicate}
+use Prim.Native.Nat.{ℕ, _+_, _*_, _^_}
+use lib.ListN.{drop, getD, length, replicate}
 use Rattle.cube.specs.Tables.{tab}
+use Rattle.groups.specs.Number.{numberAt}
+use Rattle.groups.specs.declared.Number.the-variants as number
 use Rattle.hcube.specs.Answers.{hopNumber, labelNumber, noticeNumber, rowAfter, rowByte, walkNumber}
 use Rattle.rule.specs.Cabinet.{Cabinet, labelsOf, roundsOf}
 use Rattle.labels.specs.Labelling.{labelRefusal, labelled, labelsAfter}
 use Rattle.labels.specs.declared.Labelled.the-variants as labelled
-use Rattle.notice.specs.Addresses.{withBits}
-use Rattle.notice.specs.Notice.{addressesOf, noticed, refusalOf, tableAfter}
+use Rattle.notice.specs.Addresses.{addressesEnd, withBits}
+use Rattle.notice.specs.Notice.{addressesOf, noticed, tableAfter}
+use Rattle.notice.specs.Tests.{countTests, dimensionTests, lengthTests, tested}
 use Rattle.notice.specs.declared.Noticed.the-variants as noticed
 use Rattle.hop.specs.Hop.{hop, hopRefusal, hopped}
 use Rattle.walk.specs.Walk.{row, rowBytes, walkFrom, walkRefusal, walked}
 use Rattle.walk.specs.declared.Ending.the-variants as ending
 use Rattle.hop.specs.declared.Hopped.the-variants as hopped
+
+-- each number of a notice passes its tests: the dimension n, with the lent table's length; the count m; and m addresses
+pub record Passes (bytes before : List ℕ) (n at m start base taken : ℕ) : Type 0 where
+  pub dimension : tested (lengthTests before) (tested dimensionTests (numberAt bytes 0)) ≡ number.Value n at
+  pub count : tested (countTests n) (numberAt bytes at) ≡ number.Value m start
+  pub addresses : addressesEnd m (drop start bytes) 0 0 (2 ^ n) ≡ number.Value base taken
 
 pub record Demand1 : Type 0 where
   -- a refusal writes nothing into any buffer it was lent
@@ -41,7 +50,8 @@ pub record Demand1 : Type 0 where
       (n s d m : ℕ) (lab : ℕ → ℕ) (before : List ℕ) → walkRefusal n s d m (length before) lab ≡ 0
       → rowAfter (walked n s d m (length before) lab) before ≡ tab rowBytes (rowByte (row n lab d s))
   pub notice-answered :
-      (bytes before : List ℕ) → refusalOf (noticed bytes before) ≡ 0
-      → (n : ℕ) × (m : ℕ) × (taken : ℕ) × (noticed bytes before ≡ noticed.Notice n m taken)
+      (bytes before : List ℕ) (n at m start base taken : ℕ) → Passes bytes before n at m start base taken
+      → noticed bytes before ≡ noticed.Notice n m (start + taken)
   pub table-written :
-      (bytes before : List ℕ) → refusalOf (noticed bytes before) ≡ 0 → tableAfter bytes before ≡ withBits (replicate (length before) 0) (addressesOf bytes)
+      (bytes before : List ℕ) (n at m start base taken : ℕ) → Passes bytes before n at m start base taken
+      → tableAfter bytes before ≡ withBits (replicate (length before) 0) (addressesOf bytes)

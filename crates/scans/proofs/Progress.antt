@@ -13,7 +13,7 @@ use Rattle.cube.proofs.Bools.{either, or-left, or-right}
 use Rattle.cube.proofs.Cube.{flip-lt, flip-flip, dist-fall, dist-rise, dist-sym, apart-sym, neighbour}
 use Rattle.rule.specs.Good.{Good}
 use Rattle.scans.specs.Picks.{Misses, NonePicks, Picks, takesAt}
-use Rattle.scans.specs.Progress.{GoodProgress, Inside, Progress, rank}
+use Rattle.scans.specs.Progress.{GoodProgress, Inside, Progress, ScansProgress, rank}
 use Rattle.scans.specs.Scans.{forward, noScan, spare}
 use Rattle.scans.proofs.Picking.{scanHere, hit, miss, no-zero, each-scan}
 use Rattle.scans.proofs.Toward.{safe-step, near-step, toward, theorem5}
@@ -223,5 +223,8 @@ module _ (n : ℕ) (lab : ℕ → ℕ) (G : Good n lab) (d : ℕ) (hd : d < 2 ^ 
             low : (s : ℕ) → scanHere n lab c d s .top ≤ 1 → Step c s
             low s t i hi e m = absurd (omega (arith, hit n lab c d s i e .2, dark (flip i c) (flip-lt n i c hi hc)))
 
-  pub good-progress : GoodProgress n lab d
-  good-progress = record { by-rank = by-rank; to-safe = to-safe; in-the-dark = in-the-dark }
+  all-three : GoodProgress n lab d
+  all-three = record { by-rank = by-rank; to-safe = to-safe; in-the-dark = in-the-dark }
+
+pub scans-progress : ScansProgress
+scans-progress = all-three

@@ -6,6 +6,7 @@ use mathlib.Core.Path.{_≡_}
 use Prim.Native.Nat.{ℕ, _+_, _*_, _^_, _≤_, _<_}
 use lib.Dec.{leb}
 use Rattle.cube.specs.Cube.{apart, dist, flip}
+use Rattle.rule.specs.Good.{Good}
 use Rattle.scans.specs.Picks.{NonePicks, Picks}
 
 -- a node of the cube that works
@@ -31,3 +32,6 @@ pub record GoodProgress (n : ℕ) (lab : ℕ → ℕ) (d : ℕ) : Type 0 where
   pub in-the-dark :
       ((x : ℕ) → x < 2 ^ n → lab x ≢ 0)
       → Progress n lab d (λ c. dist c d) (λ c. (i : ℕ) → i < n → apart i c d ≡ true → 2 < lab (flip i c))
+
+abbrev pub ScansProgress : Type 0
+ScansProgress = (n : ℕ) (lab : ℕ → ℕ) → Good n lab → (d : ℕ) → d < 2 ^ n → lab d ≤ 2 → GoodProgress n lab d

@@ -27,7 +27,7 @@ use Rattle.walk.specs.declared.Ending.{Ending}
 use Rattle.walk.specs.declared.Ending.the-variants as ending
 use Rattle.walk.specs.declared.Walked.{Walked}
 use Rattle.walk.proofs.Steps.{spot-zero}
-use Rattle.theorems.specs.Demand3.{Stepped, Arrives, Stuck, Demand3}
+use Rattle.theorems.specs.Demand3.{Stepped, Arrives, Stuck, Walks, Demand3}
 use Rattle.theorems.specs.Words.{Accepted, Works, labelAt, SomeSafe, walkOf, place}
 use Rattle.theorems.proofs.Demand2.{faulty, works}
 use Rattle.theorems.proofs.Walks.{Kept, Delivers, Halts, delivers, delivers-safe, delivers-or-halts, hops-within}
@@ -192,7 +192,7 @@ module _ (K : Cabinet) (T : Table K) (s d : ℕ) (hs : Works K s) (hd : Works K 
           ⊎-elim (λ (D : Delivers n lab d s 0). delivered 0 (omega arith) D) (λ (H : Halts n lab d s). halted H)
           (by-distance (λ x. eqb-false (lab (x .0)) 0 (f (x .0) (x .1)) (x .2)))
 
-  meets-demand : Demand3 K s d
+  meets-demand : Walks K s d
   meets-demand =
       record {
         stepped = walk-stepped how;
@@ -219,5 +219,5 @@ module _ (K : Cabinet) (T : Table K) (s d : ℕ) (hs : Works K s) (hd : Works K 
       never k e (delivered m l D) = let q = delivered-arrives m D .ending in let z : _≡_ {A = ℕ} 0 1 = cc in omega arith
       never k e (halted H) = let q = halted-stuck H .ending in let z : _≡_ {A = ℕ} 0 1 = cc in omega arith
 
-pub demand3 : (K : Cabinet) → Accepted K → (s d : ℕ) → Works K s → Works K d → Demand3 K s d
+pub demand3 : Demand3
 demand3 K ok = meets-demand K (table K ok)

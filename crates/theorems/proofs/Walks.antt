@@ -15,7 +15,7 @@ use Rattle.cube.proofs.Search.{Least, the-least}
 use Rattle.cube.proofs.Cube.{dist-count, dist-self, dist-zero, dist-fall, dist-rise}
 use Rattle.rule.specs.Good.{Good}
 use Rattle.scans.specs.Progress.{GoodProgress, Inside, Progress, rank}
-use Rattle.scans.proofs.Progress.{rank-le, good-progress}
+use Rattle.scans.proofs.Progress.{rank-le, scans-progress}
 use Rattle.hop.specs.Hop.{hop}
 use Rattle.walk.specs.Walk.{onto, stops, spot, turn, hops, last}
 use Rattle.hop.specs.declared.Decision.{Decision}
@@ -193,7 +193,7 @@ module _ (n : ℕ) (lab : ℕ → ℕ) (G : Good n lab) (d : ℕ) (hd : d < 2 ^ 
         (end n lab d hd measure Stuck P s (hs, ws) fuel)
 
   progress : GoodProgress n lab d
-  progress = good-progress n lab G d hd wd
+  progress = scans-progress n lab G d hd wd
 
   near : dist s d ≤ n + 4
   near = omega (arith, dist-le n s d hs hd)

@@ -12,8 +12,8 @@ use Rattle.theorems.specs.Words.{labelAt}
 pub record Demand2 (K : Cabinet) : Type 0 where
   -- of all sets of working nodes in which each has at most one faulty neighbour and at most two neighbours outside the set,
   -- the safe nodes form the largest
-  pub closed : Closed (K .n) (ruleOf K) (out K) (λ x. eqb (labelAt K x) 0)
-  pub largest : (H : ℕ → Bool) → Closed (K .n) (ruleOf K) (out K) H → (x : ℕ) → x < 2 ^ K .n → H x ≡ true → labelAt K x ≡ 0
+  pub closed : Closed (K .n) 3 (out K) (λ x. eqb (labelAt K x) 0)
+  pub largest : (H : ℕ → Bool) → Closed (K .n) 3 (out K) H → (x : ℕ) → x < 2 ^ K .n → H x ≡ true → labelAt K x ≡ 0
   -- a faulty node has label 3 and a working one a lower label
   pub faulty : (x : ℕ) → x < 2 ^ K .n → out K x ≡ true → labelAt K x ≡ 3
   pub works : (x : ℕ) → x < 2 ^ K .n → out K x ≡ false → labelAt K x ≤ 2

@@ -1,4 +1,4 @@
--- Demand 3: walks arrive. K is a cabinet that labelling accepts; s and d, the source and the destination, are working nodes.
+-- Demand 3: walks arrive. K is a cabinet that labelling accepts; s and d, the source and the destination, are working nodes (the last lines).
 -- Everything is said of the answer that the contract of `walk` gives for the very bytes that labelling writes.
 use mathlib.Core.Bool.{true}
 use mathlib.Core.Logic.{_⊎_}
@@ -10,7 +10,7 @@ use Rattle.hop.specs.Hop.{hop}
 use Rattle.hop.specs.declared.Decision.the-variants.{Deliver, Hop, Halted}
 use Rattle.walk.specs.declared.Ending.the-variants as ending
 use Rattle.walk.specs.declared.Walked.{Walked}
-use Rattle.theorems.specs.Words.{SomeSafe, Works, labelAt, place, walkOf}
+use Rattle.theorems.specs.Words.{Accepted, SomeSafe, Works, labelAt, place, walkOf}
 
 -- the hop count is the number of steps that ROUTE takes: the row begins at the source, each place is the decision's own at the place before,
 -- and the walk ends where the decision says so; every node on it works
@@ -33,7 +33,7 @@ pub record Stuck (K : Cabinet) (d : ℕ) (w : Walked) : Type 0 where
   pub decided : hop (K .n) (labelAt K) (place w (w .hops)) d ≡ Halted
   pub why : (i : ℕ) → i < K .n → apart i (place w (w .hops)) d ≡ true → out K (flip i (place w (w .hops))) ≡ true
 
-pub record Demand3 (K : Cabinet) (s d : ℕ) : Type 0 where
+pub record Walks (K : Cabinet) (s d : ℕ) : Type 0 where
   pub stepped : Stepped K d s (walkOf K s d)
   -- if any node is safe the walk arrives,
   pub arrives : SomeSafe K → Arrives K d (walkOf K s d)
@@ -49,3 +49,7 @@ pub record Demand3 (K : Cabinet) (s d : ℕ) : Type 0 where
   pub even : walkOf K s d .ending ≡ ending.Delivered → (e : ℕ) × (e ≤ labelAt K s) × (walkOf K s d .hops ≡ dist s d + 2 * e)
   -- it is never refused, with 8 or otherwise
   pub never-refused : (k : ℕ) → walkOf K s d .ending ≡ ending.Refused k → ⊥
+
+-- with the labels of an accepted cabinet and two working nodes
+abbrev pub Demand3 : Type 0
+Demand3 = (K : Cabinet) → Accepted K → (s d : ℕ) → Works K s → Works K d → Walks K s d

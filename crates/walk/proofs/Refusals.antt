@@ -12,8 +12,8 @@ use Rattle.cube.proofs.Bools.{either}
 use Rattle.cube.proofs.Refusal.{first-none, first-passes, first-stops}
 use Rattle.hop.specs.Helpers.{Placed, placeRefusal, placeTests}
 use Rattle.hop.proofs.Refusals.{good-place, misplaced, well-placed}
-use Rattle.walk.specs.Helpers.{startRefusal, tableTests, walkOrRefusal}
-use Rattle.walk.specs.Walk.{last, refused, rowBytes, stops, walkRefusal, walked}
+use Rattle.walk.specs.Helpers.{startRefusal, walkOrRefusal}
+use Rattle.walk.specs.Walk.{last, refused, rowBytes, stops, tableTests, walkRefusal, walked}
 
 module _ (n s d m room : ℕ) (lab : ℕ → ℕ) where
   abbrev wrong : Bool

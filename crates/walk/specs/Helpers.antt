@@ -8,18 +8,10 @@ use Rattle.cube.specs.Count.{some}
 use Rattle.cube.specs.Refusal.{Test, first, _⇒_}
 use Rattle.cube.specs.Tables.{highest}
 use Rattle.hop.specs.Helpers.{placeTests}
-use Rattle.walk.specs.Walk.{last, refused, rowBytes, stops, walkFrom}
+use Rattle.walk.specs.Walk.{last, refused, rowBytes, stops, tableTests, walkFrom}
 use Rattle.walk.specs.declared.Walked.{Walked}
 
--- the refusals that the labels give
-abbrev pub tableTests : (n s d : ℕ) (lab : ℕ → ℕ) → List Test
-tableTests n s d lab =
-    some (2 ^ n) (λ x. ltb highest (lab x)) ⇒ 4
-    ∷ eqb (lab s) 3 ⇒ 6
-    ∷ eqb (lab d) 3 ⇒ 7
-    ∷ []
-
--- all of a walk but for 8: first those that need no label
+-- the refusals of a walk but for 8: first those that need no label
 unfoldable pub startRefusal : (n s d m room : ℕ) (lab : ℕ → ℕ) → ℕ
 startRefusal n s d m room lab = first (placeTests n s d m (not (eqb room rowBytes)) ++ tableTests n s d lab)
 

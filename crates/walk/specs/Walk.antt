@@ -2,7 +2,7 @@
 -- It is given place by place: `spot` is the node after k hops and `turn` the decision there; the hop count, the row and the ending are read off them.
 -- The question `walked` is asked of any label table: m is its length, and lab x the byte of node x.
 use mathlib.Core.Bool.{Bool, true, false, cond, not, _||_}
-use mathlib.Core.List.{List, [], _∷_}
+use mathlib.Core.List.{List, [], _∷_, _++_}
 use Prim.Native.Nat.{ℕ, zero, suc, _+_, _^_}
 use lib.Dec.{eqb, leb, ltb}
 use lib.ListN.{replicate}
@@ -10,7 +10,7 @@ use Rattle.cube.specs.Count.{least, some}
 use Rattle.cube.specs.Cube.{flip}
 use Rattle.cube.specs.Refusal.{Test, first, _⇒_}
 use Rattle.cube.specs.Tables.{highest, isDimension, tab}
-use Rattle.hop.specs.Hop.{hop}
+use Rattle.hop.specs.Hop.{hop, nodeTests, sizeTests}
 use Rattle.hop.specs.declared.Decision.{Decision}
 use Rattle.hop.specs.declared.Decision.the-variants.{Deliver, Hop, Halted}
 use Rattle.walk.specs.declared.Ending.{Ending}
@@ -57,23 +57,24 @@ row n lab d s = tab 17 (λ k. cond (leb k (hops n lab d s)) (spot n lab d s k) 0
 abbrev pub rowBytes : ℕ
 rowBytes = 34
 
--- the refusals in order, for a caller who lends a row of `room` bytes
-abbrev pub walkTests : (n s d m room : ℕ) (lab : ℕ → ℕ) → List Test
-walkTests n s d m room lab =
-    not (isDimension n) ⇒ 1
-    ∷ not (eqb m (2 ^ n)) ⇒ 2
-    ∷ not (eqb room rowBytes) ⇒ 2
-    ∷ (leb (2 ^ n) s || leb (2 ^ n) d) ⇒ 5
-    ∷ some (2 ^ n) (λ x. ltb highest (lab x)) ⇒ 4
+-- the refusals that the labels give
+abbrev pub tableTests : (n s d : ℕ) (lab : ℕ → ℕ) → List Test
+tableTests n s d lab =
+    some (2 ^ n) (λ x. ltb highest (lab x)) ⇒ 4
     ∷ eqb (lab s) 3 ⇒ 6
     ∷ eqb (lab d) 3 ⇒ 7
-    ∷ not (stops (last n lab d s)) ⇒ 8
     ∷ []
+
+-- all of them in order, 1, 2 (labels, then row), 5, 4, 6, 7, 8, for a caller who lends a row of `room` bytes
+abbrev pub walkTests : (n s d m room : ℕ) (lab : ℕ → ℕ) → List Test
+walkTests n s d m room lab =
+    sizeTests n m ++ (not (eqb room rowBytes) ⇒ 2 ∷ nodeTests n s d)
+    ++ (tableTests n s d lab ++ (not (stops (last n lab d s)) ⇒ 8 ∷ []))
 
 unfoldable pub walkRefusal : (n s d m room : ℕ) (lab : ℕ → ℕ) → ℕ
 walkRefusal n s d m room lab = first (walkTests n s d m room lab)
 
--- how a walk ends, by its last decision
+-- how a walk ends, by its last decision. (One whose last decision is a hop is refused, by the table.)
 abbrev pub endingOf : Decision → Ending
 endingOf Deliver = ending.Delivered
 endingOf (Hop i) = ending.Refused 8

@@ -7,8 +7,8 @@ use lib.ListN.{length}
 use Rattle.cube.specs.Cube.{flip}
 use Rattle.cube.specs.Refusal.{first}
 use Rattle.cube.specs.Tables.{labelIn}
-use Rattle.hop.specs.Helpers.{Placed, nearTests}
-use Rattle.hop.specs.Hop.{hopRefusal}
+use Rattle.hop.specs.Helpers.{Placed}
+use Rattle.hop.specs.Hop.{hopRefusal, nearTests}
 use Rattle.hop.proofs.Gathered.{arrives, goes}
 use Rattle.hop.proofs.Refusals.{placed, hop-misplaced, hop-placed, hop-refuses, hop-decides}
 use Rattle.hop.proofs.hop.Statement.{statement}

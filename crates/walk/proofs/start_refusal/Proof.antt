@@ -13,7 +13,8 @@ use Rattle.cube.specs.Tables.{highest, labelIn}
 use Rattle.cube.proofs.Search.{largest-above}
 use Rattle.hop.specs.Helpers.{Placed}
 use Rattle.hop.proofs.Refusals.{placed}
-use Rattle.walk.specs.Helpers.{startRefusal, tableTests}
+use Rattle.walk.specs.Helpers.{startRefusal}
+use Rattle.walk.specs.Walk.{tableTests}
 use Rattle.walk.proofs.Refusals.{start-misplaced, start-placed}
 use Rattle.walk.proofs.start_refusal.Statement.{statement}
 use Rattle.walk.proofs.start_refusal.Tie as tie
