@@ -1,4 +1,4 @@
--- The laws of a table of refusals. `Numbered m ts`: every number of it is one of 1 to m; of a table with its numbers written out this is `refl`.
+-- The laws of a table of refusals. `numbered m ts`: every number of it is one of 1 to m; of a table with its numbers written out this is `refl`.
 use mathlib.Core.Path.{_≡_, refl}
 use mathlib.Core.Bool.{Bool, true, false, cond, _&&_}
 use mathlib.Core.List.{List, [], _∷_, _++_}
@@ -7,7 +7,7 @@ use native.Mathlib.Omega.{arith}
 use lib.Dec.{leb}
 use borrow.Author.Tests.{leb-true}
 use Rattle.cube.specs.Refusal.{Test, first}
-use Rattle.cube.proofs.Bools.{and-true}
+use Rattle.cube.proofs.Bools.{and-true, by-cases}
 
 abbrev pub numbered : ℕ → List Test → Bool
 numbered m [] = true
@@ -18,16 +18,13 @@ abbrev pub None : List Test → Type 0
 None [] = Unit {0}
 None (t ∷ ts) = (t .holds ≡ false) × None ts
 
-choice-le : (b : Bool) (k r m : ℕ) → k ≤ m → r ≤ m → cond b k r ≤ m
-choice-le true k r m h g = h
-choice-le false k r m h g = g
-
 pub first-le : (m : ℕ) (ts : List Test) → numbered m ts ≡ true → first ts ≤ m
 unfolding first
 first-le m [] e = omega arith
 first-le m (t ∷ ts) e =
     let a = and-true (leb 1 (t .number) && leb (t .number) m) (numbered m ts) e in
-    choice-le (t .holds) (t .number) (first ts) m (leb-true (t .number) m (and-true (leb 1 (t .number)) (leb (t .number) m) (a .0) .1)) (first-le m ts (a .1))
+    by-cases (λ k. k ≤ m) (t .holds) (λ _. leb-true (t .number) m (and-true (leb 1 (t .number)) (leb (t .number) m) (a .0) .1))
+    (λ _. first-le m ts (a .1))
 
 choice-zero : (b : Bool) (k r : ℕ) → 1 ≤ k → cond b k r ≡ 0 → (b ≡ false) × (r ≡ 0)
 choice-zero true k r h e = absurd (omega arith)

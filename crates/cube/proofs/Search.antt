@@ -101,6 +101,9 @@ least-is n p i h before hit = omega (arith, low, high)
     high : ¬ (i < least n p)
     high l = clash (hit (omega (arith, the-least n p .within))) (the-least n p .before i l)
 
+pub least-none : (n : ℕ) (p : ℕ → Bool) → ((i : ℕ) → i < n → p i ≡ false) → least n p ≡ n
+least-none n p f = least-is n p n (omega arith) f (λ h. absurd (omega arith))
+
 -- ---- some place below n has p
 
 pub some-hit : (n : ℕ) (p : ℕ → Bool) (i : ℕ) → i < n → p i ≡ true → some n p ≡ true
@@ -109,7 +112,7 @@ some-hit n p i h e = lt-ltb (least n p) n (least-found n p i h e)
 
 pub some-none : (n : ℕ) (p : ℕ → Bool) → ((i : ℕ) → i < n → p i ≡ false) → some n p ≡ false
 unfolding some
-some-none n p f = le-ltb (least n p) n (omega (arith, least-is n p n (omega arith) f (λ h. absurd (omega arith))))
+some-none n p f = le-ltb (least n p) n (omega (arith, least-none n p f))
 
 pub some-found : (n : ℕ) (p : ℕ → Bool) → some n p ≡ true → (i : ℕ) × (i < n) × (p i ≡ true)
 unfolding some

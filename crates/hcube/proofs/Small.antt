@@ -3,30 +3,35 @@
 use mathlib.Core.Path.{_≡_, refl}
 use mathlib.Core.Bool.{true, false}
 use mathlib.Core.List.{List}
-use Prim.Native.Nat.{ℕ, _+_, _≤_, _<_}
+use Prim.Native.Nat.{ℕ, _≤_, _<_}
 use native.Mathlib.Omega.{arith}
 use lib.Dec.{eqb}
 use borrow.Author.Tests.{eqb-true, not-false}
 use Rattle.cube.specs.Tables.{tab}
 use Rattle.cube.proofs.Bools.{by-cases}
-use Rattle.cube.proofs.Search.{the-least}
 use Rattle.cube.proofs.Refusal.{first-le, first-none}
 use Rattle.cube.proofs.Tables.{dimension-is}
 use Rattle.rule.specs.Cabinet.{Cabinet}
 use Rattle.rule.proofs.Cabinet.{rounds-few}
 use Rattle.labels.specs.Labelling as L
+use Rattle.labels.specs.declared.Labelled.{Labelled}
 use Rattle.labels.proofs.Refusal.{fitting, refusal-le}
 use Rattle.hop.specs.Hop as H
 use Rattle.walk.specs.Walk as W
 use Rattle.hop.specs.declared.Decision.{Decision}
+use Rattle.hop.specs.declared.Hopped.{Hopped}
 use Rattle.hop.specs.declared.Decision.the-variants.{Deliver, Hop, Halted}
 use Rattle.walk.specs.declared.Walked.{Walked}
+use Rattle.walk.proofs.Steps.{hops-within}
 use Rattle.hop.proofs.Local.{hop-dim}
 use Rattle.hop.proofs.Refusals.{hop-good}
 use Rattle.hcube.specs.Answers.{hasRow, rowAfter, rowByte}
-use Rattle.hcube.specs.Fits.{HopFits, LabelFits, RowFits, WalkFits}
+use Rattle.hcube.specs.Fits.{RowFits, WalkFits}
 
 -- ---- labelling
+
+abbrev pub LabelFits : Labelled → Type 0
+LabelFits a = (L.refusalOf a < 256) × (L.valueOf a < 65536)
 
 pub label-small : (K : Cabinet) (m : ℕ) → LabelFits (L.labelled K m)
 unfolding L.labelled
@@ -36,6 +41,9 @@ label-small K m =
     (λ _. (omega (arith, refusal-le K m), omega arith))
 
 -- ---- the hop
+
+abbrev HopFits : Hopped → Type 0
+HopFits a = (H.refusalOf a < 256) × (H.valueOf a < 65536)
 
 module _ (n c d m : ℕ) (lab : ℕ → ℕ) where
   hop-refusal : H.hopRefusal n c d m lab ≤ 12
@@ -68,10 +76,6 @@ module _ (n s d m room : ℕ) (lab : ℕ → ℕ) where
       let t = first-none 12 (W.walkTests n s d m room lab) refl e in
       (dimension-is n (not-false _ (t .0)) .1, eqb-true _ _ (not-false _ (t .1 .1 .0)))
 
-  hops-few : n ≤ 12 → W.hops n lab d s < 65536
-  unfolding W.hops
-  hops-few h = omega (arith, the-least (n + 4) (λ k. W.stops (W.turn n lab d s k)) .within)
-
   ending-few : (x : Decision) → W.refusalOf (W.endingOf x) < 256
   ending-few Deliver = omega arith
   ending-few (Hop i) = omega arith
@@ -81,7 +85,7 @@ module _ (n s d m room : ℕ) (lab : ℕ → ℕ) where
   unfolding W.walked W.walkFrom W.refused
   walk-small =
       by-cases WalkFits (eqb (W.walkRefusal n s d m room lab) 0)
-      (λ e. (ending-few (W.last n lab d s), hops-few (lent (eqb-true (W.walkRefusal n s d m room lab) 0 e) .0)))
+      (λ e. (ending-few (W.last n lab d s), omega (arith, lent (eqb-true (W.walkRefusal n s d m room lab) 0 e) .0, hops-within n lab d s)))
       (λ _. (omega (arith, walk-refusal), omega arith))
 
   pub row-fits : RowFits (W.walked n s d m room lab) room

@@ -3,19 +3,9 @@
 use mathlib.Core.Bool.{true}
 use mathlib.Core.Path.{_≡_}
 use Prim.Native.Nat.{ℕ, _<_}
-use Rattle.labels.specs.Labelling as L
-use Rattle.labels.specs.declared.Labelled.{Labelled}
-use Rattle.hop.specs.Hop as H
 use Rattle.walk.specs.Walk as W
-use Rattle.hop.specs.declared.Hopped.{Hopped}
 use Rattle.walk.specs.declared.Walked.{Walked}
 use Rattle.hcube.specs.Answers.{hasRow}
-
-abbrev pub LabelFits : Labelled → Type 0
-LabelFits a = (L.refusalOf a < 256) × (L.valueOf a < 65536)
-
-abbrev pub HopFits : Hopped → Type 0
-HopFits a = (H.refusalOf a < 256) × (H.valueOf a < 65536)
 
 abbrev pub WalkFits : Walked → Type 0
 WalkFits w = (W.refusalOf (w .ending) < 256) × (w .hops < 65536)

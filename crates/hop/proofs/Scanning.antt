@@ -13,13 +13,13 @@ use Rattle.cube.specs.Count.{least}
 use Rattle.cube.specs.Cube.{dist}
 use Rattle.cube.proofs.Count.{below-suc}
 use Rattle.cube.proofs.Bools.{either}
-use Rattle.cube.proofs.Search.{least-is, the-least}
+use Rattle.cube.proofs.Search.{least-is, the-least, least-none}
 use Rattle.cube.proofs.Cube.{dist-self, dist-zero}
 use Rattle.scans.specs.Scans.{firstScan, forward, lowest, noScan, scanAt, scanOf, spare, suits, takes}
 use Rattle.hop.specs.Helpers.{across, inSet, chosen}
 use Rattle.hop.specs.Hop.{answer, decide}
 use Rattle.hop.specs.declared.Decision.the-variants.{Deliver, Hop, Halted}
-use Rattle.hop.proofs.Sets.{least-none, forward-set, spare-set}
+use Rattle.hop.proofs.Sets.{forward-set, spare-set}
 
 module _ (n c d own : ℕ) (near : ℕ → ℕ) where
   -- ---- what a scan finds
@@ -29,7 +29,7 @@ module _ (n c d own : ℕ) (near : ℕ → ℕ) where
   unfolding lowest
   idle s f = least-none n (takes c d own near s) (λ i _. f i)
 
-  -- scan s by its row: it is allowed, and the set is the dimensions of its side
+  -- scan s by its line: it is allowed, and the set is the dimensions of its side
   pub forward-scan : (s t : ℕ) → scanAt (dist c d) own s ≡ scanOf forward t true → least n (inSet (bitXor c d) near t) ≡ lowest n c d own near s
   unfolding lowest takes
   forward-scan s t e = forward-set n c d near t ∙ ap (λ z. least n (suits c d near z)) (sym e)
@@ -90,7 +90,8 @@ module _ (n c d own : ℕ) (near : ℕ → ℕ) where
   pub decided : n ≤ 12 → c < 2 ^ n → d < 2 ^ n → c ≢ d → across (chosen n c d own near) ≡ decide n c d own near
   unfolding decide answer chosen across
   decided small hc hd far =
-      rw (ne-eqb (dist c d) 0 (λ e. far (dist-zero n c d hc hd e))) (apart-again (firstScan n c d own near) (lowest n c d own near _) (omega (arith, lowest-within (firstScan n c d own near))))
+      let s = firstScan n c d own near in
+      rw (ne-eqb (dist c d) 0 (λ e. far (dist-zero n c d hc hd e))) (apart-again s (lowest n c d own near s) (omega (arith, lowest-within s)))
     where
       -- the number taken apart again
       apart-again : (s i : ℕ) → i < 16 → cond (ltb (s * 16 + i) (noScan * 16)) (Hop ((s * 16 + i) % 16)) Halted ≡ cond (ltb s noScan) (Hop i) Halted

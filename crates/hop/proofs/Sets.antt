@@ -15,7 +15,7 @@ use lib.Pow.{pow-pos}
 use Rattle.cube.specs.Count.{least}
 use Rattle.cube.specs.Cube.{bit, flip, apart}
 use Rattle.cube.proofs.Bools.{and-both, beq-no, beq-yes, by-cases, xor-not}
-use Rattle.cube.proofs.Search.{Least, the-least, least-found, least-is, least-same, find}
+use Rattle.cube.proofs.Search.{Least, the-least, least-found, least-is, least-same, find, least-none}
 use Rattle.cube.proofs.Cube.{bit-low, bit-suc, bit-none, bit-xor, bit-flip-other, bits-same}
 use Rattle.hop.specs.Helpers.{inSet}
 use Rattle.scans.specs.Scans.{forward, spare, scanOf, suits}
@@ -105,9 +105,6 @@ lowest-of n x small h more = go (find n (λ i. bit i x))
     go (inr none) = absurd (more (bits-same n x 0 h (pow-pos n) (λ i l. none i l ∙ sym (bit-none i))))
 
 -- ---- the search in a set
-
-pub least-none : (n : ℕ) (p : ℕ → Bool) → ((i : ℕ) → i < n → p i ≡ false) → least n p ≡ n
-least-none n p f = least-is n p n (omega arith) f (λ h. absurd (omega arith))
 
 module _ (n x : ℕ) (near : ℕ → ℕ) (t : ℕ) where
   -- its lowest dimension, where the neighbour's label is low enough

@@ -1,14 +1,13 @@
 -- What the functions inside the crate answer, and what they may assume; the walk shares the refusals that need no label. No contract of a question cites
 -- these: proofs/Refusals.antt shows how the refusals of a hop are made of them, proofs/Scanning.antt how the decision is.
-use mathlib.Core.Bool.{Bool, cond, not, _&&_, _||_}
+use mathlib.Core.Bool.{Bool, cond, _&&_}
 use mathlib.Core.List.{List, _∷_, _++_}
 use mathlib.Core.Path.{_≡_}
 use Prim.Native.Nat.{ℕ, _+_, _*_, _%_, _^_, _<_, _≤_}
-use lib.Dec.{eqb, leb, ltb}
-use Rattle.cube.specs.Count.{some}
+use lib.Dec.{leb, ltb}
 use Rattle.cube.specs.Cube.{bit, flip}
 use Rattle.cube.specs.Refusal.{Test, first, _⇒_}
-use Rattle.cube.specs.Tables.{highest, isDimension, tab}
+use Rattle.cube.specs.Tables.{tab}
 use Rattle.scans.specs.Scans.{firstScan, lowest, noScan}
 use Rattle.hop.specs.Hop.{nodeTests, sizeTests}
 use Rattle.hop.specs.declared.Decision.{Decision}

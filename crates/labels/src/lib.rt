@@ -57,7 +57,8 @@ fn label_refusal(n: usize, faults: &[u8], m: usize) -> u32
 
 // What a test adds to a count.
 fn one(b: bool) -> usize
-    ensures { λ r. ⌜ (r ≡ cond b 1 0) × (r ≤ 1) ⌝ }
+    ensures value { λ r. ⌜ r ≡ cond b 1 0 ⌝ }
+    ensures few { λ r. ⌜ r ≤ 1 ⌝ }
 {
     b as usize
 }

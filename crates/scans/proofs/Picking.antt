@@ -1,5 +1,5 @@
 -- What the scans pick: the two searches of the definition, over the scans and over the dimensions, give the first scan and its lowest dimension; and
--- what a scan asks of a dimension is read off its row.
+-- what a scan asks of a dimension is read off its line of the table.
 use mathlib.Core.Path.{_≡_, refl}
 use mathlib.Core.Bool.{true, false, _&&_, Bool·beq}
 use Prim.Native.Nat.{ℕ, zero, suc, _≤_, _<_}
@@ -9,8 +9,15 @@ use borrow.Author.Tests.{ltb-true, ltb-false, leb-true, leb-false}
 use Rattle.cube.specs.Cube.{flip, apart, dist}
 use Rattle.cube.proofs.Bools.{beq-same, beq-true, clash, and-true}
 use Rattle.cube.proofs.Search.{Least, the-least}
-use Rattle.scans.specs.Picks.{Misses, NonePicks, Picks, firstScanAt, lowestAt, takesAt}
+use Rattle.scans.specs.Picks.{Misses, NonePicks, Picks, takesAt}
 use Rattle.scans.specs.Scans.{Scan, firstScan, lowest, noScan, scanAt, suits, takes}
+
+-- the first scan that takes a dimension, and the lowest that scan s takes
+abbrev pub firstScanAt : (n : ℕ) (lab : ℕ → ℕ) (c d : ℕ) → ℕ
+firstScanAt n lab c d = firstScan n c d (lab c) (λ j. lab (flip j c))
+
+abbrev pub lowestAt : (n : ℕ) (lab : ℕ → ℕ) (c d s : ℕ) → ℕ
+lowestAt n lab c d = lowest n c d (lab c) (λ j. lab (flip j c))
 
 module _ (n : ℕ) (lab : ℕ → ℕ) (c d : ℕ) where
   abbrev first : ℕ

@@ -3,17 +3,11 @@ use mathlib.Core.Bool.{Bool, true, false}
 use mathlib.Core.Path.{_≡_}
 use Prim.Native.Nat.{ℕ, _<_}
 use Rattle.cube.specs.Cube.{flip}
-use Rattle.scans.specs.Scans.{firstScan, lowest, noScan, takes}
+use Rattle.scans.specs.Scans.{noScan, takes}
 
--- by the labels: scan s at c takes dimension i; the first scan that takes one, and the lowest dimension that scan s takes
+-- by the labels: scan s at c takes dimension i
 abbrev pub takesAt : (lab : ℕ → ℕ) (c d s i : ℕ) → Bool
 takesAt lab c d = takes c d (lab c) (λ j. lab (flip j c))
-
-abbrev pub firstScanAt : (n : ℕ) (lab : ℕ → ℕ) (c d : ℕ) → ℕ
-firstScanAt n lab c d = firstScan n c d (lab c) (λ j. lab (flip j c))
-
-abbrev pub lowestAt : (n : ℕ) (lab : ℕ → ℕ) (c d s : ℕ) → ℕ
-lowestAt n lab c d = lowest n c d (lab c) (λ j. lab (flip j c))
 
 -- scan s takes no dimension
 abbrev pub Misses : (n : ℕ) (lab : ℕ → ℕ) (c d s : ℕ) → Type 0

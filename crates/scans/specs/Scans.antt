@@ -25,7 +25,7 @@ pub record Scan : Type 0 where
 abbrev pub scanOf : (side : Bool) (top : ℕ) (allowed : Bool) → Scan
 scanOf side top allowed = record { side = side; top = top; allowed = allowed }
 
--- scans 1 to 5 at distance l from the destination; the row before them is empty
+-- scans 1 to 5 at distance l from the destination; the line before them is empty
 abbrev pub scans : (l own : ℕ) → List Scan
 scans l own =
     scanOf forward 0 false

@@ -8,9 +8,8 @@ use lib.Dec.{eqb, ltb}
 use borrow.Author.Tests.{eqb-true, eqb-false, ltb-true, ltb-false}
 use Rattle.cube.specs.Cube.{dist}
 use Rattle.cube.proofs.Bools.{either}
-use Rattle.scans.specs.Picks.{firstScanAt, lowestAt}
 use Rattle.scans.specs.Scans.{noScan}
-use Rattle.scans.proofs.Picking.{first-picks, none-picks}
+use Rattle.scans.proofs.Picking.{first-picks, firstScanAt, lowestAt, none-picks}
 use Rattle.hop.specs.Hop.{answer, decide, hop}
 use Rattle.theorems.specs.Picked.{Picked, arrived, took, stopped}
 

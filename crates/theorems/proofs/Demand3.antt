@@ -26,11 +26,11 @@ use Rattle.hop.specs.declared.Decision.the-variants.{Deliver, Halted}
 use Rattle.walk.specs.declared.Ending.{Ending}
 use Rattle.walk.specs.declared.Ending.the-variants as ending
 use Rattle.walk.specs.declared.Walked.{Walked}
-use Rattle.walk.proofs.Steps.{spot-zero}
+use Rattle.walk.proofs.Steps.{hops-within, spot-zero}
 use Rattle.theorems.specs.Demand3.{Stepped, Arrives, Stuck, Walks, Demand3}
 use Rattle.theorems.specs.Words.{Accepted, Works, labelAt, SomeSafe, walkOf, place}
 use Rattle.theorems.proofs.Demand2.{faulty, works}
-use Rattle.theorems.proofs.Walks.{Kept, Delivers, Halts, delivers, delivers-safe, delivers-or-halts, hops-within}
+use Rattle.theorems.proofs.Walks.{Kept, Delivers, Halts, delivers, delivers-safe, delivers-or-halts}
 
 -- what is known of the label bytes of an accepted table
 record Table (K : Cabinet) : Type 0 where

@@ -42,10 +42,6 @@ module _ (n : ℕ) (lab : ℕ → ℕ) (d s : ℕ) where
   unfolding hops last
   hops-end = the-hops .hit
 
-  pub hops-within : hops n lab d s ≤ n + 4
-  unfolding hops
-  hops-within = the-hops .within
-
 stops-is : {h : Decision} {b : Bool} (x : Decision) → h ≡ x → stops x ≡ b → stops h ≡ b
 stops-is x e f = ap stops e ∙ f
 

@@ -1,4 +1,4 @@
--- The walk as a loop takes it. What holds at each turn is one record: the message stands where the walk is after its hops, no decision so far ended it,
+-- The walk as a loop takes it. What holds each time round is one record: the message stands where the walk is after its hops, no decision so far ended it,
 -- and the row holds the nodes up to here. The laws: it holds at the start, a hop keeps it, and each way out of the loop gives the walk's answer.
 use mathlib.Core.Path.{_≡_, refl, sym, ap, ap₂, _∙_}
 use mathlib.Core.Bool.{true, false, cond}
@@ -12,7 +12,7 @@ use lib.Dec.{leb}
 use lib.ListN.{replicate, set}
 use Rattle.cube.specs.Cube.{flip}
 use Rattle.cube.specs.Tables.{tab}
-use Rattle.cube.proofs.Search.{least-is}
+use Rattle.cube.proofs.Search.{least-is, the-least}
 use Rattle.cube.proofs.Cube.{flip-lt}
 use Rattle.cube.proofs.Front.{front, front-zero, front-zeros, front-write}
 use Rattle.walk.specs.Helpers.{walkOrRefusal}
@@ -35,6 +35,10 @@ module _ (n : ℕ) (lab : ℕ → ℕ) (d s : ℕ) where
   pub spot-zero : spot n lab d s 0 ≡ s
   unfolding spot
   spot-zero = refl
+
+  pub hops-within : hops n lab d s ≤ n + 4
+  unfolding hops
+  hops-within = the-least (n + 4) (λ k. stops (turn n lab d s k)) .within
 
   pub start : s < 2 ^ n → Walking n lab d s (set (replicate 17 0) 0 s) (record { at = s; to = d; hops = 0 })
   start h =

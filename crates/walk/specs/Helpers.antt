@@ -1,12 +1,10 @@
 -- What the functions inside the crate answer. No contract of a question cites these: proofs/Refusals.antt shows how the refusals of a walk are made
 -- of them.
 use mathlib.Core.Bool.{cond, not}
-use mathlib.Core.List.{List, [], _∷_, _++_}
-use Prim.Native.Nat.{ℕ, _^_}
-use lib.Dec.{eqb, ltb}
-use Rattle.cube.specs.Count.{some}
-use Rattle.cube.specs.Refusal.{Test, first, _⇒_}
-use Rattle.cube.specs.Tables.{highest}
+use mathlib.Core.List.{_++_}
+use Prim.Native.Nat.{ℕ}
+use lib.Dec.{eqb}
+use Rattle.cube.specs.Refusal.{first}
 use Rattle.hop.specs.Helpers.{placeTests}
 use Rattle.walk.specs.Walk.{last, refused, rowBytes, stops, tableTests, walkFrom}
 use Rattle.walk.specs.declared.Walked.{Walked}

@@ -1,7 +1,7 @@
 -- The walk: hops from the source until a decision is no hop. n is the dimension, lab the labels, d the destination, s the source.
 -- It is given place by place: `spot` is the node after k hops and `turn` the decision there; the hop count, the row and the ending are read off them.
 -- The question `walked` is asked of any label table: m is its length, and lab x the byte of node x.
-use mathlib.Core.Bool.{Bool, true, false, cond, not, _||_}
+use mathlib.Core.Bool.{Bool, true, false, cond, not}
 use mathlib.Core.List.{List, [], _∷_, _++_}
 use Prim.Native.Nat.{ℕ, zero, suc, _+_, _^_}
 use lib.Dec.{eqb, leb, ltb}
@@ -9,7 +9,7 @@ use lib.ListN.{replicate}
 use Rattle.cube.specs.Count.{least, some}
 use Rattle.cube.specs.Cube.{flip}
 use Rattle.cube.specs.Refusal.{Test, first, _⇒_}
-use Rattle.cube.specs.Tables.{highest, isDimension, tab}
+use Rattle.cube.specs.Tables.{highest, tab}
 use Rattle.hop.specs.Hop.{hop, nodeTests, sizeTests}
 use Rattle.hop.specs.declared.Decision.{Decision}
 use Rattle.hop.specs.declared.Decision.the-variants.{Deliver, Hop, Halted}

@@ -64,7 +64,7 @@ fn refused(k: u32) -> Walked
 }
 
 // The walk from s: a message is moved until a decision is no hop. 8 where it would go on after n + 4 hops.
-fn walk_from(n: usize, s: usize, d: usize, labels: &[u8]) -> Walked
+fn walk_or_refusal(n: usize, s: usize, d: usize, labels: &[u8]) -> Walked
     requires { ⌜ Placed n s d (length (now labels)) ⌝ }
     ensures { λ r. ⌜ r ≡ walkOrRefusal n (labelIn (now (labels .entry))) d s ⌝ }
 {
@@ -150,7 +150,7 @@ pub fn walk_for(n: usize, s: usize, d: usize, labels: &[u8], room: usize) -> Wal
     if k != 0 {
         return refused(k);
     }
-    walk_from(n, s, d, labels)
+    walk_or_refusal(n, s, d, labels)
 }
 
 // The walk from s to d, for a caller who takes the row from the answer.

@@ -11,6 +11,10 @@ use Rattle.cube.proofs.Tables.{len-small, unused-none, unused-byte}
 use Rattle.cube.proofs.unused_set.Statement.{statement}
 use Rattle.cube.proofs.unused_set.Tie as tie
 
+-- the function's start, from where the number of nodes is known
+abbrev start : tie.After-nodes → tie.Start
+start c = c .before .before .before .before
+
 returns : tie.Need-returns
 returns c = let s = c .before .before in sym (unused-none (s .args .n) (s .args .t .now) (c .if1 .taken) (s .pre))
 
@@ -21,14 +25,14 @@ nodes-requires : tie.Need-nodes-requires
 nodes-requires c κs = search needs
 
 cast-result : tie.Need-cast-result
-cast-result c = let s = c .before .before .before .before in omega (arith, pow-lt {i = s .args .n} {j = 3} (omega arith))
+cast-result c = omega (arith, pow-lt {i = start c .args .n} {j = 3} (omega arith))
 
 shr-result : tie.Need-shr-result
-shr-result c = let s = c .before .before .before .before in omega (arith, pow-lt {i = s .args .n} {j = 3} (omega arith))
+shr-result c = omega (arith, pow-lt {i = start c .args .n} {j = 3} (omega arith))
 
 returns-2 : tie.Need-returns-2
 returns-2 c =
-    let s = c .before .before .before .before in
+    let s = start c in
     ap (λ (m : ℕ). not (eqb (getD (s .args .t .now) 0 0 / 2 ^ m) 0)) (c .nodes .ensures)
     ∙ unused-byte (s .args .n) (s .args .t .now) (omega arith) (s .pre) (omega (arith, c .before .shared-slice-known2 .given 0))
 

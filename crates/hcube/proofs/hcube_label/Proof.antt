@@ -1,11 +1,9 @@
 -- `hcube_label` packs the answer of `label`, whose parts are small.
 use mathlib.Core.Path.{sym, ap, _∙_}
 use native.Mathlib.Omega.{arith}
-use lib.ListN.{length}
 use Rattle.rule.specs.Cabinet.{cabinet}
 use Rattle.hcube.specs.Answers.{labelNumber}
-use Rattle.hcube.specs.Fits.{LabelFits}
-use Rattle.hcube.proofs.Small.{label-small}
+use Rattle.hcube.proofs.Small.{LabelFits, label-small}
 use borrow.Author.Needs.{needs}
 use Rattle.hcube.proofs.hcube_label.Statement.{statement}
 use Rattle.hcube.proofs.hcube_label.Tie as tie
@@ -13,8 +11,7 @@ use Rattle.hcube.proofs.hcube_label.Tie as tie
 -- the answer's parts are small, from where the answer is known
 small : (c : tie.After-label) → LabelFits (c .label .result)
 small c =
-    let a = c .before .before .before .before .args in
-    rw (c .label .ensures .0) (label-small (cabinet (a .n) (a .faults .now)) (length (a .labels .now)))
+    rw (c .label .ensures .0) (label-small (cabinet _ _) _)
 
 label-requires : tie.Need-label-requires
 label-requires c κs = search needs

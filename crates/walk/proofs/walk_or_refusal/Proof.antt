@@ -1,4 +1,4 @@
--- `walk_from`: `Walking` of proofs/Steps.antt holds at each turn. The measure is what is left of n + 4 hops.
+-- `walk_or_refusal`: `Walking` of proofs/Steps.antt holds each time round. The measure is what is left of n + 4 hops.
 use mathlib.Core.Path.{_≡_, refl, sym, _∙_}
 use Prim.Native.Nat.{_+_, _-_}
 use native.Mathlib.Omega.{arith}
@@ -10,8 +10,8 @@ use Rattle.hop.specs.Hop.{hop}
 use Rattle.walk.specs.Walk.{stops}
 use Rattle.hop.specs.declared.Decision.the-variants.{Deliver, Hop, Halted}
 use Rattle.walk.proofs.Steps.{Walking, start, dimension, counted, on, too-long, ends}
-use Rattle.walk.proofs.walk_from.Statement.{statement}
-use Rattle.walk.proofs.walk_from.Tie as tie
+use Rattle.walk.proofs.walk_or_refusal.Statement.{statement}
+use Rattle.walk.proofs.walk_or_refusal.Tie as tie
 
 abbrev Inv-loop : tie.InvT-loop
 Inv-loop n s d labels row₀ m₀ row m = Walking n (labelIn labels) d s row m
@@ -19,7 +19,7 @@ Inv-loop n s d labels row₀ m₀ row m = Walking n (labelIn labels) d s row m
 abbrev μ-loop : tie.MeasureT-loop
 μ-loop n s d labels row₀ m₀ row m = n + 4 - m .hops
 
--- the places of the code: the function's start, from where a turn begins; that place from where the decision is known to be a hop, from behind the
+-- the places of the code: the function's start, from where the loop begins; that place from where the decision is known to be a hop, from behind the
 -- test for 8, and from where the message has moved
 abbrev start-of : tie.At-loop Inv-loop μ-loop → tie.Start Inv-loop μ-loop
 start-of l = l .before .before
@@ -116,8 +116,8 @@ loop-less c =
 loop-again : tie.Need-loop-again Inv-loop μ-loop
 loop-again c = next c
 
-pub walk-from-spec : {M : Type 1} → statement M
-walk-from-spec =
+pub walk-or-refusal-spec : {M : Type 1} → statement M
+walk-or-refusal-spec =
     tie.close
     (tie.spec
     Inv-loop
