@@ -42,7 +42,7 @@ label-small K m =
 
 -- ---- the hop
 
-abbrev HopFits : Hopped → Type 0
+abbrev pub HopFits : Hopped → Type 0
 HopFits a = (H.refusalOf a < 256) × (H.valueOf a < 65536)
 
 module _ (n c d m : ℕ) (lab : ℕ → ℕ) where

@@ -175,10 +175,10 @@ pub fn hop(n: usize, c: usize, d: usize, labels: &[u8]) -> Hopped
     if own == 3 {
         return Hopped::Refused(6);
     }
-    if c == d {
-        return Hopped::Decided(Decision::Deliver);
+    if c != d {
+        return Hopped::Decided(across(chosen(n, c, d, own, &near)));
     }
-    Hopped::Decided(across(chosen(n, c, d, own, &near)))
+    Hopped::Decided(Decision::Deliver)
 }
 
 // The decision at c by a label table that was tested: what a walk asks at each node. At the destination it reads nothing.
@@ -186,11 +186,11 @@ pub fn hop_at(n: usize, c: usize, d: usize, labels: &[u8]) -> Decision
     requires { ⌜ Placed n c d (length (now labels)) ⌝ }
     ensures { λ r. ⌜ r ≡ spec.hop n (labelIn (now (labels .entry))) c d ⌝ }
 {
-    if c != d {
-        let own = labels[c];
-        let mut near = [0u8; 12];
-        gather(n, labels, c, &mut near);
-        return across(chosen(n, c, d, own, &near));
+    if c == d {
+        return Decision::Deliver;
     }
-    Decision::Deliver
+    let own = labels[c];
+    let mut near = [0u8; 12];
+    gather(n, labels, c, &mut near);
+    across(chosen(n, c, d, own, &near))
 }

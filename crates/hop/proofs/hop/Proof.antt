@@ -63,24 +63,24 @@ nothing c =
     let g = gathered-at c in
     near-is (placed-at g) ∙ rw (rw (g .gather .ensures .1) at (c .before .if2 .left), ne-eqb _ _ (c .if3 .left))
 
-returns-4 : tie.Need-returns-4
-returns-4 c = hop-decides _ _ _ _ _ _ (nothing (c .before)) (arrives _ _ _ _ (c .if4 .taken))
-
 chosen-requires : tie.Need-chosen-requires
 chosen-requires c κs = let g = good (placed-at (gathered-at (c .before .before))) in (g .small, g .first, g .second)
 
 across-requires : tie.Need-across-requires
 across-requires c κs = search needs
 
-returns-5 : tie.Need-returns-5
+returns-4 : tie.Need-returns-4
 unfolding labelIn
-returns-5 c =
+returns-4 c =
     let far = c .before .before .before in
     let g = gathered-at (far .before) in
     let lab = labelIn (start (placed-at g) .args .labels .now) in
     let p = good (placed-at g) in
-    let goes-on = goes _ lab _ _ (p .small) (g .gather .ensures .0) _ _ (p .first) (p .second) (far .if4 .left) (c .before .chosen .ensures) in
+    let goes-on = goes _ lab _ _ (p .small) (g .gather .ensures .0) _ _ (p .first) (p .second) (far .if4 .taken) (c .before .chosen .ensures) in
     hop-decides _ _ _ _ _ _ (nothing (far .before)) (c .across .ensures ∙ goes-on)
+
+returns-5 : tie.Need-returns-5
+returns-5 c = hop-decides _ _ _ _ _ _ (nothing (c .before)) (arrives _ _ _ _ (c .if4 .left))
 
 pub hop-spec : {M : Type 1} → statement M
 hop-spec =
@@ -92,7 +92,7 @@ hop-spec =
     gather-requires
     returns-2
     returns-3
-    returns-4
     chosen-requires
     across-requires
+    returns-4
     returns-5)

@@ -1,10 +1,13 @@
--- `hop_at` decides by the labels gathered, which are the table's, and at the destination delivers.
+-- `hop_at` delivers at the destination, and elsewhere decides by the labels gathered, which are the table's.
 use mathlib.Core.Path.{_∙_}
 use borrow.Author.Needs.{needs}
 use Rattle.cube.specs.Tables.{labelIn}
 use Rattle.hop.proofs.Gathered.{arrives, goes}
 use Rattle.hop.proofs.hop_at.Statement.{statement}
 use Rattle.hop.proofs.hop_at.Tie as tie
+
+returns : tie.Need-returns
+returns c = arrives _ _ _ _ (c .if1 .taken)
 
 shared-slice-read-own : tie.Need-shared-slice-read-own
 shared-slice-read-own c = search needs
@@ -18,18 +21,15 @@ chosen-requires c κs = search needs
 across-requires : tie.Need-across-requires
 across-requires c κs = search needs
 
-returns : tie.Need-returns
+returns-2 : tie.Need-returns-2
 unfolding labelIn
-returns c =
+returns-2 c =
     let g = c .before .before .before in
     let far = g .before .before .before in
     let s = far .before .before in
     c .across .ensures
-    ∙ goes _ (labelIn (s .args .labels .now)) _ _ (s .pre .small) (g .gather .ensures .0) _ _ (s .pre .first) (s .pre .second) (far .if1 .taken)
+    ∙ goes _ (labelIn (s .args .labels .now)) _ _ (s .pre .small) (g .gather .ensures .0) _ _ (s .pre .first) (s .pre .second) (far .if1 .left)
     (c .before .chosen .ensures)
 
-returns-2 : tie.Need-returns-2
-returns-2 c = arrives _ _ _ _ (c .if1 .left)
-
 pub hop-at-spec : {M : Type 1} → statement M
-hop-at-spec = tie.close (tie.spec shared-slice-read-own gather-requires chosen-requires across-requires returns returns-2)
+hop-at-spec = tie.close (tie.spec returns shared-slice-read-own gather-requires chosen-requires across-requires returns-2)
