@@ -7,3 +7,5 @@ pub mod Filling
 pub mod Tables
 pub mod Refusal
 pub mod Laws
+pub mod Contracts
+pub mod Functions

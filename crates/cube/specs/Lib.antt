@@ -3,3 +3,4 @@ pub mod Cube
 pub mod Tables
 pub mod Refusal
 pub mod Laws
+pub mod Contracts

@@ -1,3 +1,4 @@
 pub mod Groups
 pub mod HandedOn
 pub mod Laws
+pub mod Functions

@@ -4,3 +4,4 @@ pub mod Sets
 pub mod Scanning
 pub mod Joined
 pub mod Gathered
+pub mod Functions

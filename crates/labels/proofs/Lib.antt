@@ -4,3 +4,4 @@ pub mod Marking
 pub mod Standing
 pub mod Loop
 pub mod Refusal
+pub mod Functions

@@ -8,3 +8,4 @@ pub mod Outcomes
 pub mod Agree
 pub mod Refusals
 pub mod Laws
+pub mod Functions

@@ -1,28 +1,61 @@
--- Each contract is an equation for each thing that it speaks of, and two things that equal a third are equal.
-use mathlib.Core.Path.{_≡_, sym, _∙_}
-use Rattle.promises.specs.Settled.{One, OneEach, Settled}
-
-one : {A : Type 0} (x : A) → One (λ (r : A). r ≡ x)
-one x r r′ e e′ = e ∙ sym e′
-
-one-each : {A B : Type 0} (x : A) (y : B) → OneEach (λ (r : A) (after : B). (r ≡ x) × (after ≡ y))
-one-each x y r r′ after after′ e e′ = (one x r r′ (e .0) (e′ .0), one y after after′ (e .1) (e′ .1))
+-- Each contract gives the answer and what is left as functions of what is handed (the `says` of each crate's Functions), so it settles both.
+use Rattle.cube.proofs.Contracts.{settles}
+use Rattle.cube.proofs.Functions as cube
+use Rattle.groups.proofs.Functions as groups
+use Rattle.notice.proofs.Functions as notice
+use Rattle.reader.proofs.Functions as reader
+use Rattle.labels.proofs.Functions as labels
+use Rattle.hop.proofs.Functions as hop
+use Rattle.walk.proofs.Functions as walk
+use Rattle.hcube.proofs.Functions as hcube
+use Rattle.promises.specs.Settled.{Settled, Unasked}
 
 pub settled : Settled
 settled =
     record {
-      groups-number-at = λ bytes at. one _;
-      notice-read = λ bytes faults. one-each _ _;
-      notice-tail = λ bytes block offset. one-each _ _;
-      labels-label = λ K labels. one-each _ _;
-      hop-hop = λ n c d labels. one _;
-      walk-walk = λ n s d labels. one _;
-      walk-walk-for = λ n s d labels room. one _;
-      reader-new = λ bytes. one-each _ _;
-      reader-next = λ bytes at. one-each _ _;
-      reader-next-at = λ bytes at. one-each _ _;
-      hcube-label = λ K labels. one-each _ _;
-      hcube-hop = λ n c d labels. one _;
-      hcube-walk = λ n s d labels row. one-each _ _;
-      hcube-read-notice = λ bytes faults. one-each _ _;
+      hcube-label = settles hcube.label-says;
+      hcube-hop = settles hcube.hop-says;
+      hcube-walk = settles hcube.walk-says;
+      hcube-read-notice = settles hcube.read-notice-says;
+      labels-label = settles labels.label-says;
+      hop-hop = settles hop.hop-says;
+      hop-place-refusal = settles hop.place-refusal-says;
+      walk-walk = settles walk.walk-says;
+      walk-walk-for = settles walk.walk-for-says;
+      notice-read = settles notice.read-says;
+      notice-tail = settles notice.tail-says;
+      groups-number-at = settles groups.number-at-says;
+      reader-new = settles reader.new-says;
+      reader-next = settles reader.next-says;
+      reader-next-at = settles reader.next-at-says;
+      cube-distance = settles cube.distance-says;
+      cube-is-dimension = settles cube.is-dimension-says;
+      hop-hop-at = settles hop.hop-at-says;
+      cube-nodes = settles cube.nodes-says;
+      cube-neighbour = settles cube.neighbour-says;
+      cube-table-len = settles cube.table-len-says;
+      cube-node-bit = settles cube.node-bit-says;
+      cube-unused-set = settles cube.unused-set-says;
+    }
+
+pub unasked : Unasked
+unasked =
+    record {
+      hcube-label = hcube.label-asks;
+      hcube-hop = hcube.hop-asks;
+      hcube-walk = hcube.walk-asks;
+      hcube-read-notice = hcube.read-notice-asks;
+      labels-label = labels.label-asks;
+      hop-hop = hop.hop-asks;
+      hop-place-refusal = hop.place-refusal-asks;
+      walk-walk = walk.walk-asks;
+      walk-walk-for = walk.walk-for-asks;
+      notice-read = notice.read-asks;
+      notice-tail = notice.tail-asks;
+      groups-number-at = groups.number-at-asks;
+      reader-new = reader.new-asks;
+      reader-next = reader.next-asks;
+      reader-next-at = reader.next-at-asks;
+      cube-distance = cube.distance-asks;
+      cube-is-dimension = cube.is-dimension-asks;
     }

@@ -3,3 +3,4 @@ pub mod Lent
 pub mod Facts
 pub mod Callees
 pub mod Laws
+pub mod Functions

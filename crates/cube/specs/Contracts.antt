@@ -1,0 +1,40 @@
+-- What a contract allows, said of plain contents. The check makes of each function two claims from the text of its own clauses: `Asked` of its `requires` and
+-- `Post` of its `ensures`. Each crate gathers its public functions with these claims in proofs/Functions.antt, and the promises speak of them and of no copy: a
+-- contract that is weakened takes its promises with it.
+use mathlib.Core.Path.{_≡_}
+use contract.Lifetimes.{Lfts}
+use denote.Triple.Clauses.{AtExit, Ended}
+use denote.Triple.Entry.{Args, Res}
+
+-- a function: its signature T, the two claims, and how it is seen from outside: the contents A of what it is handed, X of its answer, and B of what it
+-- leaves in the buffers that it was lent
+pub record Function (T : Ended) (A X B : Type 0) : Type 1 where
+  pub asked : (κs : Lfts (T .signature .lifetimes)) → Args (T .signature) κs → Type 0
+  pub post : (κs : Lfts (T .signature .lifetimes)) → Args (T .signature) κs → Res (T .signature) κs → AtExit T κs → Type 0
+  pub handed : (κs : Lfts (T .signature .lifetimes)) → Args (T .signature) κs → A
+  pub answered : (κs : Lfts (T .signature .lifetimes)) → Res (T .signature) κs → X
+  pub left : (κs : Lfts (T .signature .lifetimes)) → AtExit T κs → B
+
+-- where nothing is lent to be written
+abbrev pub Nothing : Type 0
+Nothing = Unit {0}
+
+module _ {T : Ended} {A X B : Type 0} (f : Function T A X B) where
+  -- handed i, the function may answer x and leave o: its contract allows it
+  pub record May (i : A) (x : X) (o : B) : Type 0 where
+    pub κs : Lfts (T .signature .lifetimes)
+    pub args : Args (T .signature) κs
+    pub result : Res (T .signature) κs
+    pub exit : AtExit T κs
+    pub handed : f .handed κs args ≡ i
+    pub answered : f .answered κs result ≡ x
+    pub left : f .left κs exit ≡ o
+    pub allowed : f .post κs args result exit
+
+  -- two answers that it may give are equal, and so is what it leaves
+  abbrev pub Settles : Type 0
+  Settles = (i : A) (x x′ : X) (o o′ : B) → May i x o → May i x′ o′ → (x ≡ x′) × (o ≡ o′)
+
+  -- nothing is asked of its caller
+  abbrev pub AsksNothing : Type 0
+  AsksNothing = (κs : Lfts (T .signature .lifetimes)) (a : Args (T .signature) κs) → f .asked κs a

@@ -1,0 +1,83 @@
+-- The crate's public functions as they are seen from outside, each with the claims that the check makes of its clauses, and what its contract says: the answer, and
+-- what is left of what was lent, for whatever is handed; and that an entry point asks nothing of its caller.
+use mathlib.Core.List.{List}
+use mathlib.Core.Path.{refl}
+use Prim.Native.Nat.{ℕ}
+use denote.Ref.{now}
+use lib.ListN.{length}
+use Rattle.cube.specs.Contracts.{AsksNothing, Function, Nothing}
+use Rattle.cube.proofs.Contracts.{Says}
+use Rattle.cube.specs.Tables.{labelIn}
+use Rattle.rule.specs.Cabinet.{cabinet}
+use Rattle.labels.specs.Labelling.{labelled, labelsAfter}
+use Rattle.hop.specs.Hop.{hopped}
+use Rattle.notice.specs.Notice.{noticed, tableAfter}
+use Rattle.hcube.specs.Answers.{hopNumber, labelNumber, noticeNumber, rowAfter, walkNumber, walkedBy}
+use Rattle.hcube.proofs.hcube_label
+use Rattle.hcube.proofs.hcube_hop
+use Rattle.hcube.proofs.hcube_walk
+use Rattle.hcube.proofs.hcube_read_notice
+
+abbrev pub label : Function hcube_label.ended (ℕ × List ℕ × List ℕ) ℕ (List ℕ)
+label =
+    record {
+      asked = hcube_label.Reads.Asked;
+      post = hcube_label.Reads.Post;
+      handed = λ κs a. (a .0, now (a .1 .0), now (a .1 .1 .0));
+      answered = λ κs r. r;
+      left = λ κs e. now (e .1 .1 .0);
+    }
+
+pub label-asks : AsksNothing label
+label-asks κs a = tt
+
+pub label-says : Says label (λ i. labelNumber (labelled (cabinet (i .0) (i .1)) (length (i .2)))) (λ i. labelsAfter (cabinet (i .0) (i .1)) (i .2))
+label-says = record { says = λ κs a r e p. (p .0, p .1) }
+
+abbrev pub hop : Function hcube_hop.ended (ℕ × ℕ × ℕ × List ℕ) ℕ Nothing
+hop =
+    record {
+      asked = hcube_hop.Reads.Asked;
+      post = hcube_hop.Reads.Post;
+      handed = λ κs a. (a .0, a .1 .0, a .1 .1 .0, now (a .1 .1 .1 .0));
+      answered = λ κs r. r;
+      left = λ κs e. tt;
+    }
+
+pub hop-asks : AsksNothing hop
+hop-asks κs a = tt
+
+pub hop-says : Says hop (λ i. hopNumber (hopped (i .0) (i .1) (i .2) (length (i .3)) (labelIn (i .3)))) (λ i. tt)
+hop-says = record { says = λ κs a r e p. (p, refl) }
+
+abbrev pub walk : Function hcube_walk.ended (ℕ × ℕ × ℕ × List ℕ × List ℕ) ℕ (List ℕ)
+walk =
+    record {
+      asked = hcube_walk.Reads.Asked;
+      post = hcube_walk.Reads.Post;
+      handed = λ κs a. (a .0, a .1 .0, a .1 .1 .0, now (a .1 .1 .1 .0), now (a .1 .1 .1 .1 .0));
+      answered = λ κs r. r;
+      left = λ κs e. now (e .1 .1 .1 .1 .0);
+    }
+
+pub walk-asks : AsksNothing walk
+walk-asks κs a = tt
+
+pub walk-says : Says walk (λ i. walkNumber (walkedBy (i .0) (i .1) (i .2) (i .3) (i .4))) (λ i. rowAfter (walkedBy (i .0) (i .1) (i .2) (i .3) (i .4)) (i .4))
+walk-says = record { says = λ κs a r e p. (p .0, p .1) }
+
+abbrev pub read-notice : Function hcube_read_notice.ended (List ℕ × List ℕ) ℕ (List ℕ)
+read-notice =
+    record {
+      asked = hcube_read_notice.Reads.Asked;
+      post = hcube_read_notice.Reads.Post;
+      handed = λ κs a. (now (a .0), now (a .1 .0));
+      answered = λ κs r. r;
+      left = λ κs e. now (e .1 .0);
+    }
+
+pub read-notice-asks : AsksNothing read-notice
+read-notice-asks κs a = tt
+
+pub read-notice-says : Says read-notice (λ i. noticeNumber (noticed (i .0) (i .1))) (λ i. tableAfter (i .0) (i .1))
+read-notice-says = record { says = λ κs a r e p. (p .0, p .1) }

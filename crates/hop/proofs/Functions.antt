@@ -1,0 +1,63 @@
+-- The crate's public functions as they are seen from outside, each with the claims that the check makes of its clauses, and what its contract says: the answer, and
+-- what is left of what was lent, for whatever is handed; and that an entry point asks nothing of its caller.
+use mathlib.Core.Bool.{Bool}
+use mathlib.Core.List.{List}
+use mathlib.Core.Path.{refl}
+use Prim.Native.Nat.{ℕ}
+use denote.Ref.{now}
+use lib.ListN.{length}
+use Rattle.cube.specs.Contracts.{AsksNothing, Function, Nothing}
+use Rattle.cube.proofs.Contracts.{Says}
+use Rattle.cube.specs.Tables.{labelIn}
+use Rattle.hop.specs.Helpers.{placeRefusal}
+use Rattle.hop.specs.Hop as spec
+use Rattle.hop.specs.declared.Decision.{Decision}
+use Rattle.hop.specs.declared.Hopped.{Hopped}
+use Rattle.hop.proofs.hop as hop-claims
+use Rattle.hop.proofs.place_refusal
+use Rattle.hop.proofs.hop_at
+
+abbrev pub hop : Function hop-claims.ended (ℕ × ℕ × ℕ × List ℕ) Hopped Nothing
+hop =
+    record {
+      asked = hop-claims.Reads.Asked;
+      post = hop-claims.Reads.Post;
+      handed = λ κs a. (a .0, a .1 .0, a .1 .1 .0, now (a .1 .1 .1 .0));
+      answered = λ κs r. r;
+      left = λ κs e. tt;
+    }
+
+pub hop-asks : AsksNothing hop
+hop-asks κs a = tt
+
+pub hop-says : Says hop (λ i. spec.hopped (i .0) (i .1) (i .2) (length (i .3)) (labelIn (i .3))) (λ i. tt)
+hop-says = record { says = λ κs a r e p. (p, refl) }
+
+abbrev pub place-refusal : Function place_refusal.ended (ℕ × ℕ × ℕ × ℕ × Bool) ℕ Nothing
+place-refusal =
+    record {
+      asked = place_refusal.Reads.Asked;
+      post = place_refusal.Reads.Post;
+      handed = λ κs a. (a .0, a .1 .0, a .1 .1 .0, a .1 .1 .1 .0, a .1 .1 .1 .1 .0);
+      answered = λ κs r. r;
+      left = λ κs e. tt;
+    }
+
+pub place-refusal-asks : AsksNothing place-refusal
+place-refusal-asks κs a = tt
+
+pub place-refusal-says : Says place-refusal (λ i. placeRefusal (i .0) (i .1) (i .2) (i .3) (i .4)) (λ i. tt)
+place-refusal-says = record { says = λ κs a r e p. (p, refl) }
+
+abbrev pub hop-at : Function hop_at.ended (ℕ × ℕ × ℕ × List ℕ) Decision Nothing
+hop-at =
+    record {
+      asked = hop_at.Reads.Asked;
+      post = hop_at.Reads.Post;
+      handed = λ κs a. (a .0, a .1 .0, a .1 .1 .0, now (a .1 .1 .1 .0));
+      answered = λ κs r. r;
+      left = λ κs e. tt;
+    }
+
+pub hop-at-says : Says hop-at (λ i. spec.hop (i .0) (labelIn (i .3)) (i .1) (i .2)) (λ i. tt)
+hop-at-says = record { says = λ κs a r e p. (p, refl) }

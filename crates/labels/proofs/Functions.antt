@@ -1,0 +1,28 @@
+-- The crate's public functions as they are seen from outside, each with the claims that the check makes of its clauses, and what its contract says: the answer, and
+-- what is left of what was lent, for whatever is handed; and that an entry point asks nothing of its caller.
+use mathlib.Core.List.{List}
+use Prim.Native.Nat.{ℕ}
+use denote.Ref.{now}
+use lib.ListN.{length}
+use Rattle.cube.specs.Contracts.{AsksNothing, Function, Nothing}
+use Rattle.cube.proofs.Contracts.{Says}
+use Rattle.rule.specs.Cabinet.{cabinet}
+use Rattle.labels.specs.Labelling.{labelled, labelsAfter}
+use Rattle.labels.specs.declared.Labelled.{Labelled}
+use Rattle.labels.proofs.label as label-claims
+
+abbrev pub label : Function label-claims.ended (ℕ × List ℕ × List ℕ) Labelled (List ℕ)
+label =
+    record {
+      asked = label-claims.Reads.Asked;
+      post = label-claims.Reads.Post;
+      handed = λ κs a. (a .0, now (a .1 .0), now (a .1 .1 .0));
+      answered = λ κs r. r;
+      left = λ κs e. now (e .1 .1 .0);
+    }
+
+pub label-asks : AsksNothing label
+label-asks κs a = tt
+
+pub label-says : Says label (λ i. labelled (cabinet (i .0) (i .1)) (length (i .2))) (λ i. labelsAfter (cabinet (i .0) (i .1)) (i .2))
+label-says = record { says = λ κs a r e p. (p .0, p .1) }

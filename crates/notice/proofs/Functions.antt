@@ -1,0 +1,46 @@
+-- The crate's public functions as they are seen from outside, each with the claims that the check makes of its clauses, and what its contract says: the answer, and
+-- what is left of what was lent, for whatever is handed; and that an entry point asks nothing of its caller.
+use mathlib.Core.List.{List}
+use mathlib.Core.Path.{refl, ap₂}
+use Prim.Native.Nat.{ℕ, _+_}
+use denote.Ref.{now}
+use lib.ListN.{drop}
+use Rattle.cube.specs.Contracts.{AsksNothing, Function, Nothing}
+use Rattle.cube.proofs.Contracts.{Says}
+use Rattle.notice.specs.Notice.{noticed, tableAfter, tailAt}
+use Rattle.notice.specs.declared.Noticed.{Noticed}
+use Rattle.notice.proofs.read as read-claims
+use Rattle.notice.proofs.tail as tail-claims
+
+abbrev pub read : Function read-claims.ended (List ℕ × List ℕ) Noticed (List ℕ)
+read =
+    record {
+      asked = read-claims.Reads.Asked;
+      post = read-claims.Reads.Post;
+      handed = λ κs a. (now (a .0), now (a .1 .0));
+      answered = λ κs r. r;
+      left = λ κs e. now (e .1 .0);
+    }
+
+pub read-asks : AsksNothing read
+read-asks κs a = tt
+
+pub read-says : Says read (λ i. noticed (i .0) (i .1)) (λ i. tableAfter (i .0) (i .1))
+read-says = record { says = λ κs a r e p. (p .0, p .1) }
+
+-- the bytes and their place in memory: so the returned part is settled as a part of the caller's own bytes
+abbrev pub tail : Function tail-claims.ended (List ℕ × (ℕ × ℕ)) (List ℕ × (ℕ × ℕ)) Nothing
+tail =
+    record {
+      asked = tail-claims.Reads.Asked;
+      post = tail-claims.Reads.Post;
+      handed = λ κs a. (now (a .0), a .0 .ptr);
+      answered = λ κs r. (now r, r .ptr);
+      left = λ κs e. tt;
+    }
+
+pub tail-asks : AsksNothing tail
+tail-asks κs a = tt
+
+pub tail-says : Says tail (λ i. (drop (tailAt (i .0)) (i .0), (i .1 .0, i .1 .1 + tailAt (i .0)))) (λ i. tt)
+tail-says = record { says = λ κs a r e p. (ap₂ (λ (s : List ℕ) (q : ℕ × ℕ). (s, q)) (p .0) (p .1), refl) }
