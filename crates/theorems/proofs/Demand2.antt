@@ -62,7 +62,7 @@ module _ (K : Cabinet) where
       below : ¬ (3 ≤ labelAt K x)
       below l = clash (byte-out n (out K) (outByte K) S (C .works) (out-high K) x (omega (arith, label-in K x h))) e
 
-  pub demand2 : Demand2 K
+  pub demand2 : Demand2 K (labelAt K) (roundsOf K)
   unfolding roundsOf
   demand2 =
       record {

@@ -104,7 +104,7 @@ module _ (K : Cabinet) (T : Table K) (s d : ℕ) (hs : Works K s) (hd : Works K 
   works-at : (x : ℕ) → Inside n lab x → Works K x
   works-at x p = (p .0, is-false (λ t. omega (arith, T .faulty x (p .0) t)))
 
-  stepped : (e : Ending) → Kept n lab d s → Stepped K d s (ended e)
+  stepped : (e : Ending) → Kept n lab d s → Stepped K lab d s (ended e)
   unfolding turn
   stepped e W =
       record {
@@ -129,10 +129,10 @@ module _ (K : Cabinet) (T : Table K) (s d : ℕ) (hs : Works K s) (hd : Works K 
     unfolding stops
     is-delivered = is-walk Deliver (D .ended) refl
 
-    delivered-stepped : Stepped K d s (walkOf K s d)
+    delivered-stepped : Stepped K lab d s (walkOf K s d)
     delivered-stepped = rw is-delivered (stepped ending.Delivered (D .kept))
 
-    delivered-arrives : Arrives K d (walkOf K s d)
+    delivered-arrives : Arrives K lab d (walkOf K s d)
     unfolding last turn
     delivered-arrives =
         rw is-delivered
@@ -147,10 +147,10 @@ module _ (K : Cabinet) (T : Table K) (s d : ℕ) (hs : Works K s) (hd : Works K 
     unfolding stops
     is-halted = is-walk Halted (H .ended) refl
 
-    halted-stepped : Stepped K d s (walkOf K s d)
+    halted-stepped : Stepped K lab d s (walkOf K s d)
     halted-stepped = rw is-halted (stepped ending.Halted (H .kept))
 
-    halted-stuck : Stuck K d (walkOf K s d)
+    halted-stuck : Stuck K lab d (walkOf K s d)
     unfolding last turn
     halted-stuck =
         rw is-halted (record { ending = refl; decided = rw (end-place ending.Halted) (H .ended); why = rw (end-place ending.Halted) why })
@@ -164,18 +164,18 @@ module _ (K : Cabinet) (T : Table K) (s d : ℕ) (hs : Works K s) (hd : Works K 
 
   -- ---- the demand
 
-  by-rank : SomeSafe K → Delivers n lab d s (lab s)
+  by-rank : SomeSafe n lab → Delivers n lab d s (lab s)
   by-rank x = delivers n lab (T .good) d (hd .0) (T .working d (hd .0) (hd .1)) s (hs .0) (T .working s (hs .0) (hs .1)) (x .0) (x .1) (x .2)
 
   to-safe : lab d ≡ 0 → Delivers n lab d s 0
   to-safe = delivers-safe n lab (T .good) d (hd .0) (T .working d (hd .0) (hd .1)) s (hs .0) (T .working s (hs .0) (hs .1))
 
-  by-distance : (SomeSafe K → ⊥) → Delivers n lab d s 0 ⊎ Halts n lab d s
+  by-distance : (SomeSafe n lab → ⊥) → Delivers n lab d s 0 ⊎ Halts n lab d s
   by-distance none =
       delivers-or-halts n lab (T .good) d (hd .0) (T .working d (hd .0) (hd .1)) s (hs .0) (T .working s (hs .0) (hs .1))
       (λ x h e. none (x, h, e))
 
-  at-most : SomeSafe K → walkOf K s d .hops ≤ dist s d + 2 * lab s
+  at-most : SomeSafe n lab → walkOf K s d .hops ≤ dist s d + 2 * lab s
   at-most x = let D = by-rank x in omega (arith, delivered-hops (lab s) D, D .few)
 
   -- whichever way it ends
@@ -192,7 +192,7 @@ module _ (K : Cabinet) (T : Table K) (s d : ℕ) (hs : Works K s) (hd : Works K 
           ⊎-elim (λ (D : Delivers n lab d s 0). delivered 0 (omega arith) D) (λ (H : Halts n lab d s). halted H)
           (by-distance (λ x. eqb-false (lab (x .0)) 0 (f (x .0) (x .1)) (x .2)))
 
-  meets-demand : Walks K s d
+  meets-demand : Walks K lab s d (walkOf K s d)
   meets-demand =
       record {
         stepped = walk-stepped how;
@@ -207,7 +207,7 @@ module _ (K : Cabinet) (T : Table K) (s d : ℕ) (hs : Works K s) (hd : Works K 
         never-refused = λ k e. never k e how;
       }
     where
-      walk-stepped : Ended → Stepped K d s (walkOf K s d)
+      walk-stepped : Ended → Stepped K lab d s (walkOf K s d)
       walk-stepped (delivered m l D) = delivered-stepped m D
       walk-stepped (halted H) = halted-stepped H
 

@@ -1,26 +1,25 @@
--- Demand 2: the labels are the paper's. Everything is said of the bytes that labelling writes for a cabinet and of the round count that it answers.
+-- Demand 2: the labels are the paper's. K is a cabinet, lab x the label byte of its node x, and rounds the round count.
 use mathlib.Core.Bool.{Bool, true, false}
 use mathlib.Core.Path.{_≡_}
 use Prim.Native.Nat.{ℕ, _^_, _≤_, _<_}
 use lib.Dec.{eqb}
 use Rattle.cube.specs.Cube.{flip}
-use Rattle.rule.specs.Cabinet.{Cabinet, out, roundsOf, ruleOf}
+use Rattle.rule.specs.Cabinet.{Cabinet, out, ruleOf}
 use Rattle.rule.specs.Closed.{Closed}
 use Rattle.rule.specs.Rule.{marked, newly, quiet, working}
-use Rattle.theorems.specs.Words.{labelAt}
 
-pub record Demand2 (K : Cabinet) : Type 0 where
+pub record Demand2 (K : Cabinet) (lab : ℕ → ℕ) (rounds : ℕ) : Type 0 where
   -- of all sets of working nodes in which each has at most one faulty neighbour and at most two neighbours outside the set,
   -- the safe nodes form the largest
-  pub closed : Closed (K .n) 3 (out K) (λ x. eqb (labelAt K x) 0)
-  pub largest : (H : ℕ → Bool) → Closed (K .n) 3 (out K) H → (x : ℕ) → x < 2 ^ K .n → H x ≡ true → labelAt K x ≡ 0
+  pub closed : Closed (K .n) 3 (out K) (λ x. eqb (lab x) 0)
+  pub largest : (H : ℕ → Bool) → Closed (K .n) 3 (out K) H → (x : ℕ) → x < 2 ^ K .n → H x ≡ true → lab x ≡ 0
   -- a faulty node has label 3 and a working one a lower label
-  pub faulty : (x : ℕ) → x < 2 ^ K .n → out K x ≡ true → labelAt K x ≡ 3
-  pub works : (x : ℕ) → x < 2 ^ K .n → out K x ≡ false → labelAt K x ≤ 2
+  pub faulty : (x : ℕ) → x < 2 ^ K .n → out K x ≡ true → lab x ≡ 3
+  pub works : (x : ℕ) → x < 2 ^ K .n → out K x ≡ false → lab x ≤ 2
   -- an unsafe node without a safe neighbour is strongly unsafe; any other unsafe node is ordinarily unsafe
-  pub ordinary : (x : ℕ) → x < 2 ^ K .n → labelAt K x ≡ 1 → (i : ℕ) × (i < K .n) × (labelAt K (flip i x) ≡ 0)
-  pub strong : (x i : ℕ) → x < 2 ^ K .n → i < K .n → labelAt K x ≡ 2 → labelAt K (flip i x) ≡ 0 → ⊥
+  pub ordinary : (x : ℕ) → x < 2 ^ K .n → lab x ≡ 1 → (i : ℕ) × (i < K .n) × (lab (flip i x) ≡ 0)
+  pub strong : (x i : ℕ) → x < 2 ^ K .n → i < K .n → lab x ≡ 2 → lab (flip i x) ≡ 0 → ⊥
   -- each round that is counted marked some node that had no mark, the next one marks nothing new, and there are no more than working nodes
-  pub loud : (r : ℕ) → r < roundsOf K → (x : ℕ) × (x < 2 ^ K .n) × (newly (K .n) (ruleOf K) (out K) (marked (K .n) (ruleOf K) (out K) r) x ≡ true)
-  pub still : quiet (K .n) (ruleOf K) (out K) (roundsOf K) ≡ true
-  pub ceiling : roundsOf K ≤ working (K .n) (out K)
+  pub loud : (r : ℕ) → r < rounds → (x : ℕ) × (x < 2 ^ K .n) × (newly (K .n) (ruleOf K) (out K) (marked (K .n) (ruleOf K) (out K) r) x ≡ true)
+  pub still : quiet (K .n) (ruleOf K) (out K) rounds ≡ true
+  pub ceiling : rounds ≤ working (K .n) (out K)

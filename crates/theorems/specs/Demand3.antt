@@ -1,5 +1,5 @@
--- Demand 3: walks arrive. K is a cabinet that labelling accepts; s and d, the source and the destination, are working nodes (the last lines).
--- Everything is said of the answer that the contract of `walk` gives for the very bytes that labelling writes.
+-- Demand 3: walks arrive. K is a cabinet that labelling accepts and lab the labels that it then has; s and d, the source and the destination, are working nodes
+-- (the last lines); w is the walk's answer with those labels.
 use mathlib.Core.Bool.{true}
 use mathlib.Core.Logic.{_⊎_}
 use mathlib.Core.Path.{_≡_}
@@ -14,42 +14,42 @@ use Rattle.theorems.specs.Words.{Accepted, SomeSafe, Works, labelAt, pla
 
 -- the hop count is the number of steps that ROUTE takes: the row begins at the source, each place is the decision's own at the place before,
 -- and the walk ends where the decision says so; every node on it works
-pub record Stepped (K : Cabinet) (d s : ℕ) (w : Walked) : Type 0 where
+pub record Stepped (K : Cabinet) (lab : ℕ → ℕ) (d s : ℕ) (w : Walked) : Type 0 where
   pub begins : place w 0 ≡ s
   pub steps :
-      (k : ℕ) → k < w .hops → (i : ℕ) × (i < K .n) × (hop (K .n) (labelAt K) (place w k) d ≡ Hop i) × (place w (k + 1) ≡ flip i (place w k))
+      (k : ℕ) → k < w .hops → (i : ℕ) × (i < K .n) × (hop (K .n) lab (place w k) d ≡ Hop i) × (place w (k + 1) ≡ flip i (place w k))
   pub works : (k : ℕ) → k ≤ w .hops → Works K (place w k)
   pub unused : (k : ℕ) → w .hops < k → place w k ≡ 0
 
 -- delivered: the destination is the last place
-pub record Arrives (K : Cabinet) (d : ℕ) (w : Walked) : Type 0 where
+pub record Arrives (K : Cabinet) (lab : ℕ → ℕ) (d : ℕ) (w : Walked) : Type 0 where
   pub ending : w .ending ≡ ending.Delivered
-  pub decided : hop (K .n) (labelAt K) (place w (w .hops)) d ≡ Deliver
+  pub decided : hop (K .n) lab (place w (w .hops)) d ≡ Deliver
   pub there : place w (w .hops) ≡ d
 
 -- halted: every neighbour of the last place that is nearer the destination is faulty
-pub record Stuck (K : Cabinet) (d : ℕ) (w : Walked) : Type 0 where
+pub record Stuck (K : Cabinet) (lab : ℕ → ℕ) (d : ℕ) (w : Walked) : Type 0 where
   pub ending : w .ending ≡ ending.Halted
-  pub decided : hop (K .n) (labelAt K) (place w (w .hops)) d ≡ Halted
+  pub decided : hop (K .n) lab (place w (w .hops)) d ≡ Halted
   pub why : (i : ℕ) → i < K .n → apart i (place w (w .hops)) d ≡ true → out K (flip i (place w (w .hops))) ≡ true
 
-pub record Walks (K : Cabinet) (s d : ℕ) : Type 0 where
-  pub stepped : Stepped K d s (walkOf K s d)
+pub record Walks (K : Cabinet) (lab : ℕ → ℕ) (s d : ℕ) (w : Walked) : Type 0 where
+  pub stepped : Stepped K lab d s w
   -- if any node is safe the walk arrives,
-  pub arrives : SomeSafe K → Arrives K d (walkOf K s d)
+  pub arrives : SomeSafe (K .n) lab → Arrives K lab d w
   -- and the hops number exactly the Hamming distance where either end is safe,
-  pub exact : (labelAt K s ≡ 0) ⊎ (labelAt K d ≡ 0) → walkOf K s d .hops ≡ dist s d
+  pub exact : (lab s ≡ 0) ⊎ (lab d ≡ 0) → w .hops ≡ dist s d
   -- at most two more from an ordinarily unsafe source, at most four more from a strongly unsafe one
-  pub ordinary : SomeSafe K → labelAt K s ≡ 1 → walkOf K s d .hops ≤ dist s d + 2
-  pub strong : SomeSafe K → labelAt K s ≡ 2 → walkOf K s d .hops ≤ dist s d + 4
+  pub ordinary : SomeSafe (K .n) lab → lab s ≡ 1 → w .hops ≤ dist s d + 2
+  pub strong : SomeSafe (K .n) lab → lab s ≡ 2 → w .hops ≤ dist s d + 4
   -- if no node is safe it arrives in exactly the distance, or halts where every neighbour nearer the destination is faulty
   pub none-safe :
-      (SomeSafe K → ⊥) → (Arrives K d (walkOf K s d) × (walkOf K s d .hops ≡ dist s d)) ⊎ Stuck K d (walkOf K s d)
+      (SomeSafe (K .n) lab → ⊥) → (Arrives K lab d w × (w .hops ≡ dist s d)) ⊎ Stuck K lab d w
   -- a delivered walk has the distance and an even number of hops more, at most twice the source's label
-  pub even : walkOf K s d .ending ≡ ending.Delivered → (e : ℕ) × (e ≤ labelAt K s) × (walkOf K s d .hops ≡ dist s d + 2 * e)
+  pub even : w .ending ≡ ending.Delivered → (e : ℕ) × (e ≤ lab s) × (w .hops ≡ dist s d + 2 * e)
   -- it is never refused, with 8 or otherwise
-  pub never-refused : (k : ℕ) → walkOf K s d .ending ≡ ending.Refused k → ⊥
+  pub never-refused : (k : ℕ) → w .ending ≡ ending.Refused k → ⊥
 
 -- with the labels of an accepted cabinet and two working nodes
 abbrev pub Demand3 : Type 0
-Demand3 = (K : Cabinet) → Accepted K → (s d : ℕ) → Works K s → Works K d → Walks K s d
+Demand3 = (K : Cabinet) → Accepted K → (s d : ℕ) → Works K s → Works K d → Walks K (labelAt K) s d (walkOf K s d)

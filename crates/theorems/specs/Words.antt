@@ -21,9 +21,9 @@ Works K x = (x < 2 ^ K .n) × (out K x ≡ false)
 abbrev pub labelAt : (K : Cabinet) (x : ℕ) → ℕ
 labelAt K = labelIn (labelsOf K)
 
--- some node is safe
-abbrev pub SomeSafe : (K : Cabinet) → Type 0
-SomeSafe K = (x : ℕ) × (x < 2 ^ K .n) × (labelAt K x ≡ 0)
+-- some node of an n-cube is safe, by the labels lab
+abbrev pub SomeSafe : (n : ℕ) (lab : ℕ → ℕ) → Type 0
+SomeSafe n lab = (x : ℕ) × (x < 2 ^ n) × (lab x ≡ 0)
 
 -- the walk's answer with those labels, and the node at place k of its row
 abbrev pub walkOf : (K : Cabinet) (s d : ℕ) → Walked
