@@ -1,2 +1,3 @@
 pub mod Small
 pub mod Functions
+pub mod Decoded

@@ -3,12 +3,12 @@
 use mathlib.Core.Path.{_≡_, refl}
 use mathlib.Core.Bool.{true, false}
 use mathlib.Core.List.{List}
-use Prim.Native.Nat.{ℕ, _≤_, _<_}
+use Prim.Native.Nat.{ℕ, _^_, _≤_, _<_}
 use native.Mathlib.Omega.{arith}
-use lib.Dec.{eqb}
-use borrow.Author.Tests.{eqb-true, not-false}
+use lib.Dec.{eqb, leb}
+use borrow.Author.Tests.{eqb-true, leb-false, not-false}
 use Rattle.cube.specs.Tables.{tab}
-use Rattle.cube.proofs.Bools.{by-cases}
+use Rattle.cube.proofs.Bools.{by-cases, or-false}
 use Rattle.cube.proofs.Refusal.{first-le, first-none}
 use Rattle.cube.proofs.Tables.{dimension-is}
 use Rattle.rule.specs.Cabinet.{Cabinet}
@@ -64,17 +64,34 @@ module _ (n c d m : ℕ) (lab : ℕ → ℕ) where
 
 -- ---- the walk
 
+-- a decision that ends the walk is no refusal
+ends-well : (x : Decision) → W.stops x ≡ true → hasRow (W.endingOf x) ≡ true
+unfolding W.stops
+ends-well Deliver e = refl
+ends-well (Hop i) e = let z : _≡_ {A = ℕ} 0 1 = cc in absurd (omega arith)
+ends-well Halted e = refl
+
 module _ (n s d m room : ℕ) (lab : ℕ → ℕ) where
   walk-refusal : W.walkRefusal n s d m room lab ≤ 12
   unfolding W.walkRefusal
   walk-refusal = first-le 12 (W.walkTests n s d m room lab) refl
 
-  -- where nothing is refused, the dimension and the row's length are good
-  lent : W.walkRefusal n s d m room lab ≡ 0 → (n ≤ 12) × (room ≡ W.rowBytes)
+  -- where nothing is refused, the dimension, the row's length and the source are good
+  pub lent : W.walkRefusal n s d m room lab ≡ 0 → (n ≤ 12) × (room ≡ W.rowBytes) × (s < 2 ^ n)
   unfolding W.walkRefusal
   lent e =
+      let t = first-none 12 (W.walkTests n s d m room lab) refl e in (
+        dimension-is n (not-false _ (t .0)) .1,
+        eqb-true _ _ (not-false _ (t .1 .1 .0)),
+        leb-false (2 ^ n) s (or-false (leb (2 ^ n) s) (leb (2 ^ n) d) (t .1 .1 .1 .0) .0),
+      )
+
+  -- and the last decision is no hop, so the walk has a row to write
+  pub has-row : W.walkRefusal n s d m room lab ≡ 0 → hasRow (W.walkFrom n lab d s .ending) ≡ true
+  unfolding W.walkRefusal W.walkFrom
+  has-row e =
       let t = first-none 12 (W.walkTests n s d m room lab) refl e in
-      (dimension-is n (not-false _ (t .0)) .1, eqb-true _ _ (not-false _ (t .1 .1 .0)))
+      ends-well (W.last n lab d s) (not-false _ (t .1 .1 .1 .1 .1 .1 .1 .0))
 
   ending-few : (x : Decision) → W.refusalOf (W.endingOf x) < 256
   ending-few Deliver = omega arith

@@ -1,0 +1,201 @@
+-- A number that was packed of small parts has these parts again, so each answer comes out as it was put in. Of a row: a node is below 65,536, so its two bytes make it.
+use mathlib.Core.Bool.{true, cond}
+use mathlib.Core.List.{List}
+use mathlib.Core.Logic.{_⊎_, inl, inr}
+use mathlib.Core.Path.{_≡_, refl, sym, ap, ap₂, _∙_}
+use Prim.Native.Nat.{ℕ, _+_, _*_, _/_, _%_, _^_, _≤_, _<_}
+use native.Mathlib.Omega.{arith}
+use lib.Dec.{eqb, leb}
+use lib.ListN.{getD, length}
+use borrow.Author.Tests.{eqb-false, eqb-true, ne-eqb}
+use Rattle.cube.specs.Tables.{labelIn, tab}
+use Rattle.cube.proofs.Bools.{by-cases, either}
+use Rattle.cube.proofs.Front.{getD-tab, tab-cong}
+use Rattle.cube.proofs.Tables.{nodes-few}
+use Rattle.rule.specs.Cabinet.{Cabinet, roundsOf}
+use Rattle.labels.specs.Labelling as L
+use Rattle.labels.specs.declared.Labelled.the-variants as labelled
+use Rattle.hop.specs.Hop as H
+use Rattle.hop.specs.declared.Decision.{Decision}
+use Rattle.hop.specs.declared.Decision.the-variants.{Deliver, Hop, Halted}
+use Rattle.hop.specs.declared.Hopped.the-variants as hopped
+use Rattle.walk.specs.Walk as W
+use Rattle.walk.specs.declared.Ending.{Ending}
+use Rattle.walk.specs.declared.Ending.the-variants as ending
+use Rattle.walk.specs.declared.Walked.{Walked}
+use Rattle.walk.proofs.Local.{spot-lt}
+use Rattle.notice.specs.Notice as N
+use Rattle.notice.specs.declared.Noticed.{Noticed}
+use Rattle.notice.specs.declared.Noticed.the-variants as noticed
+use Rattle.notice.proofs.Refusals.{parts, refused-few}
+use Rattle.hcube.specs.Answers.{hasRow, hopNumber, labelNumber, noticeNumber, packed, packedNotice, rowAfter, rowByte, walkNumber, walkedBy}
+use Rattle.hcube.specs.Fits.{WalkFits}
+use Rattle.hcube.specs.Decoded.{Decodes, decisionFrom, endingFrom, hoppedFrom, kindPart, labelledFrom, nodeAt, noticeRefusalPart, noticedFrom, refusalPart, valuePart, walkedFrom}
+use Rattle.hcube.proofs.Small.{HopFits, LabelFits, has-row, hop-small, label-small, lent, walk-small, written}
+
+-- ---- the parts of a packed number, and the choice by its refusal
+
+refusal-is : (k kind v : ℕ) → kind < 256 → v < 65536 → refusalPart (packed k kind v) ≡ k
+refusal-is k kind v a b = omega arith
+
+kind-is : (k kind v : ℕ) → kind < 256 → v < 65536 → kindPart (packed k kind v) ≡ kind
+kind-is k kind v a b = omega arith
+
+value-is : (k kind v : ℕ) → v < 65536 → valuePart (packed k kind v) ≡ v
+value-is k kind v b = omega arith
+
+accepted : {A : Type 0} (x : A) (y : ℕ → A) (k : ℕ) → k ≡ 0 → cond (eqb k 0) x (y k) ≡ x
+accepted x y k e = rw e
+
+refused : {A : Type 0} (x : A) (y : ℕ → A) (k j : ℕ) → k ≡ j → (j ≡ 0 → ⊥) → cond (eqb k 0) x (y k) ≡ y j
+refused x y k j e h = rw (e, ne-eqb j 0 h)
+
+-- ---- labelling
+
+module _ (K : Cabinet) (m : ℕ) where
+  abbrev label-k : ℕ
+  label-k = L.labelRefusal K m
+
+  label-decoded : labelledFrom (labelNumber (L.labelled K m)) ≡ L.labelled K m
+  unfolding L.labelled labelledFrom
+  label-decoded =
+      by-cases (λ a. LabelFits a → labelledFrom (labelNumber a) ≡ a) (eqb label-k 0)
+      (λ _ f. accepted (labelled.Rounds (valuePart (packed 0 0 (roundsOf K)))) labelled.Refused (refusalPart (packed 0 0 (roundsOf K))) (refusal-is 0 0 (roundsOf K) (omega arith) (f .1))
+      ∙ ap labelled.Rounds (value-is 0 0 (roundsOf K) (f .1)))
+      (λ e _. refused (labelled.Rounds (valuePart (packed label-k 0 0))) labelled.Refused (refusalPart (packed label-k 0 0)) label-k (refusal-is label-k 0 0 (omega arith) (omega arith)) (eqb-false label-k 0 e))
+      (label-small K m)
+
+-- ---- the hop
+
+decision-decoded : (x : Decision) → H.decisionValue x < 65536
+    → decisionFrom (kindPart (packed 0 (H.decisionKind x) (H.decisionValue x))) (valuePart (packed 0 (H.decisionKind x) (H.decisionValue x))) ≡ x
+decision-decoded Deliver h = refl
+decision-decoded (Hop i) h = rw (kind-is 0 1 i (omega arith) h) (ap Hop (value-is 0 1 i h))
+decision-decoded Halted h = refl
+
+kind-small : (x : Decision) → H.decisionKind x < 256
+kind-small Deliver = omega arith
+kind-small (Hop i) = omega arith
+kind-small Halted = omega arith
+
+module _ (n c d m : ℕ) (lab : ℕ → ℕ) where
+  abbrev hop-k : ℕ
+  hop-k = H.hopRefusal n c d m lab
+
+  abbrev x : Decision
+  x = H.hop n lab c d
+
+  abbrev number : ℕ
+  number = packed 0 (H.decisionKind x) (H.decisionValue x)
+
+  hop-decoded : hoppedFrom (hopNumber (H.hopped n c d m lab)) ≡ H.hopped n c d m lab
+  unfolding H.hopped hoppedFrom
+  hop-decoded =
+      by-cases (λ a. HopFits a → hoppedFrom (hopNumber a) ≡ a) (eqb hop-k 0)
+      (λ _ f. accepted (hopped.Decided (decisionFrom (kindPart number) (valuePart number))) hopped.Refused (refusalPart number)
+      (refusal-is 0 (H.decisionKind x) (H.decisionValue x) (kind-small x) (f .1)) ∙ ap hopped.Decided (decision-decoded x (f .1)))
+      (λ e _. refused (hopped.Decided (decisionFrom (kindPart (packed hop-k 0 0)) (valuePart (packed hop-k 0 0)))) hopped.Refused (refusalPart (packed hop-k 0 0)) hop-k (refusal-is hop-k 0 0 (omega arith) (omega arith)) (eqb-false hop-k 0 e))
+      (hop-small n c d m lab)
+
+-- ---- the walk
+
+low-byte : (row : List ℕ) (k : ℕ) → rowByte row (2 * k) ≡ getD row k 0 % 256
+unfolding rowByte
+low-byte row k =
+    let e : 2 * k % 2 ≡ 0 = omega arith in
+    let h : 2 * k / 2 ≡ k = omega arith in
+    rw (e, h)
+
+high-byte : (row : List ℕ) (k : ℕ) → rowByte row (2 * k + 1) ≡ getD row k 0 / 256 % 256
+unfolding rowByte
+high-byte row k =
+    let e : (2 * k + 1) % 2 ≡ 1 = omega arith in
+    let h : (2 * k + 1) / 2 ≡ k = omega arith in
+    rw (e, h)
+
+-- the two bytes of a place make its node
+node-decoded : (row : List ℕ) (k : ℕ) → k < 17 → getD row k 0 < 65536 → nodeAt (tab W.rowBytes (rowByte row)) k ≡ getD row k 0
+node-decoded row k h b =
+    omega (
+      arith,
+      getD-tab W.rowBytes (rowByte row) (2 * k) (omega arith) ∙ low-byte row k,
+      getD-tab W.rowBytes (rowByte row) (2 * k + 1) (omega arith) ∙ high-byte row k,
+    )
+
+-- so a row of small nodes comes back
+row-decoded : (f : ℕ → ℕ) → ((k : ℕ) → k < 17 → f k < 65536) → tab 17 (nodeAt (tab W.rowBytes (rowByte (tab 17 f)))) ≡ tab 17 f
+row-decoded f small =
+    tab-cong 17 (nodeAt (tab W.rowBytes (rowByte (tab 17 f)))) f
+    (λ k h. let e = getD-tab 17 f k h in node-decoded (tab 17 f) k h (omega (arith, small k h)) ∙ e)
+
+-- the kind, the count and the row of a walk that has a row
+module _ (w : Walked) (fits : W.refusalOf (w .ending) < 256) (few : w .hops < 65536) where
+  abbrev walk-number : ℕ
+  walk-number = walkNumber w
+
+  ended : (e : Ending) → hasRow e ≡ true → w .ending ≡ e
+      → (refusalPart walk-number ≡ 0) × (valuePart walk-number ≡ w .hops) × (endingFrom (kindPart walk-number) ≡ e)
+  ended ending.Delivered h e = rw e (refusal-is 0 0 (w .hops) (omega arith) few, value-is 0 0 (w .hops) few, rw (kind-is 0 0 (w .hops) (omega arith) few))
+  ended ending.Halted h e = rw e (refusal-is 0 1 (w .hops) (omega arith) few, value-is 0 1 (w .hops) few, rw (kind-is 0 1 (w .hops) (omega arith) few))
+  ended (ending.Refused k) h e = let z : _≡_ {A = ℕ} 0 1 = cc in absurd (omega arith)
+
+  ended-decoded : (before : List ℕ) → hasRow (w .ending) ≡ true → tab 17 (nodeAt (tab W.rowBytes (rowByte (w .row)))) ≡ w .row
+      → walkedFrom walk-number (rowAfter w before) ≡ w
+  unfolding walkedFrom
+  ended-decoded before h r =
+      let t = ended (w .ending) h refl in
+      ap (walkedFrom walk-number) (sym (written w before h))
+      ∙ accepted (record { row = tab 17 (nodeAt (tab W.rowBytes (rowByte (w .row)))); hops = valuePart walk-number; ending = endingFrom (kindPart walk-number) }) W.refused
+      (refusalPart walk-number) (t .0)
+      ∙ rw (r, t .1, t .2)
+
+refused-decoded : (before : List ℕ) (k : ℕ) → (k ≡ 0 → ⊥) → walkedFrom (walkNumber (W.refused k)) (rowAfter (W.refused k) before) ≡ W.refused k
+unfolding walkedFrom W.refused
+refused-decoded before k h =
+    refused (record { row = tab 17 (nodeAt (rowAfter (W.refused k) before)); hops = valuePart (packed k 0 0); ending = endingFrom (kindPart (packed k 0 0)) }) W.refused
+    (refusalPart (packed k 0 0)) k (refusal-is k 0 0 (omega arith) (omega arith)) h
+
+module _ (n s d : ℕ) (labels before : List ℕ) where
+  abbrev lab : ℕ → ℕ
+  lab = labelIn labels
+
+  abbrev walk-k : ℕ
+  walk-k = W.walkRefusal n s d (length labels) (length before) lab
+
+  -- every node of it is in the cube
+  row-back : walk-k ≡ 0 → tab 17 (nodeAt (tab W.rowBytes (rowByte (W.row n lab d s)))) ≡ W.row n lab d s
+  unfolding W.row
+  row-back e =
+      let l = lent n s d (length labels) (length before) lab e in
+      row-decoded (λ k. cond (leb k (W.hops n lab d s)) (W.spot n lab d s k) 0)
+      (λ k _. by-cases (λ x. x < 65536) (leb k (W.hops n lab d s)) (λ _. omega (arith, spot-lt n lab d s (l .2) k, nodes-few n (l .0))) (λ _. omega arith))
+
+  walk-decoded : walkedFrom (walkNumber (walkedBy n s d labels before)) (rowAfter (walkedBy n s d labels before) before) ≡ walkedBy n s d labels before
+  unfolding W.walked W.walkFrom
+  walk-decoded =
+      by-cases (λ w. WalkFits w → walkedFrom (walkNumber w) (rowAfter w before) ≡ w) (eqb walk-k 0)
+      (λ e f. ended-decoded (W.walkFrom n lab d s) (f .0) (f .1) before (has-row n s d (length labels) (length before) lab (eqb-true walk-k 0 e)) (row-back (eqb-true walk-k 0 e)))
+      (λ e _. refused-decoded before walk-k (eqb-false walk-k 0 e))
+      (walk-small n s d (length labels) (length before) lab)
+
+-- ---- the notice
+
+notice-decoded : (bytes before : List ℕ) → noticedFrom (noticeNumber (N.noticed bytes before)) ≡ N.noticed bytes before
+unfolding noticedFrom
+notice-decoded bytes before = go (N.noticed bytes before) refl
+  where
+    go : (a : Noticed) → N.noticed bytes before ≡ a → noticedFrom (noticeNumber a) ≡ a
+    go (noticed.Notice n m taken) e =
+        let p = parts bytes before n m taken e in
+        let r : packedNotice 0 n m taken / 281474976710656 ≡ 0 = omega (arith, p .dimension, p .count, p .short) in
+        let a : packedNotice 0 n m taken / 4294967296 % 65536 ≡ n = omega (arith, p .dimension, p .count, p .short) in
+        let b : packedNotice 0 n m taken / 65536 % 65536 ≡ m = omega (arith, p .dimension, p .count, p .short) in
+        let c : packedNotice 0 n m taken % 65536 ≡ taken = omega (arith, p .dimension, p .count, p .short) in
+        rw (r, a, b, c)
+    go (noticed.Refused k) e =
+        let few = refused-few bytes before k e in
+        let r : packedNotice k 0 0 0 / 281474976710656 ≡ k = omega arith in
+        rw (r, ne-eqb k 0 (λ z. omega (arith, few .0)))
+
+pub decodes : Decodes
+decodes = record { label = label-decoded; hop = hop-decoded; walk = walk-decoded; notice = notice-decoded }

@@ -1,0 +1,75 @@
+-- What C takes out of an answer, by the header's own macros, and of a row, two bytes a node: so the answers that C has are the library's own. Proved in
+-- proofs/Decoded.antt.
+use mathlib.Core.Bool.{cond}
+use mathlib.Core.List.{List}
+use mathlib.Core.Path.{_≡_}
+use Prim.Native.Nat.{ℕ, _+_, _*_, _/_, _%_}
+use lib.Dec.{eqb}
+use lib.ListN.{getD}
+use Rattle.cube.specs.Tables.{tab}
+use Rattle.rule.specs.Cabinet.{Cabinet}
+use Rattle.labels.specs.Labelling.{labelled}
+use Rattle.labels.specs.declared.Labelled.{Labelled}
+use Rattle.labels.specs.declared.Labelled.the-variants as labelled
+use Rattle.hop.specs.Hop.{hopped}
+use Rattle.hop.specs.declared.Decision.{Decision}
+use Rattle.hop.specs.declared.Decision.the-variants.{Deliver, Hop, Halted}
+use Rattle.hop.specs.declared.Hopped.{Hopped}
+use Rattle.hop.specs.declared.Hopped.the-variants as hopped
+use Rattle.walk.specs.Walk.{refused}
+use Rattle.walk.specs.declared.Ending.{Ending}
+use Rattle.walk.specs.declared.Ending.the-variants as ending
+use Rattle.walk.specs.declared.Walked.{Walked}
+use Rattle.notice.specs.Notice.{noticed}
+use Rattle.notice.specs.declared.Noticed.{Noticed}
+use Rattle.notice.specs.declared.Noticed.the-variants as noticed
+use Rattle.hcube.specs.Answers.{hopNumber, labelNumber, noticeNumber, rowAfter, walkNumber, walkedBy}
+
+-- HCUBE_REFUSAL, HCUBE_KIND and HCUBE_VALUE
+abbrev pub refusalPart : ℕ → ℕ
+refusalPart r = r / 16777216
+
+abbrev pub kindPart : ℕ → ℕ
+kindPart r = r / 65536 % 256
+
+abbrev pub valuePart : ℕ → ℕ
+valuePart r = r % 65536
+
+-- HCUBE_NOTICE_REFUSAL
+abbrev pub noticeRefusalPart : ℕ → ℕ
+noticeRefusalPart r = r / 281474976710656
+
+-- the node at place k of a row: two bytes, low byte first
+abbrev pub nodeAt : (row : List ℕ) (k : ℕ) → ℕ
+nodeAt row k = getD row (2 * k) 0 + 256 * getD row (2 * k + 1) 0
+
+-- ---- the answers by their numbers
+
+abbrev pub decisionFrom : (kind value : ℕ) → Decision
+decisionFrom kind value = cond (eqb kind 0) Deliver (cond (eqb kind 1) (Hop value) Halted)
+
+abbrev pub endingFrom : (kind : ℕ) → Ending
+endingFrom kind = cond (eqb kind 0) ending.Delivered ending.Halted
+
+unfoldable pub labelledFrom : ℕ → Labelled
+labelledFrom r = cond (eqb (refusalPart r) 0) (labelled.Rounds (valuePart r)) (labelled.Refused (refusalPart r))
+
+unfoldable pub hoppedFrom : ℕ → Hopped
+hoppedFrom r = cond (eqb (refusalPart r) 0) (hopped.Decided (decisionFrom (kindPart r) (valuePart r))) (hopped.Refused (refusalPart r))
+
+unfoldable pub walkedFrom : ℕ → (row : List ℕ) → Walked
+walkedFrom r row =
+    cond (eqb (refusalPart r) 0) (record { row = tab 17 (nodeAt row); hops = valuePart r; ending = endingFrom (kindPart r) }) (refused (refusalPart r))
+
+unfoldable pub noticedFrom : ℕ → Noticed
+noticedFrom r =
+    cond (eqb (noticeRefusalPart r) 0) (noticed.Notice (r / 4294967296 % 65536) (r / 65536 % 65536) (r % 65536)) (noticed.Refused (noticeRefusalPart r))
+
+-- each is the answer that was put into the number
+pub record Decodes : Type 0 where
+  pub label : (K : Cabinet) (m : ℕ) → labelledFrom (labelNumber (labelled K m)) ≡ labelled K m
+  pub hop : (n c d m : ℕ) (lab : ℕ → ℕ) → hoppedFrom (hopNumber (hopped n c d m lab)) ≡ hopped n c d m lab
+  pub walk :
+      (n s d : ℕ) (labels before : List ℕ)
+      → walkedFrom (walkNumber (walkedBy n s d labels before)) (rowAfter (walkedBy n s d labels before) before) ≡ walkedBy n s d labels before
+  pub notice : (bytes before : List ℕ) → noticedFrom (noticeNumber (noticed bytes before)) ≡ noticed bytes before
