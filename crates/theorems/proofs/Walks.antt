@@ -27,14 +27,14 @@ use Rattle.theorems.proofs.Decision.{picked}
 -- ---- any walk: its steps are the decisions' own
 
 module _ (n : ℕ) (lab : ℕ → ℕ) (d s : ℕ) where
-  spot-suc : (k i : ℕ) → turn n lab d s k ≡ Hop i → spot n lab d s (suc k) ≡ flip i (spot n lab d s k)
+  pub spot-suc : (k i : ℕ) → turn n lab d s k ≡ Hop i → spot n lab d s (suc k) ≡ flip i (spot n lab d s k)
   unfolding spot turn onto
   spot-suc k i e = ap (λ h. onto h (spot n lab d s k)) e
 
   the-hops : Least (n + 4) (λ k. stops (turn n lab d s k))
   the-hops = the-least (n + 4) (λ k. stops (turn n lab d s k))
 
-  hops-on : (k : ℕ) → k < hops n lab d s → stops (turn n lab d s k) ≡ false
+  pub hops-on : (k : ℕ) → k < hops n lab d s → stops (turn n lab d s k) ≡ false
   unfolding hops
   hops-on = the-hops .before
 
