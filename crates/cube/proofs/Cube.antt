@@ -108,7 +108,7 @@ unfolding xor
 xor-true true = refl
 xor-true false = refl
 
-xor-eq : (a b : Bool) → xor a b ≡ false → a ≡ b
+pub xor-eq : (a b : Bool) → xor a b ≡ false → a ≡ b
 unfolding xor
 xor-eq true true e = refl
 xor-eq true false e = e
@@ -139,7 +139,7 @@ flip-flip n i x h hx = bits-same n (flip i (flip i x)) x (flip-lt n i (flip i x)
           | no d ↦ bit-flip-other j i (flip i x) d ∙ bit-flip-other j i x d
         ]
 
-apart-bits : (i x y : ℕ) → apart i x y ≡ xor (bit i x) (bit i y)
+pub apart-bits : (i x y : ℕ) → apart i x y ≡ xor (bit i x) (bit i y)
 unfolding apart
 apart-bits i x y = bit-xor i x y
 

@@ -1,9 +1,11 @@
 -- The rounds come to rest. A round that is not quiet marks a working node that had no mark, so the marks are never more than the working
--- nodes and never fewer than the rounds: within as many rounds as there are working nodes one is quiet, and `rounds` is the first.
+-- nodes and never fewer than the rounds: within as many rounds as there are working nodes one is quiet, and `rounds` is the first. It leaves the marks as
+-- they are, so every later one is quiet too.
 use mathlib.Core.Path.{_≡_, refl, sym, ap, ap₂, _∙_}
 use mathlib.Core.Logic.{_⊎_, inl, inr, ⊎-elim}
-use mathlib.Core.Bool.{Bool, true, false, not, _&&_, _||_}
+use mathlib.Core.Bool.{Bool, true, false, not, or-false, _&&_, _||_}
 use Prim.Native.Nat.{ℕ, zero, suc, _+_, _^_, _≤_, _<_}
+use native.Mathlib.Nat.{eq-or-lt-of-le}
 use native.Mathlib.Omega.{arith}
 use lib.Dec.{ltb}
 use borrow.Author.Tests.{ltb-true, ltb-false, eqb-true, eqb-false, eq-eqb, not-true}
@@ -11,6 +13,7 @@ use Rattle.cube.specs.Count.{count}
 use Rattle.cube.specs.Cube.{flip}
 use Rattle.cube.proofs.Bools.{either, clash, is-false, and-true, or-true}
 use Rattle.cube.proofs.Count.{count-bound, count-le, count-same, count-sum, count-none, none-counted}
+use Rattle.cube.proofs.Cube.{flip-lt}
 use Rattle.cube.proofs.Search.{find, the-least, least-is}
 use Rattle.cube.proofs.Tables.{nodes-few}
 use Rattle.rule.specs.Rounds.{Rested}
@@ -107,6 +110,26 @@ module _ (n k : ℕ) (F : ℕ → Bool) where
           eq-eqb (count (2 ^ n) (newly n k F (marked n k F (rounds n k F)))) 0
           (omega (arith, one-each (rounds n k F) rounds-first, bounded (suc (rounds n k F)), grows (rounds n k F)))
 
+  -- a round that marks nothing new leaves the marks as they are, so the next one meets them again
+  quiet-next : (r : ℕ) → quiet n k F r ≡ true → quiet n k F (suc r) ≡ true
+  unfolding quiet newly
+  quiet-next r q = eq-eqb (count (2 ^ n) (newly n k F (marked n k F (suc r)))) 0 (count-none (2 ^ n) (newly n k F (marked n k F (suc r))) again)
+    where
+      none : (x : ℕ) → x < 2 ^ n → newly n k F (marked n k F r) x ≡ false
+      none = none-counted (2 ^ n) (newly n k F (marked n k F r)) (eqb-true (count (2 ^ n) (newly n k F (marked n k F r))) 0 q)
+
+      same : (x : ℕ) → x < 2 ^ n → marked n k F (suc r) x ≡ marked n k F r x
+      same x h = marked-suc r x ∙ rw (none x h) (or-false (marked n k F r x))
+
+      again : (x : ℕ) → x < 2 ^ n → newly n k F (marked n k F (suc r)) x ≡ false
+      again x h =
+          rw (same x h, meets-same n k F F (marked n k F (suc r)) (marked n k F r) x (λ _ _. refl) (λ i l. same (flip i x) (flip-lt n i x l h))) (none x h)
+
+  still : (r : ℕ) → rounds n k F ≤ r → quiet n k F r ≡ true
+  still zero h = let z : rounds n k F ≡ zero = omega arith in rw z at rest
+  still (suc r) h =
+      ⊎-elim (λ (e : rounds n k F ≡ suc r). rw e at rest) (λ (l : rounds n k F < suc r). quiet-next r (still r (omega arith))) (eq-or-lt-of-le h)
+
   -- each counted round marks some node that had no mark,
   round-marks : (j : ℕ) → j < rounds n k F → (x : ℕ) × (x < 2 ^ n) × (newly n k F (marked n k F j) x ≡ true)
   unfolding quiet
@@ -118,7 +141,7 @@ module _ (n k : ℕ) (F : ℕ → Bool) where
       go (inr a) = absurd (eqb-false (count (2 ^ n) (newly n k F (marked n k F j))) 0 (rounds-first j h) (count-none (2 ^ n) (newly n k F (marked n k F j)) a))
 
   pub rested : Rested n k F
-  rested = record { loud = round-marks; still = rest; ceiling = rounds-le }
+  rested = record { loud = round-marks; still = still; ceiling = rounds-le }
 
   -- the round after the last counted one marks no node
   pub none-new : (x : ℕ) → x < 2 ^ n → newly n k F (marked n k F (rounds n k F)) x ≡ false

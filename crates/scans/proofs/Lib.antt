@@ -1,3 +1,4 @@
+pub mod Hit
 pub mod Picking
 pub mod Local
 pub mod Toward

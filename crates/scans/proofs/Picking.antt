@@ -1,16 +1,17 @@
--- What the scans pick: the two searches of the definition, over the scans and over the dimensions, give the first scan and its lowest dimension; and
--- what a scan asks of a dimension is read off its line of the table.
-use mathlib.Core.Path.{_≡_, refl}
-use mathlib.Core.Bool.{true, false, _&&_, Bool·beq}
-use Prim.Native.Nat.{ℕ, zero, suc, _≤_, _<_}
+-- What the scans pick: the two searches of the definition, over the scans and over the dimensions, give the first scan and its lowest dimension.
+use mathlib.Core.Path.{_≡_}
+use mathlib.Core.Bool.{true, false}
+use Prim.Native.Nat.{ℕ, _≤_, _<_}
 use native.Mathlib.Omega.{arith}
-use lib.Dec.{leb, ltb}
-use borrow.Author.Tests.{ltb-true, ltb-false, leb-true, leb-false}
-use Rattle.cube.specs.Cube.{flip, apart, dist}
-use Rattle.cube.proofs.Bools.{beq-same, beq-true, clash, and-true}
+use lib.Dec.{ltb}
+use borrow.Author.Tests.{ltb-true, ltb-false}
+use Rattle.cube.specs.Cube.{flip}
+use Rattle.cube.proofs.Bools.{clash}
 use Rattle.cube.proofs.Search.{Least, the-least}
-use Rattle.scans.specs.Picks.{Misses, NonePicks, Picks, takesAt}
-use Rattle.scans.specs.Scans.{Scan, firstScan, lowest, noScan, scanAt, suits, takes}
+use Rattle.scans.specs.Hit.{Hit, scan1, scan2, scan3, scan4, scan5, takesAt}
+use Rattle.scans.specs.Picks.{Misses, NonePicks, Picks}
+use Rattle.scans.specs.Scans.{firstScan, lowest, noScan}
+use Rattle.scans.proofs.Hit.{table-hits}
 
 -- the first scan that takes a dimension, and the lowest that scan s takes
 abbrev pub firstScanAt : (n : ℕ) (lab : ℕ → ℕ) (c d : ℕ) → ℕ
@@ -29,45 +30,31 @@ module _ (n : ℕ) (lab : ℕ → ℕ) (c d : ℕ) where
   the-first : Least noScan (λ s. ltb (lowestAt n lab c d s) n)
   the-first = the-least noScan (λ s. ltb (lowestAt n lab c d s) n)
 
+  no-hit : (s i : ℕ) → takesAt lab c d s i ≡ false → ¬ (Hit lab c d s i)
+  no-hit s i e h = clash (table-hits lab c d s i .1 h) e
+
   missed : (t : ℕ) → t < first → Misses n lab c d t
   unfolding firstScan lowest
-  missed t h j l = the-lowest t .before j (omega (arith, ltb-false (lowestAt n lab c d t) n (the-first .before t h)))
+  missed t h j l = no-hit t j (the-lowest t .before j (omega (arith, ltb-false (lowestAt n lab c d t) n (the-first .before t h))))
 
   pub first-picks : first < noScan → Picks n lab c d first (lowestAt n lab c d first)
   unfolding firstScan lowest
   first-picks h =
       let i = ltb-true (lowestAt n lab c d first) n (the-first .hit h) in
-      record { scan = h; dimension = i; takes = the-lowest first .hit i; lowest = the-lowest first .before; earlier = missed }
+      record {
+        dimension = i;
+        hits = table-hits lab c d first (lowestAt n lab c d first) .0 (the-lowest first .hit i);
+        lowest = λ j l. no-hit first j (the-lowest first .before j l);
+        earlier = missed;
+      }
+
+  -- there is no scan but these
+  hit-scan : {s i : ℕ} → Hit lab c d s i → s < noScan
+  hit-scan (scan1 _ _) = omega arith
+  hit-scan (scan2 _ _) = omega arith
+  hit-scan (scan3 _ _ _) = omega arith
+  hit-scan (scan4 _ _) = omega arith
+  hit-scan (scan5 _ _) = omega arith
 
   pub none-picks : noScan ≤ first → NonePicks n lab c d
-  none-picks h t l = missed t (omega arith)
-
-  -- ---- what a dimension that scan s takes has, and what one that it does not take lacks
-
-  abbrev pub scanHere : ℕ → Scan
-  scanHere = scanAt (dist c d) (lab c)
-
-  pub hit : (s i : ℕ) → takesAt lab c d s i ≡ true → (scanHere s .allowed ≡ true) × (apart i c d ≡ scanHere s .side) × (lab (flip i c) ≤ scanHere s .top)
-  unfolding takes suits
-  hit s i e =
-      let a = and-true (scanHere s .allowed) (Bool·beq (apart i c d) (scanHere s .side) && leb (lab (flip i c)) (scanHere s .top)) e in
-      let b = and-true (Bool·beq (apart i c d) (scanHere s .side)) (leb (lab (flip i c)) (scanHere s .top)) (a .1) in
-      (a .0, beq-true (apart i c d) (scanHere s .side) (b .0), leb-true (lab (flip i c)) (scanHere s .top) (b .1))
-
-  pub miss : (s i : ℕ) → takesAt lab c d s i ≡ false → scanHere s .allowed ≡ true → apart i c d ≡ scanHere s .side → scanHere s .top < lab (flip i c)
-  unfolding takes suits
-  miss s i e o a = leb-false (lab (flip i c)) (scanHere s .top) (rw (o, a, beq-same (scanHere s .side)) at e)
-
-  -- there is no scan 0
-  pub no-zero : (i : ℕ) → takesAt lab c d 0 i ≡ true → ⊥
-  no-zero i e = clash (hit 0 i e .0) refl
-
--- what holds of each scan by its number
-pub each-scan : (P : ℕ → Type 0) → P 0 → P 1 → P 2 → P 3 → P 4 → P 5 → (s : ℕ) → s < noScan → P s
-each-scan P p0 p1 p2 p3 p4 p5 zero h = p0
-each-scan P p0 p1 p2 p3 p4 p5 (suc zero) h = p1
-each-scan P p0 p1 p2 p3 p4 p5 (suc (suc zero)) h = p2
-each-scan P p0 p1 p2 p3 p4 p5 (suc (suc (suc zero))) h = p3
-each-scan P p0 p1 p2 p3 p4 p5 (suc (suc (suc (suc zero)))) h = p4
-each-scan P p0 p1 p2 p3 p4 p5 (suc (suc (suc (suc (suc zero))))) h = p5
-each-scan P p0 p1 p2 p3 p4 p5 (suc (suc (suc (suc (suc (suc s)))))) h = absurd (omega arith)
+  none-picks h s j l k = missed s (omega (arith, hit-scan k)) j l k

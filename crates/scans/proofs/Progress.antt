@@ -1,22 +1,26 @@
 -- Each pick on good labels makes progress. ONE RANK serves: the distance l where it is 0 or 1, else l and twice the label. Where some node is safe, a
 -- pick of any scan lowers it: scans 1 to 3 lead one nearer and, but for the last two hops, never to a worse label; scans 4 and 5 lead one farther
 -- and to a better label, which counts double. Where the destination is safe, or no node is, every pick is forward and l itself falls.
-use mathlib.Core.Path.{_≡_, refl, sym, ap, _∙_}
-use mathlib.Core.Logic.{⊎-elim, _≢_}
+use mathlib.Core.Path.{_≡_, refl, ap, _∙_}
+use mathlib.Core.Logic.{_⊎_, inl, inr, ⊎-elim, _≢_}
 use mathlib.Core.Bool.{true, false}
 use Prim.Native.Nat.{ℕ, zero, suc, _+_, _*_, _^_, _≤_, _<_}
 use native.Mathlib.Omega.{arith}
-use lib.Dec.{eqb, leb}
-use borrow.Author.Tests.{eq-eqb, eqb-true, leb-true, leb-false, le-leb, lt-leb}
+use lib.Dec.{leb}
+use borrow.Author.Tests.{leb-true, leb-false, le-leb, lt-leb}
 use Rattle.cube.specs.Cube.{flip, apart, dist}
-use Rattle.cube.proofs.Bools.{either, or-left, or-right}
+use Rattle.cube.proofs.Bools.{either}
 use Rattle.cube.proofs.Cube.{flip-lt, flip-flip, dist-fall, dist-rise, dist-sym, apart-sym, neighbour}
+use Rattle.cube.proofs.Laws.{agree-apart, apart-agree, apart-differ, differ-apart}
 use Rattle.rule.specs.Good.{Good}
-use Rattle.scans.specs.Picks.{Misses, NonePicks, Picks, takesAt}
+use Rattle.scans.specs.Hit.{Forward, Hit, NotFaulty, Spare, Strong, scan1, scan2, scan3, scan4, scan5}
+use Rattle.scans.specs.Picks.{Misses, NonePicks, Picks}
 use Rattle.scans.specs.Progress.{GoodProgress, Inside, Progress, ScansProgress, rank}
-use Rattle.scans.specs.Scans.{forward, noScan, spare}
-use Rattle.scans.proofs.Picking.{scanHere, hit, miss, no-zero, each-scan}
 use Rattle.scans.proofs.Toward.{safe-step, near-step, toward, theorem5}
+
+side : (c d i : ℕ) → Forward c d i ⊎ Spare c d i
+side c d i =
+    ⊎-elim (λ (a : apart i c d ≡ true). inl (apart-differ i c d a)) (λ (a : apart i c d ≡ false). inr (apart-agree i c d a)) (either (apart i c d))
 
 module _ (lab : ℕ → ℕ) (d x : ℕ) where
   rank-near : dist x d ≤ 1 → rank lab d x ≡ dist x d
@@ -44,7 +48,7 @@ module _ (n : ℕ) (lab : ℕ → ℕ) (G : Good n lab) (d : ℕ) (hd : d < 2 ^ 
   -- ---- what scans that take nothing say of the label of c
 
   module _ (c : ℕ) (hc : c < 2 ^ n) where
-    -- at distance 1 scan 3 takes the dimension
+    -- at distance 1 scan 3 hits the dimension
     beyond : 0 < dist c d → Misses n lab c d 3 → 1 < dist c d
     beyond h m3 = omega (arith, not-one)
       where
@@ -52,46 +56,39 @@ module _ (n : ℕ) (lab : ℕ → ℕ) (G : Good n lab) (d : ℕ) (hd : d < 2 ^ 
         not-one e =
             let r = neighbour n c d hc hd e in
             let there = ap lab (ap (flip (r .0)) (r .3) ∙ flip-flip n (r .0) d (r .1) hd) in
-            omega (arith, miss n lab c d 3 (r .0) (m3 (r .0) (r .1)) (rw e (or-right (eqb (lab c) 2) refl)) (r .2))
+            m3 (r .0) (r .1) (scan3 (apart-differ (r .0) c d (r .2)) (omega arith) (inr (omega arith)))
 
     unsafe-at : 1 < dist c d → Misses n lab c d 2 → 0 < lab c
     unsafe-at h m2 = omega (arith, no)
       where
         no : lab c ≢ 0
-        no e = let r = near-step n lab G c d hc hd e h in omega (arith, r .3, miss n lab c d 2 (r .0) (m2 (r .0) (r .1)) refl (r .2))
+        no e = let r = near-step n lab G c d hc hd e h in m2 (r .0) (r .1) (scan2 (apart-differ (r .0) c d (r .2)) (r .3))
 
     unsafe-far : 2 < dist c d → Misses n lab c d 1 → 0 < lab c
     unsafe-far h m1 = omega (arith, no)
       where
         no : lab c ≢ 0
-        no e = let r = safe-step n lab G c d hc hd e h in omega (arith, r .3, miss n lab c d 1 (r .0) (m1 (r .0) (r .1)) refl (r .2))
+        no e = let r = safe-step n lab G c d hc hd e h in m1 (r .0) (r .1) (scan1 (apart-differ (r .0) c d (r .2)) (r .3))
 
-    -- a forward scan and a spare one that take nothing: every neighbour has a higher label than both ask for
-    both-miss : (s t b : ℕ) → scanHere n lab c d s .side ≡ forward → scanHere n lab c d s .allowed ≡ true → b ≤ scanHere n lab c d s .top
-        → scanHere n lab c d t .side ≡ spare → scanHere n lab c d t .allowed ≡ true → b ≤ scanHere n lab c d t .top
-        → Misses n lab c d s → Misses n lab c d t → (i : ℕ) → i < n → b < lab (flip i c)
-    both-miss s t b fs os bs ft ot bt ms mt i hi =
-        ⊎-elim
-        (λ (a : apart i c d ≡ true). omega (arith, miss n lab c d s i (ms i hi) os (a ∙ sym fs)))
-        (λ (a : apart i c d ≡ false). omega (arith, miss n lab c d t i (mt i hi) ot (a ∙ sym ft)))
-        (either (apart i c d))
-
+    -- a safe neighbour is hit by scan 1 or 4, whichever side it is on; an ordinarily unsafe one by scan 2 or 5
     not-ordinary : Misses n lab c d 1 → Misses n lab c d 4 → lab c ≢ 1
     not-ordinary m1 m4 e =
         let r = G .ordinary c hc e in
-        omega (arith, r .2, both-miss 1 4 0 refl refl (omega arith) refl refl (omega arith) m1 m4 (r .0) (r .1))
+        ⊎-elim (λ (f : Forward c d (r .0)). m1 (r .0) (r .1) (scan1 f (r .2))) (λ (f : Spare c d (r .0)). m4 (r .0) (r .1) (scan4 f (r .2)))
+        (side c d (r .0))
 
     not-strong : (s : ℕ) → s < 2 ^ n → lab s ≡ 0 → Misses n lab c d 2 → Misses n lab c d 5 → lab c ≢ 2
     not-strong s hs es m2 m5 e =
         let r = theorem5 n lab G c hc e s hs es in
-        omega (arith, r .2, both-miss 2 5 1 refl refl (omega arith) refl refl (omega arith) m2 m5 (r .0) (r .1))
+        let l : lab (flip (r .0) c) ≤ 1 = omega (arith, r .2) in
+        ⊎-elim (λ (f : Forward c d (r .0)). m2 (r .0) (r .1) (scan2 f l)) (λ (f : Spare c d (r .0)). m5 (r .0) (r .1) (scan5 f l)) (side c d (r .0))
 
     -- ---- the rank falls
 
     -- one nearer, and not to a worse label but for the last two hops
-    forward-falls : (i : ℕ) → i < n → apart i c d ≡ true → (2 < dist c d → lab (flip i c) ≤ lab c) → rank lab d (flip i c) < rank lab d c
-    forward-falls i hi a w =
-        let f = dist-fall n i c d hc hd hi a in
+    forward-falls : (i : ℕ) → i < n → Forward c d i → (2 < dist c d → lab (flip i c) ≤ lab c) → rank lab d (flip i c) < rank lab d c
+    forward-falls i hi f w =
+        let near = dist-fall n i c d hc hd hi (differ-apart i c d f) in
         ⊎-elim
         (λ (t : leb (dist c d) 2 ≡ true). omega (arith, rank-near lab d (flip i c) (omega (arith, leb-true (dist c d) 2 t)), rank-ge lab d c))
         (λ (t : leb (dist c d) 2 ≡ false).
@@ -100,104 +97,80 @@ module _ (n : ℕ) (lab : ℕ → ℕ) (G : Good n lab) (d : ℕ) (hd : d < 2 ^ 
         (either (leb (dist c d) 2))
 
     -- one farther, and to a better label
-    spare-falls : (i : ℕ) → i < n → apart i c d ≡ false → 1 < dist c d → lab (flip i c) < lab c → rank lab d (flip i c) < rank lab d c
-    spare-falls i hi a l w = omega (arith, dist-rise n i c d hc hd hi a, rank-le lab d (flip i c), rank-far lab d c l)
+    spare-falls : (i : ℕ) → i < n → Spare c d i → 1 < dist c d → lab (flip i c) < lab c → rank lab d (flip i c) < rank lab d c
+    spare-falls i hi f l w = omega (arith, dist-rise n i c d hc hd hi (agree-apart i c d f), rank-le lab d (flip i c), rank-far lab d c l)
 
-    -- a pick of scan s leads to a node that works, and the rank falls
-    abbrev Falls : ℕ → Type 0
-    Falls s =
-        (i : ℕ) → i < n → takesAt lab c d s i ≡ true → ((t : ℕ) → t < s → Misses n lab c d t)
-        → (lab (flip i c) ≤ 2) × (rank lab d (flip i c) < rank lab d c)
-
-    falls : 0 < dist c d → (s : ℕ) → s < noScan → Falls s
-    falls p = each-scan Falls (λ i hi e m. absurd (no-zero n lab c d i e)) falls1 falls2 falls3 falls4 falls5
+    -- a pick leads to a node that works, and the rank falls
+    falls : 0 < dist c d → {s i : ℕ} → i < n → Hit lab c d s i → ((t : ℕ) → t < s → Misses n lab c d t)
+        → NotFaulty (lab (flip i c)) × (rank lab d (flip i c) < rank lab d c)
+    falls p {s} {i} hi (scan1 f e) m = (omega (arith, e), forward-falls i hi f (λ l. omega (arith, e)))
+    falls p {s} {i} hi (scan2 f e) m = (omega (arith, e), forward-falls i hi f (λ l. omega (arith, e, unsafe-far l (m 1 (omega arith)))))
+    falls p {s} {i} hi (scan3 f e o) m = (e, forward-falls i hi f (no-worse o))
       where
-        falls1 : Falls 1
-        falls1 i hi e m = let r = hit n lab c d 1 i e in (omega arith, forward-falls i hi (r .1) (λ l. omega arith))
-
-        falls2 : Falls 2
-        falls2 i hi e m =
-            let r = hit n lab c d 2 i e in
-            (omega arith, forward-falls i hi (r .1) (λ l. omega (arith, unsafe-far l (m 1 (omega arith)))))
-
-        falls3 : Falls 3
-        falls3 i hi e m =
-            let r = hit n lab c d 3 i e in
-            let no-worse : 2 < dist c d → lab (flip i c) ≤ lab c =
-            λ l. ⊎-elim (λ (q : eqb (lab c) 2 ≡ true). omega (arith, eqb-true (lab c) 2 q))
-            (λ (q : eqb (lab c) 2 ≡ false). absurd (omega (arith, leb-true (dist c d) 2 (rw q at (r .0)))))
-            (either (eqb (lab c) 2)) in
-            (r .2, forward-falls i hi (r .1) no-worse)
-
-        falls4 : Falls 4
-        falls4 i hi e m =
-            let r = hit n lab c d 4 i e in
-            let l = beyond p (m 3 (omega arith)) in
-            (omega arith, spare-falls i hi (r .1) l (omega (arith, unsafe-at l (m 2 (omega arith)))))
-
-        falls5 : Falls 5
-        falls5 i hi e m =
-            let r = hit n lab c d 5 i e in
-            let l = beyond p (m 3 (omega arith)) in
-            let w = not-ordinary (m 1 (omega arith)) (m 4 (omega arith)) in
-            (omega arith, spare-falls i hi (r .1) l (omega (arith, unsafe-at l (m 2 (omega arith)))))
+        no-worse : Strong (lab c) ⊎ (dist c d ≤ 2) → 2 < dist c d → lab (flip i c) ≤ lab c
+        no-worse (inl q) l = omega (arith, e, q)
+        no-worse (inr q) l = absurd (omega arith)
+    falls p {s} {i} hi (scan4 f e) m =
+        let l = beyond p (m 3 (omega arith)) in
+        (omega (arith, e), spare-falls i hi f l (omega (arith, e, unsafe-at l (m 2 (omega arith)))))
+    falls p {s} {i} hi (scan5 f e) m =
+        let l = beyond p (m 3 (omega arith)) in
+        let w = not-ordinary (m 1 (omega arith)) (m 4 (omega arith)) in
+        (omega (arith, e), spare-falls i hi f l (omega (arith, e, unsafe-at l (m 2 (omega arith)))))
 
   -- where some node is safe, the rank falls, and something is always picked
   by-rank : (s : ℕ) → s < 2 ^ n → lab s ≡ 0 → Progress n lab d (rank lab d) (λ _. ⊥)
   by-rank s hs es =
       record {
-        inside = λ c t i p far k. (flip-lt n i c (k .dimension) (p .0), fallen c t i p far k .0);
-        falls = λ c t i p far k. fallen c t i p far k .1;
+        inside = λ c t i p far k. (flip-lt n i c (k .dimension) (p .0), falls c (p .0) far (k .dimension) (k .hits) (k .earlier) .0);
+        falls = λ c t i p far k. falls c (p .0) far (k .dimension) (k .hits) (k .earlier) .1;
         stuck = λ c p far m.
-            let l = beyond c (p .0) far (m 3 (omega arith)) in
-            let w = not-ordinary c (p .0) (m 1 (omega arith)) (m 4 (omega arith)) in
-            let z = not-strong c (p .0) s hs es (m 2 (omega arith)) (m 5 (omega arith)) in
-            omega (arith, unsafe-at c (p .0) l (m 2 (omega arith)));
+            let l = beyond c (p .0) far (m 3) in
+            let w = not-ordinary c (p .0) (m 1) (m 4) in
+            let z = not-strong c (p .0) s hs es (m 2) (m 5) in
+            omega (arith, unsafe-at c (p .0) l (m 2));
       }
-    where
-      fallen : (c t i : ℕ) → Inside n lab c → 0 < dist c d → Picks n lab c d t i → (lab (flip i c) ≤ 2) × (rank lab d (flip i c) < rank lab d c)
-      fallen c t i p far k = falls c (p .0) far t (k .scan) i (k .dimension) (k .takes) (k .earlier)
 
   -- ---- every pick leads nearer
 
-  -- scan s leads nearer, to a node that works
-  abbrev Step : (c s : ℕ) → Type 0
-  Step c s = (i : ℕ) → i < n → takesAt lab c d s i ≡ true → ((t : ℕ) → t < s → Misses n lab c d t) → (apart i c d ≡ true) × (lab (flip i c) ≤ 2)
+  -- every scan leads from c nearer, to a node that works
+  abbrev Nearer : (c : ℕ) → Type 0
+  Nearer c = (s i : ℕ) → i < n → Hit lab c d s i → ((t : ℕ) → t < s → Misses n lab c d t) → Forward c d i × NotFaulty (lab (flip i c))
 
-  -- where all scans do, the distance falls
-  nearer : (Stuck : ℕ → Type 0) → ((c : ℕ) → Inside n lab c → 0 < dist c d → (s : ℕ) → s < noScan → Step c s)
+  -- where they do from every node, the distance falls
+  nearer : (Stuck : ℕ → Type 0) → ((c : ℕ) → Inside n lab c → 0 < dist c d → Nearer c)
       → ((c : ℕ) → Inside n lab c → 0 < dist c d → NonePicks n lab c d → Stuck c) → Progress n lab d (λ x. dist x d) Stuck
   nearer Stuck step stuck =
       record {
         inside = λ c s i p far k. (flip-lt n i c (k .dimension) (p .0), stepped c s i p far k .1);
-        falls = λ c s i p far k. omega (arith, dist-fall n i c d (p .0) hd (k .dimension) (stepped c s i p far k .0));
+        falls = λ c s i p far k.
+            omega (arith, dist-fall n i c d (p .0) hd (k .dimension) (differ-apart i c d (stepped c s i p far k .0)));
         stuck = stuck;
       }
     where
-      stepped : (c s i : ℕ) → Inside n lab c → 0 < dist c d → Picks n lab c d s i → (apart i c d ≡ true) × (lab (flip i c) ≤ 2)
-      stepped c s i p far k = step c p far s (k .scan) i (k .dimension) (k .takes) (k .earlier)
+      stepped : (c s i : ℕ) → Inside n lab c → 0 < dist c d → Picks n lab c d s i → Forward c d i × NotFaulty (lab (flip i c))
+      stepped c s i p far k = step c p far s i (k .dimension) (k .hits) (k .earlier)
 
   -- so it is where the destination is safe, and something is always picked;
   to-safe : lab d ≡ 0 → Progress n lab d (λ x. dist x d) (λ _. ⊥)
-  to-safe ed = nearer (λ _. ⊥) step (λ c p far m. second c p far (m 2 (omega arith)))
+  to-safe ed = nearer (λ _. ⊥) step (λ c p far m. second c p far (m 2))
     where
-      -- the second scan takes something
+      -- the second scan hits something
       second : (c : ℕ) → Inside n lab c → 0 < dist c d → Misses n lab c d 2 → ⊥
       second c p far m2 =
           let r = towards (dist c d) refl in
-          omega (arith, r .3, miss n lab c d 2 (r .0) (m2 (r .0) (r .1)) refl (apart-sym (r .0) c d ∙ r .2))
+          m2 (r .0) (r .1) (scan2 (apart-differ (r .0) c d (apart-sym (r .0) c d ∙ r .2)) (r .3))
         where
           towards : (k : ℕ) → dist c d ≡ k → (j : ℕ) × (j < n) × (apart j d c ≡ true) × (lab (flip j c) ≤ 1)
           towards zero e = absurd (omega arith)
           towards (suc k) e = toward n lab G c (p .0) k d hd (dist-sym d c ∙ e) ed
 
-      step : (c : ℕ) → Inside n lab c → 0 < dist c d → (s : ℕ) → s < noScan → Step c s
-      step c p far =
-          each-scan (Step c) (λ i hi e m. absurd (no-zero n lab c d i e)) (λ i hi e m. let r = hit n lab c d 1 i e in (r .1, omega arith))
-          (λ i hi e m. let r = hit n lab c d 2 i e in (r .1, omega arith)) (late 3 (omega arith)) (late 4 (omega arith)) (late 5 (omega arith))
-        where
-          late : (s : ℕ) → 2 < s → Step c s
-          late s h i hi e m = absurd (second c p far (m 2 h))
+      step : (c : ℕ) → Inside n lab c → 0 < dist c d → Nearer c
+      step c p far s i hi (scan1 f e) m = (f, omega (arith, e))
+      step c p far s i hi (scan2 f e) m = (f, omega (arith, e))
+      step c p far s i hi (scan3 f e o) m = absurd (second c p far (m 2 (omega arith)))
+      step c p far s i hi (scan4 f e) m = absurd (second c p far (m 2 (omega arith)))
+      step c p far s i hi (scan5 f e) m = absurd (second c p far (m 2 (omega arith)))
 
   -- and where no node is safe: then nothing is picked only where no neighbour nearer the destination works
   module _ (none : (x : ℕ) → x < 2 ^ n → lab x ≢ 0) where
@@ -211,17 +184,18 @@ module _ (n : ℕ) (lab : ℕ → ℕ) (G : Good n lab) (d : ℕ) (hd : d < 2 ^ 
     in-the-dark = nearer (λ x. (i : ℕ) → i < n → apart i x d ≡ true → 2 < lab (flip i x)) (λ c p far. step c (p .0)) halted
       where
         halted : (c : ℕ) → Inside n lab c → 0 < dist c d → NonePicks n lab c d → (i : ℕ) → i < n → apart i c d ≡ true → 2 < lab (flip i c)
-        halted c p far m i hi a =
-            miss n lab c d 3 i (m 3 (omega arith) i hi) (or-left _ (eq-eqb (lab c) 2 (omega (arith, dark c (p .0))))) a
-
-        step : (c : ℕ) → c < 2 ^ n → (s : ℕ) → s < noScan → Step c s
-        step c hc =
-            each-scan (Step c) (low 0 (omega arith)) (low 1 (omega arith)) (low 2 (omega arith))
-            (λ i hi e m. let r = hit n lab c d 3 i e in (r .1, r .2)) (low 4 (omega arith)) (low 5 (omega arith))
+        halted c p far m i hi a = omega (arith, no)
           where
-            -- a scan for safe or ordinarily unsafe nodes takes nothing
-            low : (s : ℕ) → scanHere n lab c d s .top ≤ 1 → Step c s
-            low s t i hi e m = absurd (omega (arith, hit n lab c d s i e .2, dark (flip i c) (flip-lt n i c hi hc)))
+            no : ¬ (lab (flip i c) ≤ 2)
+            no l = m 3 i hi (scan3 (apart-differ i c d a) l (inl (omega (arith, dark c (p .0), p .1))))
+
+        -- only scan 3 hits anything
+        step : (c : ℕ) → c < 2 ^ n → Nearer c
+        step c hc s i hi (scan1 f e) m = absurd (omega (arith, e, dark (flip i c) (flip-lt n i c hi hc)))
+        step c hc s i hi (scan2 f e) m = absurd (omega (arith, e, dark (flip i c) (flip-lt n i c hi hc)))
+        step c hc s i hi (scan3 f e o) m = (f, e)
+        step c hc s i hi (scan4 f e) m = absurd (omega (arith, e, dark (flip i c) (flip-lt n i c hi hc)))
+        step c hc s i hi (scan5 f e) m = absurd (omega (arith, e, dark (flip i c) (flip-lt n i c hi hc)))
 
   all-three : GoodProgress n lab d
   all-three = record { by-rank = by-rank; to-safe = to-safe; in-the-dark = in-the-dark }

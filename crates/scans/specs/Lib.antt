@@ -1,3 +1,4 @@
 pub mod Scans
+pub mod Hit
 pub mod Picks
 pub mod Progress

@@ -7,7 +7,7 @@ use native.Mathlib.Numerals.{add-one}
 use native.Mathlib.Omega.{arith}
 use lib.Dec.{eqb, leb, ltb}
 use lib.ListN.{length, List·getD-eq-default}
-use borrow.Author.Tests.{eq-eqb, ne-eqb, eqb-true, eqb-false, le-leb, lt-leb, le-ltb, ltb-true, ltb-false}
+use borrow.Author.Tests.{eq-eqb, ne-eqb, eqb-true, eqb-false, lt-leb, le-ltb, ltb-true, ltb-false}
 use Rattle.cube.specs.Cube.{apart, dist, flip}
 use Rattle.cube.specs.Refusal.{first}
 use Rattle.cube.specs.Tables.{highest, isDimension}
@@ -26,10 +26,11 @@ use Rattle.hop.specs.declared.Decision.the-variants.{Deliver, Halted}
 use Rattle.walk.specs.declared.Ending.{Ending}
 use Rattle.walk.specs.declared.Ending.the-variants as ending
 use Rattle.walk.specs.declared.Walked.{Walked}
-use Rattle.walk.proofs.Steps.{hops-within, spot-zero}
+use Rattle.walk.proofs.Steps.{spot-zero}
 use Rattle.theorems.specs.Demand3.{Stepped, Arrives, Stuck, Walks, Demand3}
 use Rattle.theorems.specs.Words.{Accepted, Works, labelAt, SomeSafe, walkOf, place}
 use Rattle.theorems.proofs.Demand2.{faulty, works}
+use Rattle.theorems.proofs.Places.{row-used}
 use Rattle.theorems.proofs.Walks.{Kept, Delivers, Halts, delivers, delivers-safe, delivers-or-halts}
 
 -- what is known of the label bytes of an accepted table
@@ -87,10 +88,7 @@ module _ (K : Cabinet) (T : Table K) (s d : ℕ) (hs : Works K s) (hd : Works K 
 
   -- the row's places
   place-used : (e : Ending) (k : ℕ) → k ≤ hops n lab d s → place (ended e) k ≡ spot n lab d s k
-  unfolding row
-  place-used e k h =
-      getD-tab 17 (λ j. cond (leb j (hops n lab d s)) (spot n lab d s j) 0) k (omega (arith, hops-within n lab d s, T .small))
-      ∙ rw (le-leb k (hops n lab d s) h)
+  place-used e = row-used n lab d s (T .small)
 
   place-unused : (e : Ending) (k : ℕ) → hops n lab d s < k → place (ended e) k ≡ 0
   unfolding row

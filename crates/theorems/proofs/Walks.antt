@@ -27,14 +27,14 @@ use Rattle.theorems.proofs.Decision.{picked}
 -- ---- any walk: its steps are the decisions' own
 
 module _ (n : ℕ) (lab : ℕ → ℕ) (d s : ℕ) where
-  spot-suc : (k i : ℕ) → turn n lab d s k ≡ Hop i → spot n lab d s (suc k) ≡ flip i (spot n lab d s k)
+  pub spot-suc : (k i : ℕ) → turn n lab d s k ≡ Hop i → spot n lab d s (suc k) ≡ flip i (spot n lab d s k)
   unfolding spot turn onto
   spot-suc k i e = ap (λ h. onto h (spot n lab d s k)) e
 
   the-hops : Least (n + 4) (λ k. stops (turn n lab d s k))
   the-hops = the-least (n + 4) (λ k. stops (turn n lab d s k))
 
-  hops-on : (k : ℕ) → k < hops n lab d s → stops (turn n lab d s k) ≡ false
+  pub hops-on : (k : ℕ) → k < hops n lab d s → stops (turn n lab d s k) ≡ false
   unfolding hops
   hops-on = the-hops .before
 
@@ -55,12 +55,12 @@ module _ (n : ℕ) (lab : ℕ → ℕ) (d : ℕ) (hd : d < 2 ^ n) (measure : ℕ
     move : (i : ℕ) → i < n → hop n lab c d ≡ Hop i → Inside n lab (flip i c) → measure (flip i c) < measure c → Next c
 
   next : (c : ℕ) → Inside n lab c → Next c
-  next c p = go (picked n lab c d)
+  next c p = go (hop n lab c d) refl (picked n lab c d)
     where
-      go : Picked n lab c d → Next c
-      go (arrived e h) = arrive (dist-zero n c d (p .0) hd e) h
-      go (took s i far h k) = move i (k .dimension) h (P .inside c s i p far k) (P .falls c s i p far k)
-      go (stopped far h m) = stuck h (P .stuck c p far m)
+      go : (x : Decision) → hop n lab c d ≡ x → Picked n lab c d x → Next c
+      go x h (arrived e) = arrive (dist-zero n c d (p .0) hd e) h
+      go x h (took {i} s far k) = move i (k .dimension) h (P .inside c s i p far k) (P .falls c s i p far k)
+      go x h (stopped far m) = stuck h (P .stuck c p far m)
 
 module _ (n : ℕ) (lab : ℕ → ℕ) (d : ℕ) (hd : d < 2 ^ n) (measure : ℕ → ℕ) (Stuck : ℕ → Type 0) (P : Progress n lab d measure Stuck)
     (s : ℕ) (ps : Inside n lab s) (fuel : measure s ≤ n + 4) where

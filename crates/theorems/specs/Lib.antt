@@ -1,4 +1,5 @@
 pub mod Words
 pub mod Picked
+pub mod Repeats
 pub mod Demand2
 pub mod Demand3

@@ -1,0 +1,66 @@
+-- The table of the scans says what document 01 says. Each line has three parts, and a dimension that suits it has all three: so they are read off
+-- the line of its scan and put together again.
+use mathlib.Core.Path.{_≡_, refl}
+use mathlib.Core.Logic.{_⊎_, inl, inr, ⊎-elim}
+use mathlib.Core.Bool.{true, _&&_, _||_, Bool·beq}
+use Prim.Native.Nat.{ℕ, zero, suc, _≤_}
+use native.Mathlib.Omega.{arith}
+use lib.Dec.{eqb, leb}
+use borrow.Author.Tests.{eq-eqb, eqb-true, leb-true, le-leb}
+use Rattle.cube.specs.Cube.{apart, dist, flip}
+use Rattle.cube.proofs.Bools.{and-true, beq-same, beq-true, clash, or-left, or-right, or-true}
+use Rattle.cube.proofs.Laws.{agree-apart, apart-agree, apart-differ, differ-apart}
+use Rattle.scans.specs.Hit.{Hit, Strong, TableHits, scan1, scan2, scan3, scan4, scan5, takesAt}
+use Rattle.scans.specs.Scans.{Scan, scanAt, suits, takes}
+
+module _ (lab : ℕ → ℕ) (c d : ℕ) where
+  abbrev scanHere : ℕ → Scan
+  scanHere = scanAt (dist c d) (lab c)
+
+  -- ---- a line of the table, taken apart and put together
+
+  record Suits (s i : ℕ) : Type 0 where
+    allowed : scanHere s .allowed ≡ true
+    side : apart i c d ≡ scanHere s .side
+    top : lab (flip i c) ≤ scanHere s .top
+
+  suited : (s i : ℕ) → takesAt lab c d s i ≡ true → Suits s i
+  unfolding takes suits
+  suited s i e =
+      let a = and-true (scanHere s .allowed) (Bool·beq (apart i c d) (scanHere s .side) && leb (lab (flip i c)) (scanHere s .top)) e in
+      let b = and-true (Bool·beq (apart i c d) (scanHere s .side)) (leb (lab (flip i c)) (scanHere s .top)) (a .1) in
+      record { allowed = a .0; side = beq-true (apart i c d) (scanHere s .side) (b .0); top = leb-true (lab (flip i c)) (scanHere s .top) (b .1) }
+
+  taken : (s i : ℕ) → Suits s i → takesAt lab c d s i ≡ true
+  unfolding takes suits
+  taken s i z = rw (z .allowed, z .side, beq-same (scanHere s .side)) (le-leb (lab (flip i c)) (scanHere s .top) (z .top))
+
+  -- ---- line by line
+
+  open-third : (most : ℕ) → (eqb (lab c) 2 || leb (dist c d) most) ≡ true → most ≤ 2 → Strong (lab c) ⊎ (dist c d ≤ 2)
+  open-third most e h =
+      ⊎-elim (λ (t : eqb (lab c) 2 ≡ true). inl (eqb-true (lab c) 2 t)) (λ (t : leb (dist c d) most ≡ true). inr (omega (arith, leb-true (dist c d) most t)))
+      (or-true (eqb (lab c) 2) (leb (dist c d) most) e)
+
+  third-open : Strong (lab c) ⊎ (dist c d ≤ 2) → scanHere 3 .allowed ≡ true
+  third-open (inl e) = or-left _ (eq-eqb (lab c) 2 e)
+  third-open (inr l) = or-right (eqb (lab c) 2) (le-leb (dist c d) _ (omega (arith, l)))
+
+  hit : (s i : ℕ) → Suits s i → Hit lab c d s i
+  hit zero i z = absurd (clash (z .allowed) refl)
+  hit (suc zero) i z = scan1 (apart-differ i c d (z .side)) (omega (arith, z .top))
+  hit (suc (suc zero)) i z = scan2 (apart-differ i c d (z .side)) (z .top)
+  hit (suc (suc (suc zero))) i z = scan3 (apart-differ i c d (z .side)) (z .top) (open-third _ (z .allowed) (omega arith))
+  hit (suc (suc (suc (suc zero)))) i z = scan4 (apart-agree i c d (z .side)) (omega (arith, z .top))
+  hit (suc (suc (suc (suc (suc zero))))) i z = scan5 (apart-agree i c d (z .side)) (z .top)
+  hit (suc (suc (suc (suc (suc (suc s)))))) i z = absurd (clash (z .allowed) refl)
+
+  suit : {s i : ℕ} → Hit lab c d s i → Suits s i
+  suit {s} {i} (scan1 f e) = record { allowed = refl; side = differ-apart i c d f; top = omega (arith, e) }
+  suit {s} {i} (scan2 f l) = record { allowed = refl; side = differ-apart i c d f; top = l }
+  suit {s} {i} (scan3 f l o) = record { allowed = third-open o; side = differ-apart i c d f; top = l }
+  suit {s} {i} (scan4 e z) = record { allowed = refl; side = agree-apart i c d e; top = omega (arith, z) }
+  suit {s} {i} (scan5 e l) = record { allowed = refl; side = agree-apart i c d e; top = l }
+
+pub table-hits : TableHits
+table-hits lab c d s i = (λ e. hit lab c d s i (suited lab c d s i e), λ h. taken lab c d s i (suit lab c d h))

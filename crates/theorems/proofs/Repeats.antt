@@ -1,0 +1,148 @@
+-- A walk that is not refused repeats the hop question. It stays in the cube, and no scan hits a faulty neighbour, so it stays off label 3 where its source
+-- is; all labels are in order, so the question is refused nowhere on the way, and its decision is the walk's own.
+use mathlib.Core.Path.{_≡_, refl, sym, ap, _∙_}
+use mathlib.Core.Logic.{_⊎_, inl, inr}
+use mathlib.Core.Bool.{true, false, not}
+use mathlib.Core.List.{[], _∷_, _++_}
+use Prim.Native.Nat.{ℕ, zero, suc, _+_, _^_, _≤_, _<_}
+use native.Mathlib.Numerals.{add-one}
+use native.Mathlib.Omega.{arith}
+use lib.Dec.{eqb, ltb}
+use borrow.Author.Tests.{eqb-false, le-ltb, lt-leb, ltb-false, ne-eqb, not-false}
+use Rattle.cube.specs.Cube.{flip}
+use Rattle.cube.specs.Refusal.{first, _⇒_}
+use Rattle.cube.specs.Tables.{highest}
+use Rattle.cube.proofs.Bools.{clash}
+use Rattle.cube.proofs.Cube.{flip-lt}
+use Rattle.cube.proofs.Refusal.{None, first-none}
+use Rattle.cube.proofs.Search.{none-some, some-none}
+use Rattle.scans.specs.Hit.{Hit, scan1, scan2, scan3, scan4, scan5}
+use Rattle.hop.specs.Helpers.{Placed}
+use Rattle.hop.specs.Hop.{hop, hopRefusal}
+use Rattle.hop.specs.declared.Decision.{Decision}
+use Rattle.hop.specs.declared.Decision.the-variants.{Deliver, Hop, Halted}
+use Rattle.hop.proofs.Local.{hop-dim}
+use Rattle.hop.proofs.Refusals.{good-place, hop-decides}
+use Rattle.walk.specs.Walk.{endingOf, hops, last, onto, rowBytes, spot, stops, tableTests, turn, walkFrom, walkRefusal, walkTests, walked}
+use Rattle.walk.specs.declared.Ending.the-variants as ending
+use Rattle.walk.specs.declared.Walked.{Walked}
+use Rattle.walk.proofs.Local.{spot-lt}
+use Rattle.walk.proofs.Steps.{spot-zero}
+use Rattle.theorems.specs.Picked.{Picked, arrived, took, stopped}
+use Rattle.theorems.specs.Repeats.{Decides, Repeats, WalkRepeats}
+use Rattle.theorems.specs.Words.{place}
+use Rattle.theorems.proofs.Decision.{picked}
+use Rattle.theorems.proofs.Places.{row-used}
+use Rattle.theorems.proofs.Walks.{hops-on, spot-suc}
+
+-- ---- no hop enters a node that is labelled faulty, whatever the table
+
+hit-works : {lab : ℕ → ℕ} {c d s i : ℕ} → Hit lab c d s i → lab (flip i c) ≤ 2
+hit-works (scan1 _ e) = omega (arith, e)
+hit-works (scan2 _ l) = omega (arith, l)
+hit-works (scan3 _ l _) = l
+hit-works (scan4 _ e) = omega (arith, e)
+hit-works (scan5 _ l) = omega (arith, l)
+
+onto-works : (n : ℕ) (lab : ℕ → ℕ) (c d : ℕ) (x : Decision) → lab c ≤ 2 → Picked n lab c d x → lab (onto x c) ≤ 2
+unfolding onto
+onto-works n lab c d x h (arrived _) = h
+onto-works n lab c d x h (took _ _ p) = hit-works (p .hits)
+onto-works n lab c d x h (stopped _ _) = h
+
+spot-works : (n : ℕ) (lab : ℕ → ℕ) (d s : ℕ) → lab s ≤ 2 → (k : ℕ) → lab (spot n lab d s k) ≤ 2
+unfolding spot
+spot-works n lab d s h zero = h
+spot-works n lab d s h (suc k) =
+    onto-works n lab (spot n lab d s k) d (hop n lab (spot n lab d s k) d) (spot-works n lab d s h k) (picked n lab (spot n lab d s k) d)
+
+-- ---- a walk that is not refused
+
+module _ (n s d m room : ℕ) (lab : ℕ → ℕ) (ok : walkRefusal n s d m room lab ≡ 0) where
+  passed : None (walkTests n s d m room lab)
+  unfolding walkRefusal
+  passed = first-none 8 (walkTests n s d m room lab) refl ok
+
+  there : Placed n s d m
+  there = good-place n s d m (not (eqb room rowBytes)) (tableTests n s d lab ++ (not (stops (last n lab d s)) ⇒ 8 ∷ [])) passed
+
+  abbrev at : ℕ → ℕ
+  at = spot n lab d s
+
+  inside : (k : ℕ) → at k < 2 ^ n
+  inside = spot-lt n lab d s (there .first)
+
+  low : (x : ℕ) → x < 2 ^ n → lab x ≤ 3
+  low x h = ltb-false highest (lab x) (none-some (2 ^ n) (λ y. ltb highest (lab y)) (passed .1 .1 .1 .1 .0) x h)
+
+  works : (k : ℕ) → lab (at k) ≤ 2
+  works = spot-works n lab d s (omega (arith, low s (there .first), eqb-false (lab s) 3 (passed .1 .1 .1 .1 .1 .0)))
+
+  unrefused : (k : ℕ) → hopRefusal n (at k) d m lab ≡ 0
+  unfolding hopRefusal first
+  unrefused k =
+      rw (
+        passed .0,
+        passed .1 .0,
+        lt-leb (2 ^ n) (at k) (inside k),
+        lt-leb (2 ^ n) d (there .second),
+        le-ltb highest (lab (at k)) (low (at k) (inside k)),
+        some-none n (λ i. ltb highest (lab (flip i (at k))))
+            (λ i h. le-ltb highest (lab (flip i (at k))) (low (flip i (at k)) (flip-lt n i (at k) h (inside k)))),
+        ne-eqb (lab (at k)) 3 (λ e. omega (arith, works k)),
+      )
+
+  -- the question after k hops
+  decides : (k : ℕ) (x : Decision) → turn n lab d s k ≡ x → Decides n d m lab (at k) x
+  unfolding turn
+  decides k x e = sym (hop-decides n (at k) d m lab x (unrefused k) (sym e))
+
+  abbrev w : Walked
+  w = walkFrom n lab d s
+
+  used : (k : ℕ) → k ≤ hops n lab d s → place w k ≡ at k
+  unfolding walkFrom
+  used = row-used n lab d s (there .small)
+
+  steps : (k : ℕ) → k < hops n lab d s
+      → (i : ℕ) × (i < n) × Decides n d m lab (place w k) (Hop i) × (place w (k + 1) ≡ flip i (place w k))
+  unfolding turn stops
+  steps k h = go (turn n lab d s k) refl (hops-on n lab d s k h)
+    where
+      go : (x : Decision) → turn n lab d s k ≡ x → stops x ≡ false
+          → (i : ℕ) × (i < n) × Decides n d m lab (place w k) (Hop i) × (place w (k + 1) ≡ flip i (place w k))
+      go Deliver e f = absurd (clash refl f)
+      go Halted e f = absurd (clash refl f)
+      go (Hop i) e f = (
+        i,
+        hop-dim n lab (at k) d i e,
+        rw (used k (omega arith)) (decides k (Hop i) e),
+        used (k + 1) (omega arith) ∙ ap at (add-one k) ∙ spot-suc n lab d s k i e ∙ ap (flip i) (sym (used k (omega arith))),
+      )
+
+  ends : (Decides n d m lab (place w (hops n lab d s)) Deliver × (endingOf (last n lab d s) ≡ ending.Delivered))
+      ⊎ (Decides n d m lab (place w (hops n lab d s)) Halted × (endingOf (last n lab d s) ≡ ending.Halted))
+  unfolding last stops
+  ends = go (last n lab d s) refl (not-false (stops (last n lab d s)) (passed .1 .1 .1 .1 .1 .1 .1 .0))
+    where
+      here : (x : Decision) → last n lab d s ≡ x → Decides n d m lab (place w (hops n lab d s)) x
+      here x e = rw (used (hops n lab d s) (omega arith)) (decides (hops n lab d s) x e)
+
+      go : (x : Decision) → last n lab d s ≡ x → stops x ≡ true
+          → (Decides n d m lab (place w (hops n lab d s)) Deliver × (endingOf (last n lab d s) ≡ ending.Delivered))
+          ⊎ (Decides n d m lab (place w (hops n lab d s)) Halted × (endingOf (last n lab d s) ≡ ending.Halted))
+      go Deliver e f = inl (here Deliver e, ap endingOf e)
+      go Halted e f = inr (here Halted e, ap endingOf e)
+      go (Hop i) e f = absurd (clash f refl)
+
+  repeats : Repeats n s d m lab (walked n s d m room lab)
+  unfolding walked walkFrom
+  repeats = rw ok (record {
+    starts = used 0 (omega arith) ∙ spot-zero n lab d s;
+    steps = steps;
+    ends = ends;
+    enters = λ k h. rw (used k h) (works k);
+  })
+
+pub walk-repeats : WalkRepeats
+walk-repeats = repeats
