@@ -1,3 +1,6 @@
+pub mod Library
+pub mod Outcomes
+pub mod Demands
 pub mod Demand1
 pub mod Settled
 pub mod Worked

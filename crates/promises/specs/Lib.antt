@@ -1,3 +1,5 @@
+pub mod Library
+pub mod Demands
 pub mod Demand1
 pub mod Settled
 pub mod Worked

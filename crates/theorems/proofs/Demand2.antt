@@ -81,6 +81,6 @@ module _ (K : Cabinet) where
         ordinary = table-good K .ordinary;
         strong = table-good K .strong;
         loud = R .loud;
-        still = R .still (roundsOf K) (omega arith);
+        still = R .still;
         ceiling = R .ceiling;
       }

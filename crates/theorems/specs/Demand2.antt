@@ -19,7 +19,7 @@ pub record Demand2 (K : Cabinet) (lab : ℕ → ℕ) (rounds : ℕ) : Type 0 whe
   -- an unsafe node without a safe neighbour is strongly unsafe; any other unsafe node is ordinarily unsafe
   pub ordinary : (x : ℕ) → x < 2 ^ K .n → lab x ≡ 1 → (i : ℕ) × (i < K .n) × (lab (flip i x) ≡ 0)
   pub strong : (x i : ℕ) → x < 2 ^ K .n → i < K .n → lab x ≡ 2 → lab (flip i x) ≡ 0 → ⊥
-  -- each round that is counted marked some node that had no mark, the next one marks nothing new, and there are no more than working nodes
+  -- each round that is counted marked some node that had no mark, none after it marks anything new, and there are no more than working nodes
   pub loud : (r : ℕ) → r < rounds → (x : ℕ) × (x < 2 ^ K .n) × (newly (K .n) (ruleOf K) (out K) (marked (K .n) (ruleOf K) (out K) r) x ≡ true)
-  pub still : quiet (K .n) (ruleOf K) (out K) rounds ≡ true
+  pub still : (r : ℕ) → rounds ≤ r → quiet (K .n) (ruleOf K) (out K) r ≡ true
   pub ceiling : rounds ≤ working (K .n) (out K)

@@ -1,0 +1,125 @@
+-- The demands, of any library that is faithful to the definitions: what they say of the definitions they say of whatever the contracts allow.
+use mathlib.Core.List.{List}
+use mathlib.Core.Logic.{_⊎_, ⊎-elim, inl, inr}
+use mathlib.Core.Path.{_≡_, refl, sym, ap, subst, _∙_}
+use Prim.Native.Nat.{ℕ, _+_, _^_, _≤_, _<_}
+use lib.ListN.{length}
+use Rattle.cube.specs.Cube.{flip}
+use Rattle.cube.specs.Tables.{labelIn}
+use Rattle.rule.specs.Cabinet.{Cabinet, cabinet, labelsOf, roundsOf}
+use Rattle.notice.specs.Laws.{ReadNotice, TableOf}
+use Rattle.notice.specs.Notice.{addressesOf}
+use Rattle.notice.specs.declared.Noticed.the-variants as noticed
+use Rattle.notice.proofs.Laws.{notice-laws}
+use Rattle.labels.specs.Labelling.{labelRefusal}
+use Rattle.labels.specs.declared.Labelled.{Labelled}
+use Rattle.labels.specs.declared.Labelled.the-variants as labelled
+use Rattle.labels.proofs.Refusal.{fitting}
+use Rattle.hop.specs.Hop as H
+use Rattle.hop.specs.declared.Decision.{Decision}
+use Rattle.hop.specs.declared.Hopped.{Hopped}
+use Rattle.hop.specs.declared.Decision.the-variants.{Deliver, Hop, Halted}
+use Rattle.hop.specs.declared.Hopped.the-variants as hopped
+use Rattle.hop.proofs.Local.{hop-local}
+use Rattle.walk.specs.Walk as W
+use Rattle.walk.specs.declared.Ending.the-variants as ending
+use Rattle.walk.specs.declared.Walked.{Walked}
+use Rattle.theorems.specs.Demand2.{Demand2}
+use Rattle.theorems.specs.Demand3.{Walks}
+use Rattle.theorems.specs.Picked.{Picked}
+use Rattle.theorems.specs.Repeats.{Repeats}
+use Rattle.theorems.specs.Words.{Accepted, Works, place}
+use Rattle.theorems.proofs.Decision.{picked}
+use Rattle.theorems.proofs.Demand2.{demand2}
+use Rattle.theorems.proofs.Demand3.{demand3}
+use Rattle.theorems.proofs.Repeats.{walk-repeats}
+use Rattle.promises.specs.Demands.{Demands}
+use Rattle.promises.specs.Library.{Library, rattle, c}
+use Rattle.promises.proofs.Library.{Faithful, rattle-faithful, c-faithful}
+use Rattle.promises.proofs.Outcomes.{answered, labels-kept, labels-written, of-blank, of-decided, of-ended, of-rounds, unrefused}
+
+module _ (L : Library) (F : Faithful L) where
+  -- ---- what labelling left
+
+  record Left (K : Cabinet) (rounds : ℕ) (table : List ℕ) : Type 0 where
+    accepted : Accepted K
+    count : roundsOf K ≡ rounds
+    bytes : labelsOf K ≡ table
+
+  left : {K : Cabinet} {before table : List ℕ} {rounds : ℕ} → L .labels K before (labelled.Rounds rounds) table → Left K rounds table
+  left {K} {before} {table} {rounds} m =
+      let f = F .labels m in
+      let o = of-rounds K (length before) rounds (sym (f .0)) in
+      record {
+        accepted = subst (λ (k : ℕ). labelRefusal K k ≡ 0) (fitting K (length before) (o .0) .labels) (o .0);
+        count = o .1;
+        bytes = sym (f .1 ∙ labels-written K before (o .0));
+      }
+
+  labels : {K : Cabinet} {before table : List ℕ} {rounds : ℕ} → L .labels K before (labelled.Rounds rounds) table → Demand2 K (labelIn table) rounds
+  labels {K} {before} {table} {rounds} m =
+      let l = left m in
+      subst (Demand2 K (labelIn table)) (l .count) (subst (λ (t : List ℕ). Demand2 K (labelIn t) (roundsOf K)) (l .bytes) (demand2 K))
+
+  notice-labels :
+      {bytes faults before after old : List ℕ} {n m taken : ℕ} {x : Labelled} → L .reads bytes old (noticed.Notice n m taken) faults
+      → length before ≡ 2 ^ n → L .labels (cabinet n faults) before x after → (rounds : ℕ) × (x ≡ labelled.Rounds rounds)
+  notice-labels {bytes} {faults} {before} {after} {old} {n} {m} {taken} {x} r long l =
+      let f = F .reads r in
+      let e = notice-laws .accepted bytes old n m taken (sym (f .0)) in
+      let t = notice-laws .written bytes old n m taken (sym (f .0)) in
+      (roundsOf (cabinet n faults), F .labels l .0 ∙ answered (cabinet n faults) (length before) (unrefused n faults (length before) e (subst (TableOf n m (addressesOf bytes)) (sym (f .1)) t) long))
+
+  walks :
+      {K : Cabinet} {before table : List ℕ} {rounds s d : ℕ} {w : Walked} → L .labels K before (labelled.Rounds rounds) table → Works K s → Works K d
+      → L .walks (K .n) s d table W.rowBytes w → Walks K (labelIn table) s d w
+  walks {K} {before} {table} {rounds} {s} {d} {w} m hs hd v =
+      let l = left m in
+      subst (Walks K (labelIn table) s d) (sym (F .walks v))
+      (subst (λ (t : List ℕ). Walks K (labelIn t) s d (W.walked (K .n) s d (length t) W.rowBytes (labelIn t))) (l .bytes)
+      (demand3 K (l .accepted) s d hs hd))
+
+  -- ---- a walk that is not refused, on any table
+
+  module _ {n s d room : ℕ} {table : List ℕ} {w : Walked} (v : L .walks n s d table room w) (e : W.refusalOf (w .ending) ≡ 0) where
+    again : Repeats n s d (length table) (labelIn table) w
+    again =
+        let f = F .walks v in
+        subst (Repeats n s d (length table) (labelIn table)) (sym f)
+        (walk-repeats n s d (length table) room (labelIn table) (of-ended n s d (length table) room (labelIn table) (ap (λ (u : Walked). W.refusalOf (u .ending)) (sym f) ∙ e)))
+
+    steps : {k : ℕ} {x : Hopped} → k < w .hops → L .hops n (place w k) d table x
+        → (i : ℕ) × (i < n) × (x ≡ hopped.Decided (Hop i)) × (place w (k + 1) ≡ flip i (place w k))
+    steps {k} h m = let a = again .steps k h in (a .0, a .1, F .hops m ∙ a .2, a .3)
+
+    ends : {x : Hopped} → L .hops n (place w (w .hops)) d table x
+        → ((x ≡ hopped.Decided Deliver) × (w .ending ≡ ending.Delivered)) ⊎ ((x ≡ hopped.Decided Halted) × (w .ending ≡ ending.Halted))
+    ends m = ⊎-elim (λ a. inl (F .hops m ∙ a .0, a .1)) (λ a. inr (F .hops m ∙ a .0, a .1)) (again .ends)
+
+  demands : Demands L
+  demands =
+      record {
+        labels-kept = λ {K} {before} m. let f = F .labels m in f .1 ∙ labels-kept K before _ (sym (f .0));
+        table-kept = λ {bytes} {before} m. let f = F .reads m in f .1 ∙ notice-laws .kept bytes before _ (sym (f .0));
+        walk-blank = λ {n} {s} {d} {room} {k} {table} v e. let f = F .walks v in f ∙ of-blank n s d (length table) room (labelIn table) k (ap (λ (u : Walked). u .ending) (sym f) ∙ e);
+        notice-read = λ {bytes} {before} m. notice-laws .accepted bytes before _ _ _ (sym (F .reads m .0));
+        table-written = λ {bytes} {before} {after} {n} {m} {taken} r. let f = F .reads r in
+            subst (TableOf n m (addressesOf bytes)) (sym (f .1)) (notice-laws .written bytes before n m taken (sym (f .0)));
+        labels-written = λ m. sym (left m .bytes);
+        labels = labels;
+        hop = λ {n} {c} {d} {table} {x} m. subst (Picked n (labelIn table) c d) (of-decided n c d (length table) (labelIn table) x (sym (F .hops m))) (picked n (labelIn table) c d);
+        hop-local = λ {n} {c} {d} {table} {table′} m m′ long own near. F .hops m
+            ∙ ap (λ (k : ℕ). H.hopped n c d k (labelIn table)) long
+            ∙ hop-local n c d (length table′) (labelIn table) (labelIn table′) own near ∙ sym (F .hops m′);
+        notice-labels = notice-labels;
+        walks = walks;
+        walk-steps = λ v e. steps v e;
+        walk-ends = λ v e. ends v e;
+        walk-enters = λ {n} {s} {d} {room} {k} v e h. again v e .enters k h;
+      }
+
+pub rattle-demands : Demands rattle
+rattle-demands = demands rattle rattle-faithful
+
+pub c-demands : Demands c
+c-demands = demands c c-faithful

@@ -1,0 +1,58 @@
+-- Whatever a contract allows is what the definitions give: of Rattle's functions by what each contract says, of C's by that and by what C takes out of an answer.
+use mathlib.Core.List.{List}
+use mathlib.Core.Logic.{⊎-elim}
+use mathlib.Core.Path.{_≡_, sym, ap, ap₂, _∙_}
+use Prim.Native.Nat.{ℕ}
+use lib.ListN.{length}
+use Rattle.cube.specs.Contracts.{May}
+use Rattle.cube.specs.Tables.{labelIn}
+use Rattle.cube.proofs.Contracts.{told}
+use Rattle.rule.specs.Cabinet.{Cabinet, cabinet}
+use Rattle.notice.specs.Notice.{noticed, tableAfter}
+use Rattle.notice.specs.declared.Noticed.{Noticed}
+use Rattle.notice.proofs.Functions as notice
+use Rattle.labels.specs.Labelling.{labelled, labelsAfter}
+use Rattle.labels.specs.declared.Labelled.{Labelled}
+use Rattle.labels.proofs.Functions as labels
+use Rattle.hop.specs.Hop.{hopped}
+use Rattle.hop.specs.declared.Hopped.{Hopped}
+use Rattle.hop.proofs.Functions as hop
+use Rattle.walk.specs.Walk.{rowBytes, walked}
+use Rattle.walk.specs.declared.Walked.{Walked}
+use Rattle.walk.proofs.Functions as walk
+use Rattle.hcube.specs.Decoded.{hoppedFrom, labelledFrom, noticedFrom, walkedFrom}
+use Rattle.hcube.proofs.Decoded.{decodes}
+use Rattle.hcube.proofs.Functions as hcube
+use Rattle.promises.specs.Library.{Library, rattle, c}
+
+pub record Faithful (L : Library) : Type 0 where
+  pub reads : {bytes before after : List ℕ} {x : Noticed} → L .reads bytes before x after → (x ≡ noticed bytes before) × (after ≡ tableAfter bytes before)
+  pub labels : {K : Cabinet} {before after : List ℕ} {x : Labelled} → L .labels K before x after → (x ≡ labelled K (length before)) × (after ≡ labelsAfter K before)
+  pub hops : {n c d : ℕ} {table : List ℕ} {x : Hopped} → L .hops n c d table x → x ≡ hopped n c d (length table) (labelIn table)
+  pub walks : {n s d room : ℕ} {table : List ℕ} {w : Walked} → L .walks n s d table room w → w ≡ walked n s d (length table) room (labelIn table)
+
+pub rattle-faithful : Faithful rattle
+rattle-faithful =
+    record {
+      reads = told notice.read-says;
+      labels = told labels.label-says;
+      hops = λ m. told hop.hop-says m .0;
+      walks = λ {n} {s} {d} {room} {table} {w}.
+          ⊎-elim (λ (m : May walk.walk-for (n, s, d, table, room) w tt). told walk.walk-for-says m .0)
+          (λ (m : May walk.walk (n, s, d, table) w tt × (room ≡ rowBytes)). told walk.walk-says (m .0) .0
+          ∙ ap (λ (k : ℕ). walked n s d (length table) k (labelIn table)) (sym (m .1)));
+    }
+
+pub c-faithful : Faithful c
+c-faithful =
+    record {
+      reads = λ {bytes} {before} m. let t = told hcube.read-notice-says (m .1) in
+          (sym (m .2) ∙ ap noticedFrom (t .0) ∙ decodes .notice bytes before, t .1);
+      labels = λ {K} {before} m. let t = told hcube.label-says (m .1) in
+          (sym (m .2) ∙ ap labelledFrom (t .0) ∙ decodes .label K (length before), t .1);
+      hops = λ {n} {c} {d} {table} m. let t = told hcube.hop-says (m .1) in
+          sym (m .2) ∙ ap hoppedFrom (t .0) ∙ decodes .hop n c d (length table) (labelIn table);
+      walks = λ {n} {s} {d} {room} {table} m. let t = told hcube.walk-says (m .3) in
+          sym (m .5) ∙ ap₂ walkedFrom (t .0) (t .1) ∙ decodes .walk n s d table (m .1)
+          ∙ ap (λ (k : ℕ). walked n s d (length table) k (labelIn table)) (m .4);
+    }

@@ -1,0 +1,87 @@
+-- What an answer says, by the refusal number that it goes by: an accepted one that no refusal is due, a refused one that its number is.
+use mathlib.Core.Bool.{true}
+use mathlib.Core.List.{List}
+use mathlib.Core.Path.{_≡_, refl, sym, ap, _∙_}
+use Prim.Native.Nat.{ℕ, _^_}
+use native.Mathlib.Omega.{arith}
+use lib.Dec.{eqb}
+use lib.ListN.{length}
+use borrow.Author.Tests.{eq-eqb, eqb-true, le-leb, ne-eqb}
+use Rattle.cube.proofs.Bools.{by-cases}
+use Rattle.cube.specs.Refusal.{first}
+use Rattle.cube.specs.Tables.{isDimension, tableLen}
+use Rattle.rule.specs.Cabinet.{Cabinet, cabinet, labelsOf, roundsOf}
+use Rattle.notice.specs.Laws.{ReadNotice, TableOf}
+use Rattle.labels.specs.Labelling.{labelRefusal, labelled, labelsAfter}
+use Rattle.labels.specs.declared.Labelled.the-variants as labelled
+use Rattle.labels.proofs.Refusal.{of-refused}
+use Rattle.hop.specs.Hop.{hop, hopRefusal, hopped}
+use Rattle.hop.specs.declared.Decision.{Decision}
+use Rattle.hop.specs.declared.Hopped.{Hopped}
+use Rattle.hop.specs.declared.Hopped.the-variants as hopped
+use Rattle.walk.specs.Walk.{refused, refusalOf, walkFrom, walkRefusal, walked}
+use Rattle.walk.specs.declared.Ending.{Ending}
+use Rattle.walk.specs.declared.Ending.the-variants as ending
+use Rattle.walk.specs.declared.Walked.{Walked}
+use Rattle.hcube.specs.Answers.{hasRow}
+use Rattle.hcube.proofs.Small.{has-row}
+
+-- ---- labelling
+
+pub of-rounds : (K : Cabinet) (m r : ℕ) → labelled K m ≡ labelled.Rounds r → (labelRefusal K m ≡ 0) × (roundsOf K ≡ r)
+unfolding labelled
+of-rounds K m r =
+    by-cases (λ a. a ≡ labelled.Rounds r → (labelRefusal K m ≡ 0) × (roundsOf K ≡ r)) (eqb (labelRefusal K m) 0)
+    (λ z e. (eqb-true (labelRefusal K m) 0 z, cc)) (λ _ e. let q : _≡_ {A = ℕ} 0 1 = cc in absurd (omega arith))
+
+pub labels-written : (K : Cabinet) (before : List ℕ) → labelRefusal K (length before) ≡ 0 → labelsAfter K before ≡ labelsOf K
+unfolding labelsAfter
+labels-written K before e = rw e
+
+pub labels-kept : (K : Cabinet) (before : List ℕ) (k : ℕ) → labelled K (length before) ≡ labelled.Refused k → labelsAfter K before ≡ before
+unfolding labelsAfter
+labels-kept K before k e =
+    let r = of-refused K (length before) k e in
+    rw (ne-eqb (labelRefusal K (length before)) 0 (λ z. r .1 (r .0 ∙ z)))
+
+pub answered : (K : Cabinet) (m : ℕ) → labelRefusal K m ≡ 0 → labelled K m ≡ labelled.Rounds (roundsOf K)
+unfolding labelled
+answered K m e = rw e
+
+-- a fault table that an accepted notice left is accepted
+pub unrefused : {s l : List ℕ} {k taken : ℕ} (n : ℕ) (faults : List ℕ) (m : ℕ) → ReadNotice s n k taken → TableOf n k l faults → m ≡ 2 ^ n
+    → labelRefusal (cabinet n faults) m ≡ 0
+unfolding labelRefusal isDimension first
+unrefused n faults m r t e =
+    rw (
+      le-leb 1 n (r .dimension .0),
+      le-leb n 12 (r .dimension .1),
+      eq-eqb (length faults) (tableLen n) (t .sized),
+      eq-eqb m (2 ^ n) e,
+      t .unused,
+    )
+
+-- ---- the hop
+
+pub of-decided : (n c d m : ℕ) (lab : ℕ → ℕ) (x : Decision) → hopped n c d m lab ≡ hopped.Decided x → hop n lab c d ≡ x
+unfolding hopped
+of-decided n c d m lab x =
+    by-cases (λ a. a ≡ hopped.Decided x → hop n lab c d ≡ x) (eqb (hopRefusal n c d m lab) 0) (λ _ e. cc)
+    (λ _ e. let q : _≡_ {A = ℕ} 0 1 = cc in absurd (omega arith))
+
+-- ---- the walk
+
+module _ (n s d m room : ℕ) (lab : ℕ → ℕ) where
+  pub of-ended : refusalOf (walked n s d m room lab .ending) ≡ 0 → walkRefusal n s d m room lab ≡ 0
+  unfolding walked refused
+  of-ended =
+      by-cases (λ (w : Walked). refusalOf (w .ending) ≡ 0 → walkRefusal n s d m room lab ≡ 0) (eqb (walkRefusal n s d m room lab) 0)
+      (λ z _. eqb-true (walkRefusal n s d m room lab) 0 z) (λ z e. e)
+
+  pub of-blank : (k : ℕ) → walked n s d m room lab .ending ≡ ending.Refused k → walked n s d m room lab ≡ refused k
+  unfolding walked refused
+  of-blank k =
+      by-cases (λ (w : Walked). w .ending ≡ ending.Refused k → w ≡ refused k) (eqb (walkRefusal n s d m room lab) 0)
+      (λ z e. let h = has-row n s d m room lab (eqb-true (walkRefusal n s d m room lab) 0 z) in
+      let q : _≡_ {A = ℕ} 0 1 = cc (ap hasRow e) in absurd (omega arith))
+      (λ _ e. let q : walkRefusal n s d m room lab ≡ k = cc in ap refused q)

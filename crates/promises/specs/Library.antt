@@ -1,0 +1,49 @@
+-- The library's four questions as relations: what is handed, what is answered and what is left, wherever the contract of the function allows it. `rattle` has the
+-- functions that Rattle calls. `c` has those that C calls, and there the answer is what C takes out of the number and the row by the header's macros.
+use mathlib.Core.List.{List}
+use mathlib.Core.Logic.{_⊎_}
+use mathlib.Core.Path.{_≡_}
+use Prim.Native.Nat.{ℕ}
+use lib.ListN.{length}
+use Rattle.cube.specs.Contracts.{May}
+use Rattle.rule.specs.Cabinet.{Cabinet}
+use Rattle.notice.specs.declared.Noticed.{Noticed}
+use Rattle.notice.proofs.Functions as notice
+use Rattle.labels.specs.declared.Labelled.{Labelled}
+use Rattle.labels.proofs.Functions as labels
+use Rattle.hop.specs.declared.Hopped.{Hopped}
+use Rattle.hop.proofs.Functions as hop
+use Rattle.walk.specs.Walk.{rowBytes}
+use Rattle.walk.specs.declared.Walked.{Walked}
+use Rattle.walk.proofs.Functions as walk
+use Rattle.hcube.specs.Decoded.{hoppedFrom, labelledFrom, noticedFrom, walkedFrom}
+use Rattle.hcube.proofs.Functions as hcube
+
+pub record Library : Type 1 where
+  -- the notice at the front of the bytes is read into a fault table
+  pub reads : (bytes before : List ℕ) (x : Noticed) (after : List ℕ) → Type 0
+  -- a cabinet is labelled, in a label table
+  pub labels : (K : Cabinet) (before : List ℕ) (x : Labelled) (after : List ℕ) → Type 0
+  -- a hop is decided at c for d, by a label table
+  pub hops : (n c d : ℕ) (table : List ℕ) (x : Hopped) → Type 0
+  -- a walk goes from s to d, by a label table, for a caller who lends a row of `room` bytes
+  pub walks : (n s d : ℕ) (table : List ℕ) (room : ℕ) (w : Walked) → Type 0
+
+abbrev pub rattle : Library
+rattle =
+    record {
+      reads = λ bytes before x after. May notice.read (bytes, before) x after;
+      labels = λ K before x after. May labels.label (K .n, K .faults, before) x after;
+      hops = λ n c d table x. May hop.hop (n, c, d, table) x tt;
+      walks = λ n s d table room w. May walk.walk-for (n, s, d, table, room) w tt ⊎ (May walk.walk (n, s, d, table) w tt × (room ≡ rowBytes));
+    }
+
+abbrev pub c : Library
+c =
+    record {
+      reads = λ bytes before x after. (r : ℕ) × May hcube.read-notice (bytes, before) r after × (noticedFrom r ≡ x);
+      labels = λ K before x after. (r : ℕ) × May hcube.label (K .n, K .faults, before) r after × (labelledFrom r ≡ x);
+      hops = λ n c d table x. (r : ℕ) × May hcube.hop (n, c, d, table) r tt × (hoppedFrom r ≡ x);
+      walks = λ n s d table room w.
+          (r : ℕ) × (before after : List ℕ) × May hcube.walk (n, s, d, table, before) r after × (length before ≡ room) × (walkedFrom r after ≡ w);
+    }
