@@ -1,5 +1,5 @@
 -- A contract that gives the answer and what is left as functions of what is handed: so it says of every call that it allows, and two calls agree.
-use mathlib.Core.Path.{_≡_, sym, ap, _∙_}
+use mathlib.Core.Path.{_≡_, refl, sym, ap, _∙_}
 use contract.Lifetimes.{Lfts}
 use denote.Triple.Clauses.{AtExit, Ended}
 use denote.Triple.Entry.{Args, Res}
@@ -22,3 +22,11 @@ module _ {T : Ended} {A X B : Type 0} {f : Function T A X B} {answer : A → X} 
       let t = told m in
       let t′ = told m′ in
       (t .0 ∙ sym (t′ .0), t .1 ∙ sym (t′ .1))
+
+-- a call that the contract allows
+module _ {T : Ended} {A X B : Type 0} (f : Function T A X B) where
+  pub may :
+      (κs : Lfts (T .signature .lifetimes)) (a : Args (T .signature) κs) (r : Res (T .signature) κs) (e : AtExit T κs) → f .post κs a r e
+      → May f (f .handed κs a) (f .answered κs r) (f .left κs e)
+  may κs a r e p =
+      record { κs = κs; args = a; result = r; exit = e; handed = refl; answered = refl; left = refl; allowed = p }

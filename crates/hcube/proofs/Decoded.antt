@@ -1,15 +1,14 @@
 -- A number that was packed of small parts has these parts again, so each answer comes out as it was put in. Of a row: a node is below 65,536, so its two bytes make it.
 use mathlib.Core.Bool.{true, cond}
 use mathlib.Core.List.{List}
-use mathlib.Core.Logic.{_⊎_, inl, inr}
-use mathlib.Core.Path.{_≡_, refl, sym, ap, ap₂, _∙_}
-use Prim.Native.Nat.{ℕ, _+_, _*_, _/_, _%_, _^_, _≤_, _<_}
+use mathlib.Core.Path.{_≡_, refl, sym, ap, _∙_}
+use Prim.Native.Nat.{ℕ, _+_, _*_, _/_, _%_, _<_}
 use native.Mathlib.Omega.{arith}
 use lib.Dec.{eqb, leb}
 use lib.ListN.{getD, length}
 use borrow.Author.Tests.{eqb-false, eqb-true, ne-eqb}
 use Rattle.cube.specs.Tables.{labelIn, tab}
-use Rattle.cube.proofs.Bools.{by-cases, either}
+use Rattle.cube.proofs.Bools.{by-cases}
 use Rattle.cube.proofs.Front.{getD-tab, tab-cong}
 use Rattle.cube.proofs.Tables.{nodes-few}
 use Rattle.rule.specs.Cabinet.{Cabinet, roundsOf}
@@ -30,7 +29,7 @@ use Rattle.notice.specs.declared.Noticed.the-variants as noticed
 use Rattle.notice.proofs.Refusals.{parts, refused-few}
 use Rattle.hcube.specs.Answers.{hasRow, hopNumber, labelNumber, noticeNumber, packed, packedNotice, rowAfter, rowByte, walkNumber, walkedBy}
 use Rattle.hcube.specs.Fits.{WalkFits}
-use Rattle.hcube.specs.Decoded.{Decodes, decisionFrom, endingFrom, hoppedFrom, kindPart, labelledFrom, nodeAt, noticeRefusalPart, noticedFrom, refusalPart, valuePart, walkedFrom}
+use Rattle.hcube.specs.Decoded.{Decodes, decisionFrom, endingFrom, hoppedFrom, kindPart, labelledFrom, nodeAt, noticedFrom, refusalPart, valuePart, walkedFrom}
 use Rattle.hcube.proofs.Small.{HopFits, LabelFits, has-row, hop-small, label-small, lent, walk-small, written}
 
 -- ---- the parts of a packed number, and the choice by its refusal
@@ -99,14 +98,14 @@ module _ (n c d m : ℕ) (lab : ℕ → ℕ) where
 
 -- ---- the walk
 
-low-byte : (row : List ℕ) (k : ℕ) → rowByte row (2 * k) ≡ getD row k 0 % 256
+pub low-byte : (row : List ℕ) (k : ℕ) → rowByte row (2 * k) ≡ getD row k 0 % 256
 unfolding rowByte
 low-byte row k =
     let e : 2 * k % 2 ≡ 0 = omega arith in
     let h : 2 * k / 2 ≡ k = omega arith in
     rw (e, h)
 
-high-byte : (row : List ℕ) (k : ℕ) → rowByte row (2 * k + 1) ≡ getD row k 0 / 256 % 256
+pub high-byte : (row : List ℕ) (k : ℕ) → rowByte row (2 * k + 1) ≡ getD row k 0 / 256 % 256
 unfolding rowByte
 high-byte row k =
     let e : (2 * k + 1) % 2 ≡ 1 = omega arith in

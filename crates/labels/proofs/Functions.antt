@@ -4,7 +4,7 @@ use mathlib.Core.List.{List}
 use Prim.Native.Nat.{ℕ}
 use denote.Ref.{now}
 use lib.ListN.{length}
-use Rattle.cube.specs.Contracts.{AsksNothing, Function, Nothing}
+use Rattle.cube.specs.Contracts.{AsksNothing, Function}
 use Rattle.cube.proofs.Contracts.{Says}
 use Rattle.rule.specs.Cabinet.{cabinet}
 use Rattle.labels.specs.Labelling.{labelled, labelsAfter}

@@ -1,6 +1,8 @@
 pub mod Library
 pub mod Outcomes
 pub mod Demands
+pub mod InC
+pub mod Answers
 pub mod Demand1
 pub mod Settled
 pub mod Worked

@@ -7,7 +7,7 @@ use lib.ListN.{length}
 use Rattle.cube.specs.Contracts.{May}
 use Rattle.cube.specs.Tables.{labelIn}
 use Rattle.cube.proofs.Contracts.{told}
-use Rattle.rule.specs.Cabinet.{Cabinet, cabinet}
+use Rattle.rule.specs.Cabinet.{Cabinet}
 use Rattle.notice.specs.Notice.{noticed, tableAfter}
 use Rattle.notice.specs.declared.Noticed.{Noticed}
 use Rattle.notice.proofs.Functions as notice

@@ -1,7 +1,6 @@
 -- What an answer says, by the refusal number that it goes by: an accepted one that no refusal is due, a refused one that its number is.
-use mathlib.Core.Bool.{true}
 use mathlib.Core.List.{List}
-use mathlib.Core.Path.{_≡_, refl, sym, ap, _∙_}
+use mathlib.Core.Path.{_≡_, ap, _∙_}
 use Prim.Native.Nat.{ℕ, _^_}
 use native.Mathlib.Omega.{arith}
 use lib.Dec.{eqb}
@@ -17,10 +16,8 @@ use Rattle.labels.specs.declared.Labelled.the-variants as labelled
 use Rattle.labels.proofs.Refusal.{of-refused}
 use Rattle.hop.specs.Hop.{hop, hopRefusal, hopped}
 use Rattle.hop.specs.declared.Decision.{Decision}
-use Rattle.hop.specs.declared.Hopped.{Hopped}
 use Rattle.hop.specs.declared.Hopped.the-variants as hopped
-use Rattle.walk.specs.Walk.{refused, refusalOf, walkFrom, walkRefusal, walked}
-use Rattle.walk.specs.declared.Ending.{Ending}
+use Rattle.walk.specs.Walk.{refused, refusalOf, walkRefusal, walked}
 use Rattle.walk.specs.declared.Ending.the-variants as ending
 use Rattle.walk.specs.declared.Walked.{Walked}
 use Rattle.hcube.specs.Answers.{hasRow}

@@ -38,7 +38,6 @@ pub record Demands (L : Library) : Type 0 where
   pub notice-read : {bytes before after : List ℕ} {n m taken : ℕ} → L .reads bytes before (noticed.Notice n m taken) after → ReadNotice bytes n m taken
   pub table-written :
       {bytes before after : List ℕ} {n m taken : ℕ} → L .reads bytes before (noticed.Notice n m taken) after → TableOf n m (addressesOf bytes) after
-
   -- ---- 2. The labels are the paper's
 
   -- all 2^n label bytes are written
@@ -50,7 +49,6 @@ pub record Demands (L : Library) : Type 0 where
   pub hop-local :
       {n c d : ℕ} {table table′ : List ℕ} {x x′ : Hopped} → L .hops n c d table x → L .hops n c d table′ x′ → length table ≡ length table′
       → labelIn table c ≡ labelIn table′ c → ((i : ℕ) → i < n → labelIn table (flip i c) ≡ labelIn table′ (flip i c)) → x ≡ x′
-
   -- ---- 3. Walks arrive
 
   -- labelling accepts the table that an accepted notice left

@@ -1,5 +1,7 @@
 pub mod Library
 pub mod Demands
+pub mod InC
+pub mod Answers
 pub mod Demand1
 pub mod Settled
 pub mod Worked

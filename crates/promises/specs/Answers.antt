@@ -1,0 +1,15 @@
+-- Every question has an answer that its contract allows, whatever is handed: so the demands, which speak of every such answer, speak of something.
+use mathlib.Core.List.{List}
+use Prim.Native.Nat.{ℕ}
+use Rattle.rule.specs.Cabinet.{Cabinet}
+use Rattle.notice.specs.declared.Noticed.{Noticed}
+use Rattle.labels.specs.declared.Labelled.{Labelled}
+use Rattle.hop.specs.declared.Hopped.{Hopped}
+use Rattle.walk.specs.declared.Walked.{Walked}
+use Rattle.promises.specs.Library.{Library}
+
+pub record Answers (L : Library) : Type 0 where
+  pub reads : (bytes before : List ℕ) → (x : Noticed) × (after : List ℕ) × L .reads bytes before x after
+  pub labels : (K : Cabinet) (before : List ℕ) → (x : Labelled) × (after : List ℕ) × L .labels K before x after
+  pub hops : (n c d : ℕ) (table : List ℕ) → (x : Hopped) × L .hops n c d table x
+  pub walks : (n s d : ℕ) (table : List ℕ) (room : ℕ) → (w : Walked) × L .walks n s d table room w
