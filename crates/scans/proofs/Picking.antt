@@ -1,6 +1,6 @@
 -- What the scans pick: the two searches of the definition, over the scans and over the dimensions, give the first scan and its lowest dimension.
 use mathlib.Core.Path.{_≡_}
-use mathlib.Core.Bool.{true, false}
+use mathlib.Core.Bool.{false}
 use Prim.Native.Nat.{ℕ, _≤_, _<_}
 use native.Mathlib.Omega.{arith}
 use lib.Dec.{ltb}

@@ -9,13 +9,12 @@ use lib.Dec.{eqb, ltb}
 use borrow.Author.Tests.{eqb-true, eqb-false, ltb-true, ltb-false}
 use Rattle.cube.specs.Cube.{dist}
 use Rattle.cube.proofs.Bools.{either}
-use Rattle.scans.specs.Hit.{Hit}
 use Rattle.scans.specs.Picks.{Picks}
 use Rattle.scans.specs.Scans.{noScan}
 use Rattle.scans.proofs.Picking.{first-picks, firstScanAt, lowestAt, none-picks}
 use Rattle.hop.specs.Hop.{answer, decide, hop}
 use Rattle.hop.specs.declared.Decision.{Decision}
-use Rattle.hop.specs.declared.Decision.the-variants.{Deliver, Hop, Halted}
+use Rattle.hop.specs.declared.Decision.the-variants.{Hop}
 use Rattle.theorems.specs.Picked.{HopPicked, Picked, arrived, took, stopped}
 
 module _ (n : ℕ) (lab : ℕ → ℕ) (c d : ℕ) where
