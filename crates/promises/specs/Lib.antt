@@ -1,3 +1,4 @@
 pub mod Demand1
+pub mod Refusals
 pub mod Settled
 pub mod Worked

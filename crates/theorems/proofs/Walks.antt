@@ -38,7 +38,7 @@ module _ (n : ℕ) (lab : ℕ → ℕ) (d s : ℕ) where
   unfolding hops
   hops-on = the-hops .before
 
-  hops-end : hops n lab d s < n + 4 → stops (last n lab d s) ≡ true
+  pub hops-end : hops n lab d s < n + 4 → stops (last n lab d s) ≡ true
   unfolding hops last
   hops-end = the-hops .hit
 
