@@ -1,3 +1,4 @@
 pub mod Refusals
 pub mod Local
 pub mod Steps
+pub mod Laws
