@@ -1,14 +1,14 @@
 -- The laws of a notice that specs/Laws.antt states. The table's bits are exactly the addresses: it was cleared, and then each address set its own. The
 -- worked numbers are computed.
-use mathlib.Core.Path.{_≡_, refl, ap, _∙_}
+use mathlib.Core.Path.{_≡_, refl, sym, ap, _∙_}
 use mathlib.Core.Logic.{inr}
 use mathlib.Core.Bool.{Bool, true, false, _&&_}
 use mathlib.Core.List.{List}
-use Prim.Native.Nat.{ℕ, _*_, _^_}
+use Prim.Native.Nat.{ℕ, _+_, _*_, _^_}
 use native.Mathlib.Omega.{arith}
 use lib.Dec.{eqb, leb}
 use lib.ListN.{length, replicate, length-replicate}
-use borrow.Author.Tests.{eqb-true, leb-true, not-false}
+use borrow.Author.Tests.{eqb-true, le-ltb, leb-true, not-false}
 use Rattle.cube.specs.Refusal.{first}
 use Rattle.cube.specs.Tables.{isDimension, tableLen, nodeBit, unusedSet}
 use Rattle.cube.proofs.Count.{count-same}
@@ -16,15 +16,18 @@ use Rattle.cube.proofs.Search.{some-none}
 use Rattle.cube.proofs.Refusal.{first-none}
 use Rattle.cube.proofs.Tables.{table-room}
 use Rattle.groups.specs.Number.{numberAt}
+use Rattle.groups.specs.declared.Number.the-variants.{Value}
 use Rattle.notice.specs.Tests.{tested, lengthTests}
 use Rattle.notice.specs.Addresses.{addressesEnd, addressesAt, among, withBit, withBits}
 use Rattle.notice.specs.Notice.{dimensionAt, restAt, noticeFrom, noticeOf, noticed, addressesOf, tableAfter, tailAt}
-use Rattle.notice.specs.Laws.{ReadNotice, TableOf, NoticeLaws}
+use Rattle.notice.specs.Laws.{NoneFaulty, NoticeLaws, ReadNotice, TableOf}
+use Rattle.notice.specs.declared.Rest.the-variants as rest
 use Rattle.notice.specs.declared.Noticed.the-variants.{Notice, Refused}
 use Rattle.notice.proofs.Cases.{tested-value}
 use Rattle.notice.proofs.Rising.{rising-wider, not-among, count-among}
 use Rattle.notice.proofs.Bits.{length-bits, bits-among}
-use Rattle.notice.proofs.Opened.{opened-notice}
+use Rattle.notice.proofs.Opened.{addresses-are, opened-notice}
+use Rattle.notice.proofs.Outcomes.{notice-good, sized-value}
 use Rattle.notice.proofs.Agree.{accepted, same-notice, tail-behind, tail-empty}
 use Rattle.notice.proofs.Refusals.{refused-few}
 
@@ -72,12 +75,32 @@ module _ (s t : List ℕ) (n m taken : ℕ) (e : noticed s t ≡ Notice n m take
     unused = some-none (8 * length (tableAfter s t)) (λ k. leb (2 ^ n) k && nodeBit (tableAfter s t) k) (λ k h. none-unused k);
   }
 
+-- ---- a count of zero: there is no address to read, and no bit to set
+
+module _ (s t : List ℕ) (n at next : ℕ) (dimension : dimensionAt s ≡ Value n at) (sized : length t ≡ tableLen n) (zero : numberAt s at ≡ Value 0 next) where
+  no-addresses : restAt n s at ≡ rest.Addresses 0 next next
+  unfolding restAt tested first addressesEnd
+  no-addresses = let z : next + 0 ≡ next = omega arith in rw (zero, le-ltb (2 ^ n) 0 (omega arith), z)
+
+  ends : noticed s t ≡ Notice n 0 next
+  unfolding noticed
+  ends = sym (notice-good s (sized-value s (sym dimension) t sized) (sym no-addresses))
+
+  none-faulty : NoneFaulty s t n next
+  unfolding addressesAt withBits
+  none-faulty = record {
+    answer = ends;
+    clear = made s t n 0 next ends ∙ ap (withBits (replicate (length t) 0)) (addresses-are n s at 0 next next dimension no-addresses);
+    tail = tail-behind s t n 0 next ends;
+  }
+
 pub notice-laws : NoticeLaws
 unfolding first isDimension tableLen numberAt tested addressesEnd addressesAt withBit withBits dimensionAt restAt noticeFrom noticeOf noticed addressesOf
     tableAfter tailAt
 notice-laws = record {
   accepted = accepted;
   written = table;
+  none-faulty = none-faulty;
   kept = kept;
   number = refused-few;
   same-notice = same-notice;

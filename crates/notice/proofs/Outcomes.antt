@@ -126,7 +126,7 @@ module _ (s : List ℕ) where
     unfolding noticed first
     outcome-length t h = outcome-refused s t (notice-refused s (tested-fails (lengthTests t) e (rw (ne-eqb (length t) (tableLen n) h)) refl))
 
-    sized-value : (t : List ℕ) → length t ≡ tableLen n → number.Value n at ≡ tested (lengthTests t) (dimensionAt s)
+    pub sized-value : (t : List ℕ) → length t ≡ tableLen n → number.Value n at ≡ tested (lengthTests t) (dimensionAt s)
     unfolding first
     sized-value t sized = tested-passes (lengthTests t) e (rw (eq-eqb (length t) (tableLen n) sized))
 

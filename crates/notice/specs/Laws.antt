@@ -5,11 +5,13 @@ use mathlib.Core.Logic.{_≢_}
 use mathlib.Core.Bool.{true, false}
 use mathlib.Core.List.{List, [], _∷_}
 use Prim.Native.Nat.{ℕ, _+_, _^_, _≤_}
-use lib.ListN.{length, drop}
+use lib.ListN.{length, drop, replicate}
 use Rattle.cube.specs.Count.{count}
 use Rattle.cube.specs.Tables.{tableLen, nodeBit, unusedSet}
+use Rattle.groups.specs.Number.{numberAt}
+use Rattle.groups.specs.declared.Number.the-variants.{Value}
 use Rattle.notice.specs.Addresses.{rising, among}
-use Rattle.notice.specs.Notice.{noticeOf, noticed, addressesOf, tableAfter, tailAt}
+use Rattle.notice.specs.Notice.{dimensionAt, noticeOf, noticed, addressesOf, tableAfter, tailAt}
 use Rattle.notice.specs.declared.Noticed.{Noticed}
 use Rattle.notice.specs.declared.Noticed.the-variants.{Notice, Refused}
 
@@ -34,6 +36,12 @@ pub record TableOf (n m : ℕ) (l after : List ℕ) : Type 0 where
   -- "for n = 1 and 2 the unused high bits are zero"
   pub unused : unusedSet n after ≡ false
 
+-- a notice whose count is zero, before the place `next`: it names no node
+pub record NoneFaulty (s t : List ℕ) (n next : ℕ) : Type 0 where
+  pub answer : noticed s t ≡ Notice n 0 next
+  pub clear : tableAfter s t ≡ replicate (length t) 0
+  pub tail : tailAt s ≡ next
+
 -- "04 04 02 01 03 06 0D 00 ..", the listing's input: nodes 2, 4, 8 and 15 of a 4-cube, and what stands behind the notice
 abbrev pub listingBytes : List ℕ
 listingBytes = 0x04 ∷ 0x04 ∷ 0x02 ∷ 0x01 ∷ 0x03 ∷ 0x06 ∷ 0x0D ∷ 0x00 ∷ []
@@ -42,6 +50,10 @@ pub record NoticeLaws : Type 0 where
   -- "Accepted: the notice reader overwrites all of the fault table and returns dimension, count and the number of bytes the notice took"
   pub accepted : (s t : List ℕ) (n m taken : ℕ) → noticed s t ≡ Notice n m taken → ReadNotice s n m taken
   pub written : (s t : List ℕ) (n m taken : ℕ) → noticed s t ≡ Notice n m taken → TableOf n m (addressesOf s) (tableAfter s t)
+  -- "a count of zero ends the notice"
+  pub none-faulty :
+      (s t : List ℕ) (n at next : ℕ) → dimensionAt s ≡ Value n at → length t ≡ tableLen n → numberAt s at ≡ Value 0 next
+      → NoneFaulty s t n next
   -- "Refused: lent tables keep every byte", and the number is one of the table's
   pub kept : (s t : List ℕ) (k : ℕ) → noticed s t ≡ Refused k → tableAfter s t ≡ t
   pub number : (s t : List ℕ) (k : ℕ) → noticed s t ≡ Refused k → (1 ≤ k) × (k ≤ 12)

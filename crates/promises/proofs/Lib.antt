@@ -4,5 +4,8 @@ pub mod Demands
 pub mod InC
 pub mod Answers
 pub mod Demand1
+pub mod Given
+pub mod Notices
+pub mod Refusals
 pub mod Settled
 pub mod Worked

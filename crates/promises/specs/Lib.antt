@@ -3,5 +3,6 @@ pub mod Demands
 pub mod InC
 pub mod Answers
 pub mod Demand1
+pub mod Refusals
 pub mod Settled
 pub mod Worked

@@ -5,7 +5,6 @@ use mathlib.Core.Logic.{_⊎_, inl, inr}
 use mathlib.Core.Bool.{true, false, not}
 use mathlib.Core.List.{[], _∷_, _++_}
 use Prim.Native.Nat.{ℕ, zero, suc, _+_, _^_, _≤_, _<_}
-use native.Mathlib.Numerals.{add-one}
 use native.Mathlib.Omega.{arith}
 use lib.Dec.{eqb, ltb}
 use borrow.Author.Tests.{eqb-false, le-ltb, lt-leb, ltb-false, ne-eqb, not-false}
@@ -27,13 +26,13 @@ use Rattle.walk.specs.Walk.{endingOf, hops, last, onto, rowBytes, spot, stops, 
 use Rattle.walk.specs.declared.Ending.the-variants as ending
 use Rattle.walk.specs.declared.Walked.{Walked}
 use Rattle.walk.proofs.Local.{spot-lt}
-use Rattle.walk.proofs.Steps.{spot-zero}
+use Rattle.walk.proofs.Steps.{spot-next, spot-zero}
 use Rattle.theorems.specs.Picked.{Picked, arrived, took, stopped}
 use Rattle.theorems.specs.Repeats.{Decides, Repeats, WalkRepeats}
 use Rattle.theorems.specs.Words.{place}
 use Rattle.theorems.proofs.Decision.{picked}
 use Rattle.theorems.proofs.Places.{row-used}
-use Rattle.theorems.proofs.Walks.{hops-on, spot-suc}
+use Rattle.theorems.proofs.Walks.{hops-on}
 
 -- ---- no hop enters a node that is labelled faulty, whatever the table
 
@@ -117,7 +116,7 @@ module _ (n s d m room : ℕ) (lab : ℕ → ℕ) (ok : walkRefusal n s d m room
         i,
         hop-dim n lab (at k) d i e,
         rw (used k (omega arith)) (decides k (Hop i) e),
-        used (k + 1) (omega arith) ∙ ap at (add-one k) ∙ spot-suc n lab d s k i e ∙ ap (flip i) (sym (used k (omega arith))),
+        used (k + 1) (omega arith) ∙ spot-next n lab d s k i e ∙ ap (flip i) (sym (used k (omega arith))),
       )
 
   ends : (Decides n d m lab (place w (hops n lab d s)) Deliver × (endingOf (last n lab d s) ≡ ending.Delivered))

@@ -1,10 +1,11 @@
 -- A walk each of whose decisions makes progress: it keeps to the nodes that work, its measure falls with each hop, and its hops and the
 -- distance that is left differ from the distance at the start by an even number. So it ends before n + 4 hops are done, where a decision is
 -- no hop. The three theorems at the end take the measure from the scans: the rank where some node is safe, else the distance.
-use mathlib.Core.Path.{_≡_, refl, ap, _∙_}
+use mathlib.Core.Path.{_≡_, refl, sym, ap, _∙_}
 use mathlib.Core.Logic.{_⊎_, inl, inr, ⊎-elim, _≢_}
 use mathlib.Core.Bool.{Bool, true, false}
 use Prim.Native.Nat.{ℕ, zero, suc, _+_, _*_, _^_, _≤_, _<_}
+use native.Mathlib.Numerals.{add-one}
 use native.Mathlib.Omega.{arith}
 use lib.Dec.{ltb}
 use borrow.Author.Tests.{ltb-true, ltb-false}
@@ -17,19 +18,18 @@ use Rattle.rule.specs.Good.{Good}
 use Rattle.scans.specs.Progress.{GoodProgress, Inside, Progress, rank}
 use Rattle.scans.proofs.Progress.{rank-le, scans-progress}
 use Rattle.hop.specs.Hop.{hop}
-use Rattle.walk.specs.Walk.{onto, stops, spot, turn, hops, last}
+use Rattle.walk.specs.Walk.{stops, spot, turn, hops, last}
 use Rattle.hop.specs.declared.Decision.{Decision}
 use Rattle.hop.specs.declared.Decision.the-variants.{Deliver, Hop, Halted}
-use Rattle.walk.proofs.Steps.{spot-zero}
+use Rattle.walk.proofs.Steps.{spot-next, spot-zero}
 use Rattle.theorems.specs.Picked.{Picked, arrived, took, stopped}
 use Rattle.theorems.proofs.Decision.{picked}
 
 -- ---- any walk: its steps are the decisions' own
 
 module _ (n : ℕ) (lab : ℕ → ℕ) (d s : ℕ) where
-  pub spot-suc : (k i : ℕ) → turn n lab d s k ≡ Hop i → spot n lab d s (suc k) ≡ flip i (spot n lab d s k)
-  unfolding spot turn onto
-  spot-suc k i e = ap (λ h. onto h (spot n lab d s k)) e
+  spot-suc : (k i : ℕ) → turn n lab d s k ≡ Hop i → spot n lab d s (suc k) ≡ flip i (spot n lab d s k)
+  spot-suc k i e = ap (spot n lab d s) (sym (add-one k)) ∙ spot-next n lab d s k i e
 
   the-hops : Least (n + 4) (λ k. stops (turn n lab d s k))
   the-hops = the-least (n + 4) (λ k. stops (turn n lab d s k))
@@ -38,7 +38,7 @@ module _ (n : ℕ) (lab : ℕ → ℕ) (d s : ℕ) where
   unfolding hops
   hops-on = the-hops .before
 
-  hops-end : hops n lab d s < n + 4 → stops (last n lab d s) ≡ true
+  pub hops-end : hops n lab d s < n + 4 → stops (last n lab d s) ≡ true
   unfolding hops last
   hops-end = the-hops .hit
 

@@ -2,3 +2,4 @@ pub mod Refusals
 pub mod Local
 pub mod Steps
 pub mod Functions
+pub mod Laws

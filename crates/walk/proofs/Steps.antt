@@ -36,6 +36,11 @@ module _ (n : ℕ) (lab : ℕ → ℕ) (d s : ℕ) where
   unfolding spot
   spot-zero = refl
 
+  -- the node one hop on
+  pub spot-next : (k i : ℕ) → turn n lab d s k ≡ Hop i → spot n lab d s (k + 1) ≡ flip i (spot n lab d s k)
+  unfolding spot turn onto
+  spot-next k i e = ap (spot n lab d s) (add-one k) ∙ ap (λ x. onto x (spot n lab d s k)) e
+
   pub hops-within : hops n lab d s ≤ n + 4
   unfolding hops
   hops-within = the-least (n + 4) (λ k. stops (turn n lab d s k)) .within
@@ -72,8 +77,7 @@ module _ (n : ℕ) (lab : ℕ → ℕ) (d s : ℕ) where
       counted m′ em = ap (λ (q : Message). q .hops) em
 
       next-spot : spot n lab d s (m .hops + 1) ≡ flip i (m .at)
-      unfolding spot turn onto
-      next-spot = ap (spot n lab d s) (add-one (m .hops)) ∙ ap (λ x. onto x (spot n lab d s (m .hops))) (turn-is (Hop i) e) ∙ ap (flip i) (w .here)
+      next-spot = spot-next (m .hops) i (turn-is (Hop i) e) ∙ ap (flip i) (w .here)
 
       goes-on : stops (turn n lab d s (m .hops)) ≡ false
       unfolding stops

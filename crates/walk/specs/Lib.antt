@@ -1,3 +1,4 @@
 pub mod Walk
 pub mod Local
+pub mod Laws
 pub mod Helpers

@@ -1,0 +1,227 @@
+-- Each question's refusal is the number that document 01's words give. A refusal is the first test that holds, so test by test: it says what its case
+-- says, both ways.
+use mathlib.Core.Path.{_≡_, refl, sym, ap, _∙_}
+use mathlib.Core.Logic.{_⊎_, inl, inr, ⊎-elim, _↔_}
+use mathlib.Core.Bool.{Bool, true, false, not, _||_}
+use mathlib.Core.List.{[], _∷_}
+use Prim.Native.Nat.{ℕ, _+_, _^_, _≤_, _<_}
+use native.Mathlib.Nat.{eq-or-lt-of-le}
+use native.Mathlib.Omega.{arith}
+use lib.Dec.{eqb, leb, ltb}
+use lib.ListN.{length}
+use borrow.Author.Tests.{eqb-true, eq-eqb, not-true}
+use Rattle.cube.specs.Count.{some}
+use Rattle.cube.specs.Cube.{flip}
+use Rattle.cube.specs.Refusal.{first}
+use Rattle.cube.specs.Tables.{highest, isDimension, tableLen, unusedSet}
+use Rattle.cube.proofs.Bools.{by-cases, clash, either}
+use Rattle.rule.specs.Cabinet.{Cabinet}
+use Rattle.labels.specs.Labelling as L
+use Rattle.hop.specs.Hop as H
+use Rattle.hop.specs.declared.Decision.{Decision}
+use Rattle.hop.specs.declared.Decision.the-variants.{Deliver, Hop, Halted}
+use Rattle.walk.specs.Walk as W
+use Rattle.walk.proofs.Steps.{hops-within}
+use Rattle.theorems.proofs.Repeats.{walk-repeats}
+use Rattle.theorems.proofs.Walks.{hops-end, hops-on}
+use Rattle.promises.specs.Refusals.{
+  AllHops,
+  Given,
+  HopWhen,
+  LabelWhen,
+  Refusals,
+  TableLength,
+  WalkWhen,
+  hop-1,
+  hop-2,
+  hop-4-here,
+  hop-4-near,
+  hop-5,
+  hop-6,
+  label-1,
+  label-2-faults,
+  label-2-labels,
+  label-3,
+  none,
+  walk-1,
+  walk-2-labels,
+  walk-2-row,
+  walk-4,
+  walk-5,
+  walk-6,
+  walk-7,
+  walk-8,
+}
+use Rattle.promises.proofs.Given.{
+  eqb-says,
+  given-one,
+  ltb-says,
+  not-says,
+  one-test,
+  or-says,
+  outside,
+  some-says,
+  two-tests,
+  unused-says,
+  wrong-dimension,
+  wrong-length,
+  wrong-table,
+}
+use Rattle.promises.proofs.Notices.{notice-given, notice-one, number-given}
+
+-- ---- labelling
+
+module _ (K : Cabinet) (m : ℕ) where
+  label-refusal : L.labelRefusal K m ≡ L.refusalOf (L.labelled K m)
+  unfolding L.labelled
+  label-refusal = by-cases (λ a. L.labelRefusal K m ≡ L.refusalOf a) (eqb (L.labelRefusal K m) 0) (λ z. eqb-true _ _ z) (λ _. refl)
+
+  label-given : Given (LabelWhen K m) (1 ∷ 2 ∷ 3 ∷ []) (L.labelRefusal K m)
+  unfolding L.labelRefusal first
+  label-given =
+      one-test _ (λ e. label-1 (wrong-dimension (K .n) .0 e)) said-1
+      (two-tests _ _ (λ e. label-2-faults (faults .0 e)) (λ e. label-2-labels (wrong-length (K .n) m .0 e)) said-2
+      (one-test _ (λ e. let r = unused-says (K .n) (K .faults) .0 e in label-3 (r .0) (r .1) (r .2)) said-3 none))
+    where
+      faults : (not (eqb (length (K .faults)) (tableLen (K .n))) ≡ true) ↔ (¬ (TableLength (K .n) (length (K .faults))))
+      faults = wrong-table (K .n) (length (K .faults))
+
+      said-1 : LabelWhen K m 1 → not (isDimension (K .n)) ≡ true
+      said-1 (label-1 w) = wrong-dimension (K .n) .1 w
+
+      said-2 : LabelWhen K m 2 → (not (eqb (length (K .faults)) (tableLen (K .n))) ≡ true) ⊎ (not (eqb m (2 ^ K .n)) ≡ true)
+      said-2 (label-2-faults w) = inl (faults .1 w)
+      said-2 (label-2-labels w) = inr (wrong-length (K .n) m .1 w)
+
+      said-3 : LabelWhen K m 3 → unusedSet (K .n) (K .faults) ≡ true
+      said-3 (label-3 x h e) = unused-says (K .n) (K .faults) .1 (x, h, e)
+
+-- ---- a hop
+
+module _ (n c d m : ℕ) (lab : ℕ → ℕ) where
+  hop-refusal : H.hopRefusal n c d m lab ≡ H.refusalOf (H.hopped n c d m lab)
+  unfolding H.hopped
+  hop-refusal = by-cases (λ a. H.hopRefusal n c d m lab ≡ H.refusalOf a) (eqb (H.hopRefusal n c d m lab) 0) (λ z. eqb-true _ _ z) (λ _. refl)
+
+  abbrev near : Bool
+  near = some n (λ i. ltb highest (lab (flip i c)))
+
+  hop-given : Given (HopWhen n c d m lab) (1 ∷ 2 ∷ 5 ∷ 4 ∷ 6 ∷ []) (H.hopRefusal n c d m lab)
+  unfolding H.hopRefusal first
+  hop-given =
+      one-test _ (λ e. hop-1 (wrong-dimension n .0 e)) said-1
+      (one-test _ (λ e. hop-2 (wrong-length n m .0 e)) said-2
+      (one-test _ (λ e. hop-5 (outside n c d .0 e)) said-5
+      (one-test _ (λ e. four (bytes .0 e)) said-4
+      (one-test _ (λ e. hop-6 (eqb-true (lab c) 3 e)) said-6 none))))
+    where
+      bytes : ((ltb highest (lab c) || near) ≡ true) ↔ ((3 < lab c) ⊎ ((i : ℕ) × (i < n) × (3 < lab (flip i c))))
+      bytes = or-says _ _ (ltb-says 3 (lab c)) (some-says n _ (λ i. 3 < lab (flip i c)) (λ i. ltb-says 3 (lab (flip i c))))
+
+      four : (3 < lab c) ⊎ ((i : ℕ) × (i < n) × (3 < lab (flip i c))) → HopWhen n c d m lab 4
+      four (inl h) = hop-4-here h
+      four (inr r) = hop-4-near (r .0) (r .1) (r .2)
+
+      said-1 : HopWhen n c d m lab 1 → not (isDimension n) ≡ true
+      said-1 (hop-1 w) = wrong-dimension n .1 w
+
+      said-2 : HopWhen n c d m lab 2 → not (eqb m (2 ^ n)) ≡ true
+      said-2 (hop-2 w) = wrong-length n m .1 w
+
+      said-5 : HopWhen n c d m lab 5 → (leb (2 ^ n) c || leb (2 ^ n) d) ≡ true
+      said-5 (hop-5 w) = outside n c d .1 w
+
+      said-4 : HopWhen n c d m lab 4 → (ltb highest (lab c) || near) ≡ true
+      said-4 (hop-4-here h) = bytes .1 (inl h)
+      said-4 (hop-4-near i l h) = bytes .1 (inr (i, l, h))
+
+      said-6 : HopWhen n c d m lab 6 → eqb (lab c) 3 ≡ true
+      said-6 (hop-6 e) = eq-eqb (lab c) 3 e
+
+-- ---- a walk
+
+-- 8 is given where every decision up to the last that is asked is a hop: then none of them stops
+is-hop : (x : Decision) → W.stops x ≡ false → (i : ℕ) × (x ≡ Hop i)
+unfolding W.stops
+is-hop Deliver e = absurd (clash refl e)
+is-hop (Hop i) e = (i, refl)
+is-hop Halted e = absurd (clash refl e)
+
+module _ (n : ℕ) (lab : ℕ → ℕ) (d s : ℕ) where
+  eight : (not (W.stops (W.last n lab d s)) ≡ true) ↔ AllHops n lab d s
+  unfolding W.last W.stops
+  eight = (λ e. all (not-true _ e), given)
+    where
+      all : W.stops (W.last n lab d s) ≡ false → AllHops n lab d s
+      all e k h =
+          is-hop (W.turn n lab d s k)
+          (⊎-elim (λ (q : k ≡ W.hops n lab d s). rw q e) (λ (l : k < W.hops n lab d s). hops-on n lab d s k l) (eq-or-lt-of-le (omega (arith, full))))
+        where
+          full : ¬ (W.hops n lab d s < n + 4)
+          full l = clash (hops-end n lab d s l) e
+
+      given : AllHops n lab d s → not (W.stops (W.last n lab d s)) ≡ true
+      given f = let r = f (W.hops n lab d s) (omega (arith, hops-within n lab d s)) in ap (λ x. not (W.stops x)) (r .1)
+
+module _ (n s d m room : ℕ) (lab : ℕ → ℕ) where
+  walk-refusal : W.walkRefusal n s d m room lab ≡ W.refusalOf (W.walked n s d m room lab .ending)
+  unfolding W.walked W.refused
+  walk-refusal =
+      ⊎-elim (λ (z : eqb (W.walkRefusal n s d m room lab) 0 ≡ true). accepted (eqb-true _ _ z))
+      (λ (z : eqb (W.walkRefusal n s d m room lab) 0 ≡ false). rw z)
+      (either (eqb (W.walkRefusal n s d m room lab) 0))
+    where
+      accepted : W.walkRefusal n s d m room lab ≡ 0 → W.walkRefusal n s d m room lab ≡ W.refusalOf (W.walked n s d m room lab .ending)
+      accepted z = ⊎-elim (λ e. z ∙ sym (ap W.refusalOf (e .1))) (λ e. z ∙ sym (ap W.refusalOf (e .1))) (walk-repeats n s d m room lab z .ends)
+
+  walk-given : Given (WalkWhen n s d m room lab) (1 ∷ 2 ∷ 5 ∷ 4 ∷ 6 ∷ 7 ∷ 8 ∷ []) (W.walkRefusal n s d m room lab)
+  unfolding W.walkRefusal first
+  walk-given =
+      one-test _ (λ e. walk-1 (wrong-dimension n .0 e)) said-1
+      (two-tests _ _ (λ e. walk-2-labels (wrong-length n m .0 e)) (λ e. walk-2-row (row .0 e)) said-2
+      (one-test _ (λ e. walk-5 (outside n s d .0 e)) said-5
+      (one-test _ (λ e. let r = bytes .0 e in walk-4 (r .0) (r .1) (r .2)) said-4
+      (one-test _ (λ e. walk-6 (eqb-true (lab s) 3 e)) said-6
+      (one-test _ (λ e. walk-7 (eqb-true (lab d) 3 e)) said-7
+      (one-test _ (λ e. walk-8 (eight n lab d s .0 e)) said-8 none))))))
+    where
+      row : (not (eqb room 34) ≡ true) ↔ (¬ (room ≡ 34))
+      row = not-says _ (eqb-says room 34)
+
+      bytes : (some (2 ^ n) (λ x. ltb highest (lab x)) ≡ true) ↔ ((x : ℕ) × (x < 2 ^ n) × (3 < lab x))
+      bytes = some-says (2 ^ n) _ (λ x. 3 < lab x) (λ x. ltb-says 3 (lab x))
+
+      said-1 : WalkWhen n s d m room lab 1 → not (isDimension n) ≡ true
+      said-1 (walk-1 w) = wrong-dimension n .1 w
+
+      said-2 : WalkWhen n s d m room lab 2 → (not (eqb m (2 ^ n)) ≡ true) ⊎ (not (eqb room 34) ≡ true)
+      said-2 (walk-2-labels w) = inl (wrong-length n m .1 w)
+      said-2 (walk-2-row w) = inr (row .1 w)
+
+      said-5 : WalkWhen n s d m room lab 5 → (leb (2 ^ n) s || leb (2 ^ n) d) ≡ true
+      said-5 (walk-5 w) = outside n s d .1 w
+
+      said-4 : WalkWhen n s d m room lab 4 → some (2 ^ n) (λ x. ltb highest (lab x)) ≡ true
+      said-4 (walk-4 x l h) = bytes .1 (x, l, h)
+
+      said-6 : WalkWhen n s d m room lab 6 → eqb (lab s) 3 ≡ true
+      said-6 (walk-6 e) = eq-eqb (lab s) 3 e
+
+      said-7 : WalkWhen n s d m room lab 7 → eqb (lab d) 3 ≡ true
+      said-7 (walk-7 e) = eq-eqb (lab d) 3 e
+
+      said-8 : WalkWhen n s d m room lab 8 → not (W.stops (W.last n lab d s)) ≡ true
+      said-8 (walk-8 f) = eight n lab d s .1 f
+
+-- ---- all of them
+
+pub refusals : Refusals
+refusals = record {
+  one = λ When order j k. given-one;
+  one-notice = notice-one;
+  labelling = λ K m. rw (← label-refusal K m) (label-given K m);
+  hop = λ n c d m lab. rw (← hop-refusal n c d m lab) (hop-given n c d m lab);
+  walk = λ n s d m room lab. rw (← walk-refusal n s d m room lab) (walk-given n s d m room lab);
+  number = number-given;
+  notice = notice-given;
+}

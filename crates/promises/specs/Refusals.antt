@@ -1,0 +1,131 @@
+-- Refusals in words. Document 01 says for each number when it is given, and for each question in which order the numbers are looked at: "each is given then
+-- and not otherwise". Here the cases stand in its words, apart from the tables of tests by which the definitions answer. Proved in proofs/Refusals.antt.
+use mathlib.Core.Bool.{true}
+use mathlib.Core.List.{List, [], _∷_}
+use mathlib.Core.Logic.{_⊎_, _≢_}
+use mathlib.Core.Path.{_≡_}
+use Prim.Native.Nat.{ℕ, zero, suc, _+_, _/_, _^_, _≤_, _<_}
+use lib.ListN.{getD, length}
+use Rattle.cube.specs.Cube.{flip}
+use Rattle.cube.specs.Tables.{nodeBit}
+use Rattle.groups.specs.Number.{numberAt, refusalIn}
+use Rattle.groups.specs.declared.Number.the-variants.{Value}
+use Rattle.notice.specs.Notice as N
+use Rattle.rule.specs.Cabinet.{Cabinet}
+use Rattle.labels.specs.Labelling as L
+use Rattle.hop.specs.Hop as H
+use Rattle.hop.specs.declared.Decision.the-variants.{Hop}
+use Rattle.walk.specs.Walk as W
+
+-- the first number of the order whose case holds is given, and 0 where none does
+pub data Given (When : ℕ → Type 0) : (order : List ℕ) (k : ℕ) → Type 0 where
+  here : {k : ℕ} {more : List ℕ} → When k → Given When (k ∷ more) k
+  later : {j k : ℕ} {more : List ℕ} → ¬ (When j) → Given When more k → Given When (j ∷ more) k
+  none : Given When [] 0
+
+-- ---- the words that the cases share
+
+-- "dimension n is 1 to 12"
+abbrev pub Dimension : (n : ℕ) → Type 0
+Dimension n = (1 ≤ n) × (n ≤ 12)
+
+-- the length of a fault table: "one byte for n up to 3, otherwise 2^n/8 bytes"
+abbrev pub TableLength : (n bytes : ℕ) → Type 0
+TableLength n bytes = ((n ≤ 3) × (bytes ≡ 1)) ⊎ ((3 < n) × (bytes ≡ 2 ^ n / 8))
+
+-- "an end or current node is 2^n or more"
+abbrev pub Outside : (n a b : ℕ) → Type 0
+Outside n a b = (2 ^ n ≤ a) ⊎ (2 ^ n ≤ b)
+
+-- ---- labelling, of a cabinet and a label table of m bytes: "1, 2 (fault table, then label table), 3"
+
+pub data LabelWhen (K : Cabinet) (m : ℕ) : ℕ → Type 0 where
+  label-1 : ¬ (Dimension (K .n)) → LabelWhen K m 1
+  label-2-faults : ¬ (TableLength (K .n) (length (K .faults))) → LabelWhen K m 2
+  label-2-labels : m ≢ 2 ^ K .n → LabelWhen K m 2
+  -- "an unused bit is set in the fault table": one that stands for no node
+  label-3 : (x : ℕ) → 2 ^ K .n ≤ x → nodeBit (K .faults) x ≡ true → LabelWhen K m 3
+
+-- ---- a hop at c for d, with a label table of m bytes: "1, 2, 5, 4, 6"
+
+pub data HopWhen (n c d m : ℕ) (lab : ℕ → ℕ) : ℕ → Type 0 where
+  hop-1 : ¬ (Dimension n) → HopWhen n c d m lab 1
+  hop-2 : m ≢ 2 ^ n → HopWhen n c d m lab 2
+  hop-5 : Outside n c d → HopWhen n c d m lab 5
+  -- "a label byte above 3 (hop: at c or a neighbour)"
+  hop-4-here : 3 < lab c → HopWhen n c d m lab 4
+  hop-4-near : (i : ℕ) → i < n → 3 < lab (flip i c) → HopWhen n c d m lab 4
+  hop-6 : lab c ≡ 3 → HopWhen n c d m lab 6
+
+-- ---- a walk from s to d, with a label table of m bytes and a row of `room` bytes: "1, 2, 5, 4, 6, 7, 8"
+
+-- "after n + 4 hops without delivery, where the next decision is another hop": each decision after 0 to n + 4 hops is one
+abbrev pub AllHops : (n : ℕ) (lab : ℕ → ℕ) (d s : ℕ) → Type 0
+AllHops n lab d s = (k : ℕ) → k ≤ n + 4 → (i : ℕ) × (W.turn n lab d s k ≡ Hop i)
+
+pub data WalkWhen (n s d m room : ℕ) (lab : ℕ → ℕ) : ℕ → Type 0 where
+  walk-1 : ¬ (Dimension n) → WalkWhen n s d m room lab 1
+  walk-2-labels : m ≢ 2 ^ n → WalkWhen n s d m room lab 2
+  -- "a lent buffer of exactly 34 bytes"
+  walk-2-row : room ≢ 34 → WalkWhen n s d m room lab 2
+  walk-5 : Outside n s d → WalkWhen n s d m room lab 5
+  -- "a label byte above 3 (walk: anywhere)"
+  walk-4 : (x : ℕ) → x < 2 ^ n → 3 < lab x → WalkWhen n s d m room lab 4
+  walk-6 : lab s ≡ 3 → WalkWhen n s d m room lab 6
+  walk-7 : lab d ≡ 3 → WalkWhen n s d m room lab 7
+  walk-8 : AllHops n lab d s → WalkWhen n s d m room lab 8
+
+-- ---- a number at a place of the bytes: "9 or 10"
+
+pub data NumberWhen (bytes : List ℕ) (at : ℕ) : ℕ → Type 0 where
+  -- "ends before a number that is due is complete": before its first group, or before its second
+  number-9-first : length bytes ≤ at → NumberWhen bytes at 9
+  number-9-second : 128 ≤ getD bytes at 0 → length bytes ≤ at + 1 → NumberWhen bytes at 9
+  -- "a number's second group is zero or has its high bit set"
+  number-10 : 128 ≤ getD bytes at 0 → (getD bytes (at + 1) 0 ≡ 0) ⊎ (128 ≤ getD bytes (at + 1) 0) → NumberWhen bytes at 10
+
+-- ---- a notice, read over a fault table: "left to right; each number 9 or 10 first, then its value (1 after the dimension, then 2 for the lent fault
+-- table, 11 after the count, 12 at each address)"
+
+pub data DimensionWhen (table : List ℕ) (n : ℕ) : ℕ → Type 0 where
+  dimension-1 : ¬ (Dimension n) → DimensionWhen table n 1
+  dimension-2 : ¬ (TableLength n (length table)) → DimensionWhen table n 2
+
+pub data CountWhen (n m : ℕ) : ℕ → Type 0 where
+  count-11 : 2 ^ n < m → CountWhen n m 11
+
+-- an address is a number counted from a base: 0 at first, then one more than the address before
+pub data AddressWhen (n base v : ℕ) : ℕ → Type 0 where
+  address-12 : 2 ^ n ≤ base + v → AddressWhen n base v 12
+
+-- what is given at a number that is due at a place, by the cases of its value in their order, and by what is due behind it
+pub data Due (bytes : List ℕ) (at : ℕ) (When : (v : ℕ) → ℕ → Type 0) (order : List ℕ) (Behind : (v next : ℕ) → ℕ → Type 0) : ℕ → Type 0 where
+  ill : {k : ℕ} → Given (NumberWhen bytes at) (9 ∷ 10 ∷ []) k → k ≢ 0 → Due bytes at When order Behind k
+  wrong : {v next k : ℕ} → numberAt bytes at ≡ Value v next → Given (When v) order k → k ≢ 0 → Due bytes at When order Behind k
+  behind : {v next k : ℕ} → numberAt bytes at ≡ Value v next → Given (When v) order 0 → Behind v next k → Due bytes at When order Behind k
+
+-- so many addresses of an n-cube, from a place and a base on
+unfoldable pub Addresses : (left n : ℕ) (bytes : List ℕ) (at base : ℕ) → ℕ → Type 0
+Addresses zero n bytes at base k = k ≡ 0
+Addresses (suc left) n bytes at base k = Due bytes at (AddressWhen n base) (12 ∷ []) (λ v next. Addresses left n bytes next (base + v + 1)) k
+
+abbrev pub NoticeGiven : (bytes table : List ℕ) → ℕ → Type 0
+NoticeGiven bytes table =
+    Due bytes 0 (DimensionWhen table) (1 ∷ 2 ∷ [])
+    (λ n at. Due bytes at (CountWhen n) (11 ∷ []) (λ m start. Addresses m n bytes start 0))
+
+-- ---- each is given then and not otherwise
+
+pub record Refusals : Type 1 where
+  -- no two numbers are given by one order, or for one notice
+  pub one : (When : ℕ → Type 0) (order : List ℕ) (j k : ℕ) → Given When order j → Given When order k → j ≡ k
+  pub one-notice : (bytes table : List ℕ) (j k : ℕ) → NoticeGiven bytes table j → NoticeGiven bytes table k → j ≡ k
+  -- each question's refusal, 0 for none, is the number given
+  pub labelling : (K : Cabinet) (m : ℕ) → Given (LabelWhen K m) (1 ∷ 2 ∷ 3 ∷ []) (L.refusalOf (L.labelled K m))
+  pub hop :
+      (n c d m : ℕ) (lab : ℕ → ℕ) → Given (HopWhen n c d m lab) (1 ∷ 2 ∷ 5 ∷ 4 ∷ 6 ∷ []) (H.refusalOf (H.hopped n c d m lab))
+  pub walk :
+      (n s d m room : ℕ) (lab : ℕ → ℕ)
+      → Given (WalkWhen n s d m room lab) (1 ∷ 2 ∷ 5 ∷ 4 ∷ 6 ∷ 7 ∷ 8 ∷ []) (W.refusalOf (W.walked n s d m room lab .ending))
+  pub number : (bytes : List ℕ) (at : ℕ) → Given (NumberWhen bytes at) (9 ∷ 10 ∷ []) (refusalIn (numberAt bytes at))
+  pub notice : (bytes table : List ℕ) → NoticeGiven bytes table (N.refusalOf (N.noticed bytes table))
