@@ -22,7 +22,6 @@ use Rattle.hop.proofs.Functions as hop
 use Rattle.walk.specs.Walk.{walked}
 use Rattle.walk.proofs.Functions as walk
 use Rattle.hcube.specs.Answers.{hopNumber, labelNumber, noticeNumber, rowAfter, walkNumber, walkedBy}
-use Rattle.hcube.specs.Decoded.{hoppedFrom, labelledFrom, noticedFrom, walkedFrom}
 use Rattle.hcube.proofs.Functions as hcube
 use Rattle.promises.specs.Answers.{Answers}
 use Rattle.promises.specs.Library.{rattle, c}

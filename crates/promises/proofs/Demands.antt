@@ -8,10 +8,10 @@ use Rattle.cube.specs.Cube.{flip}
 use Rattle.cube.specs.Tables.{labelIn}
 use Rattle.rule.specs.Cabinet.{Cabinet, cabinet, labelsOf, roundsOf}
 use Rattle.notice.specs.Laws.{TableOf}
-use Rattle.notice.specs.Notice.{addressesOf}
+use Rattle.notice.specs.Notice as N
 use Rattle.notice.specs.declared.Noticed.the-variants as noticed
 use Rattle.notice.proofs.Laws.{notice-laws}
-use Rattle.labels.specs.Labelling.{labelRefusal}
+use Rattle.labels.specs.Labelling as L
 use Rattle.labels.specs.declared.Labelled.{Labelled}
 use Rattle.labels.specs.declared.Labelled.the-variants as labelled
 use Rattle.labels.proofs.Refusal.{fitting}
@@ -34,10 +34,12 @@ use Rattle.theorems.proofs.Demand3.{demand3}
 use Rattle.theorems.proofs.Repeats.{walk-repeats}
 use Rattle.promises.specs.Demands.{Demands}
 use Rattle.promises.specs.Library.{Library, rattle, c}
+use Rattle.promises.specs.Refusals.{HopGiven, LabelGiven, NoticeGiven, WalkGiven}
 use Rattle.promises.proofs.Library.{Faithful, rattle-faithful, c-faithful}
 use Rattle.promises.proofs.Outcomes.{answered, labels-kept, labels-written, of-blank, of-decided, of-ended, of-rounds, unrefused}
+use Rattle.promises.proofs.Refusals.{refusals}
 
-module _ (L : Library) (F : Faithful L) where
+module _ (lib : Library) (F : Faithful lib) where
   -- ---- what labelling left
 
   record Left (K : Cabinet) (rounds : ℕ) (table : List ℕ) : Type 0 where
@@ -45,33 +47,33 @@ module _ (L : Library) (F : Faithful L) where
     count : roundsOf K ≡ rounds
     bytes : labelsOf K ≡ table
 
-  left : {K : Cabinet} {before table : List ℕ} {rounds : ℕ} → L .labels K before (labelled.Rounds rounds) table → Left K rounds table
+  left : {K : Cabinet} {before table : List ℕ} {rounds : ℕ} → lib .labels K before (labelled.Rounds rounds) table → Left K rounds table
   left {K} {before} {table} {rounds} m =
       let f = F .labels m in
       let o = of-rounds K (length before) rounds (sym (f .0)) in
       record {
-        accepted = subst (λ (k : ℕ). labelRefusal K k ≡ 0) (fitting K (length before) (o .0) .labels) (o .0);
+        accepted = subst (λ (k : ℕ). L.labelRefusal K k ≡ 0) (fitting K (length before) (o .0) .labels) (o .0);
         count = o .1;
         bytes = sym (f .1 ∙ labels-written K before (o .0));
       }
 
-  labels : {K : Cabinet} {before table : List ℕ} {rounds : ℕ} → L .labels K before (labelled.Rounds rounds) table → Demand2 K (labelIn table) rounds
+  labels : {K : Cabinet} {before table : List ℕ} {rounds : ℕ} → lib .labels K before (labelled.Rounds rounds) table → Demand2 K (labelIn table) rounds
   labels {K} {before} {table} {rounds} m =
       let l = left m in
       subst (Demand2 K (labelIn table)) (l .count) (subst (λ (t : List ℕ). Demand2 K (labelIn t) (roundsOf K)) (l .bytes) (demand2 K))
 
   notice-labels :
-      {bytes faults before after old : List ℕ} {n m taken : ℕ} {x : Labelled} → L .reads bytes old (noticed.Notice n m taken) faults
-      → length before ≡ 2 ^ n → L .labels (cabinet n faults) before x after → (rounds : ℕ) × (x ≡ labelled.Rounds rounds)
+      {bytes faults before after old : List ℕ} {n m taken : ℕ} {x : Labelled} → lib .reads bytes old (noticed.Notice n m taken) faults
+      → length before ≡ 2 ^ n → lib .labels (cabinet n faults) before x after → (rounds : ℕ) × (x ≡ labelled.Rounds rounds)
   notice-labels {bytes} {faults} {before} {after} {old} {n} {m} {taken} {x} r long l =
       let f = F .reads r in
       let e = notice-laws .accepted bytes old n m taken (sym (f .0)) in
       let t = notice-laws .written bytes old n m taken (sym (f .0)) in
-      (roundsOf (cabinet n faults), F .labels l .0 ∙ answered (cabinet n faults) (length before) (unrefused n faults (length before) e (subst (TableOf n m (addressesOf bytes)) (sym (f .1)) t) long))
+      (roundsOf (cabinet n faults), F .labels l .0 ∙ answered (cabinet n faults) (length before) (unrefused n faults (length before) e (subst (TableOf n m (N.addressesOf bytes)) (sym (f .1)) t) long))
 
   walks :
-      {K : Cabinet} {before table : List ℕ} {rounds s d : ℕ} {w : Walked} → L .labels K before (labelled.Rounds rounds) table → Works K s → Works K d
-      → L .walks (K .n) s d table W.rowBytes w → Walks K (labelIn table) s d w
+      {K : Cabinet} {before table : List ℕ} {rounds s d : ℕ} {w : Walked} → lib .labels K before (labelled.Rounds rounds) table → Works K s → Works K d
+      → lib .walks (K .n) s d table W.rowBytes w → Walks K (labelIn table) s d w
   walks {K} {before} {table} {rounds} {s} {d} {w} m hs hd v =
       let l = left m in
       subst (Walks K (labelIn table) s d) (sym (F .walks v))
@@ -80,30 +82,36 @@ module _ (L : Library) (F : Faithful L) where
 
   -- ---- a walk that is not refused, on any table
 
-  module _ {n s d room : ℕ} {table : List ℕ} {w : Walked} (v : L .walks n s d table room w) (e : W.refusalOf (w .ending) ≡ 0) where
+  module _ {n s d room : ℕ} {table : List ℕ} {w : Walked} (v : lib .walks n s d table room w) (e : W.refusalOf (w .ending) ≡ 0) where
     again : Repeats n s d (length table) (labelIn table) w
     again =
         let f = F .walks v in
         subst (Repeats n s d (length table) (labelIn table)) (sym f)
         (walk-repeats n s d (length table) room (labelIn table) (of-ended n s d (length table) room (labelIn table) (ap (λ (u : Walked). W.refusalOf (u .ending)) (sym f) ∙ e)))
 
-    steps : {k : ℕ} {x : Hopped} → k < w .hops → L .hops n (place w k) d table x
+    steps : {k : ℕ} {x : Hopped} → k < w .hops → lib .hops n (place w k) d table x
         → (i : ℕ) × (i < n) × (x ≡ hopped.Decided (Hop i)) × (place w (k + 1) ≡ flip i (place w k))
     steps {k} h m = let a = again .steps k h in (a .0, a .1, F .hops m ∙ a .2, a .3)
 
-    ends : {x : Hopped} → L .hops n (place w (w .hops)) d table x
+    ends : {x : Hopped} → lib .hops n (place w (w .hops)) d table x
         → ((x ≡ hopped.Decided Deliver) × (w .ending ≡ ending.Delivered)) ⊎ ((x ≡ hopped.Decided Halted) × (w .ending ≡ ending.Halted))
     ends m = ⊎-elim (λ a. inl (F .hops m ∙ a .0, a .1)) (λ a. inr (F .hops m ∙ a .0, a .1)) (again .ends)
 
-  demands : Demands L
+  demands : Demands lib
   demands =
       record {
+        label-refusal = λ {K} {before} m. subst (λ x. LabelGiven K (length before) (L.refusalOf x)) (sym (F .labels m .0)) (refusals .labelling K (length before));
+        hop-refusal = λ {n} {c} {d} {table} m. subst (λ x. HopGiven n c d (length table) (labelIn table) (H.refusalOf x)) (sym (F .hops m))
+            (refusals .hop n c d (length table) (labelIn table));
+        walk-refusal = λ {n} {s} {d} {room} {table} v. subst (λ (w : Walked). WalkGiven n s d (length table) room (labelIn table) (W.refusalOf (w .ending)))
+            (sym (F .walks v)) (refusals .walk n s d (length table) room (labelIn table));
+        notice-refusal = λ {bytes} {before} m. subst (λ x. NoticeGiven bytes before (N.refusalOf x)) (sym (F .reads m .0)) (refusals .notice bytes before);
         labels-kept = λ {K} {before} m. let f = F .labels m in f .1 ∙ labels-kept K before _ (sym (f .0));
         table-kept = λ {bytes} {before} m. let f = F .reads m in f .1 ∙ notice-laws .kept bytes before _ (sym (f .0));
         walk-blank = λ {n} {s} {d} {room} {k} {table} v e. let f = F .walks v in f ∙ of-blank n s d (length table) room (labelIn table) k (ap (λ (u : Walked). u .ending) (sym f) ∙ e);
         notice-read = λ {bytes} {before} m. notice-laws .accepted bytes before _ _ _ (sym (F .reads m .0));
         table-written = λ {bytes} {before} {after} {n} {m} {taken} r. let f = F .reads r in
-            subst (TableOf n m (addressesOf bytes)) (sym (f .1)) (notice-laws .written bytes before n m taken (sym (f .0)));
+            subst (TableOf n m (N.addressesOf bytes)) (sym (f .1)) (notice-laws .written bytes before n m taken (sym (f .0)));
         labels-written = λ m. sym (left m .bytes);
         labels = labels;
         hop = λ {n} {c} {d} {table} {x} m. subst (Picked n (labelIn table) c d) (of-decided n c d (length table) (labelIn table) x (sym (F .hops m))) (picked n (labelIn table) c d);

@@ -3,7 +3,6 @@ pub mod Outcomes
 pub mod Demands
 pub mod InC
 pub mod Answers
-pub mod Demand1
 pub mod Given
 pub mod Notices
 pub mod Refusals

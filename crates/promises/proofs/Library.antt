@@ -25,11 +25,11 @@ use Rattle.hcube.proofs.Decoded.{decodes}
 use Rattle.hcube.proofs.Functions as hcube
 use Rattle.promises.specs.Library.{Library, rattle, c}
 
-pub record Faithful (L : Library) : Type 0 where
-  pub reads : {bytes before after : List ℕ} {x : Noticed} → L .reads bytes before x after → (x ≡ noticed bytes before) × (after ≡ tableAfter bytes before)
-  pub labels : {K : Cabinet} {before after : List ℕ} {x : Labelled} → L .labels K before x after → (x ≡ labelled K (length before)) × (after ≡ labelsAfter K before)
-  pub hops : {n c d : ℕ} {table : List ℕ} {x : Hopped} → L .hops n c d table x → x ≡ hopped n c d (length table) (labelIn table)
-  pub walks : {n s d room : ℕ} {table : List ℕ} {w : Walked} → L .walks n s d table room w → w ≡ walked n s d (length table) room (labelIn table)
+pub record Faithful (lib : Library) : Type 0 where
+  pub reads : {bytes before after : List ℕ} {x : Noticed} → lib .reads bytes before x after → (x ≡ noticed bytes before) × (after ≡ tableAfter bytes before)
+  pub labels : {K : Cabinet} {before after : List ℕ} {x : Labelled} → lib .labels K before x after → (x ≡ labelled K (length before)) × (after ≡ labelsAfter K before)
+  pub hops : {n c d : ℕ} {table : List ℕ} {x : Hopped} → lib .hops n c d table x → x ≡ hopped n c d (length table) (labelIn table)
+  pub walks : {n s d room : ℕ} {table : List ℕ} {w : Walked} → lib .walks n s d table room w → w ≡ walked n s d (length table) room (labelIn table)
 
 pub rattle-faithful : Faithful rattle
 rattle-faithful =

@@ -19,7 +19,6 @@ use Rattle.groups.proofs.Laws.{number-laws}
 use Rattle.notice.specs.Addresses.{addressesEnd}
 use Rattle.notice.specs.Notice.{dimensionAt, noticeFrom, noticed, refusalOf, restAt}
 use Rattle.notice.specs.Tests.{addressTests, countTests, dimensionTests, lengthTests, tested}
-use Rattle.notice.specs.declared.Noticed.the-variants as noticed
 use Rattle.notice.proofs.Cases.{on-tested}
 use Rattle.promises.specs.Refusals.{
   Addresses,
@@ -29,6 +28,7 @@ use Rattle.promises.specs.Refusals.{
   Due,
   Given,
   NoticeGiven,
+  NumberGiven,
   NumberWhen,
   address-12,
   behind,
@@ -59,7 +59,7 @@ module _ (s : List ℕ) (at : ℕ) where
   complete h f (number-9-first l) = omega arith
   complete h f (number-9-second b l) = omega (arith, f b)
 
-  pub number-given : Given (NumberWhen s at) (9 ∷ 10 ∷ []) (refusalIn (numberAt s at))
+  pub number-given : NumberGiven s at (refusalIn (numberAt s at))
   unfolding numberAt twoGroups
   number-given =
       by-cases P (leb (length s) at) (λ e. here (number-9-first (leb-true _ _ e)))
@@ -68,9 +68,9 @@ module _ (s : List ℕ) (at : ℕ) where
       (λ second. double (leb-false _ _ second) (ltb-false low 128 more))))
     where
       P : Number → Type 0
-      P x = Given (NumberWhen s at) (9 ∷ 10 ∷ []) (refusalIn x)
+      P x = NumberGiven s at (refusalIn x)
 
-      single : at < length s → low < 128 → Given (NumberWhen s at) (9 ∷ 10 ∷ []) 0
+      single : at < length s → low < 128 → NumberGiven s at 0
       single h l = later (complete h (λ b. absurd (omega arith))) (later ten none)
         where
           ten : ¬ (NumberWhen s at 10)
@@ -90,10 +90,10 @@ module _ (s : List ℕ) (at : ℕ) where
           ten e (number-10 _ w) = clash (says .1 w) e
 
   -- a value is not refused, a refusal is not 0
-  value-given : {v next : ℕ} → numberAt s at ≡ Value v next → Given (NumberWhen s at) (9 ∷ 10 ∷ []) 0
+  value-given : {v next : ℕ} → numberAt s at ≡ Value v next → NumberGiven s at 0
   value-given e = rw e at number-given
 
-  refused-given : {k : ℕ} → numberAt s at ≡ Refused k → Given (NumberWhen s at) (9 ∷ 10 ∷ []) k
+  refused-given : {k : ℕ} → numberAt s at ≡ Refused k → NumberGiven s at k
   refused-given e = rw e at number-given
 
   refused-is : {k : ℕ} → numberAt s at ≡ Refused k → k ≢ 0

@@ -3,8 +3,7 @@
 use mathlib.Core.Path.{_≡_, refl, sym, ap, _∙_}
 use mathlib.Core.Logic.{_⊎_, inl, inr, ⊎-elim, _↔_}
 use mathlib.Core.Bool.{Bool, true, false, not, _||_}
-use mathlib.Core.List.{[], _∷_}
-use Prim.Native.Nat.{ℕ, _+_, _^_, _≤_, _<_}
+use Prim.Native.Nat.{ℕ, _+_, _^_, _<_}
 use native.Mathlib.Nat.{eq-or-lt-of-le}
 use native.Mathlib.Omega.{arith}
 use lib.Dec.{eqb, leb, ltb}
@@ -27,10 +26,13 @@ use Rattle.theorems.proofs.Walks.{hops-end, hops-on}
 use Rattle.promises.specs.Refusals.{
   AllHops,
   Given,
+  HopGiven,
   HopWhen,
+  LabelGiven,
   LabelWhen,
   Refusals,
   TableLength,
+  WalkGiven,
   WalkWhen,
   hop-1,
   hop-2,
@@ -76,7 +78,7 @@ module _ (K : Cabinet) (m : ℕ) where
   unfolding L.labelled
   label-refusal = by-cases (λ a. L.labelRefusal K m ≡ L.refusalOf a) (eqb (L.labelRefusal K m) 0) (λ z. eqb-true _ _ z) (λ _. refl)
 
-  label-given : Given (LabelWhen K m) (1 ∷ 2 ∷ 3 ∷ []) (L.labelRefusal K m)
+  label-given : LabelGiven K m (L.labelRefusal K m)
   unfolding L.labelRefusal first
   label-given =
       one-test _ (λ e. label-1 (wrong-dimension (K .n) .0 e)) said-1
@@ -106,7 +108,7 @@ module _ (n c d m : ℕ) (lab : ℕ → ℕ) where
   abbrev near : Bool
   near = some n (λ i. ltb highest (lab (flip i c)))
 
-  hop-given : Given (HopWhen n c d m lab) (1 ∷ 2 ∷ 5 ∷ 4 ∷ 6 ∷ []) (H.hopRefusal n c d m lab)
+  hop-given : HopGiven n c d m lab (H.hopRefusal n c d m lab)
   unfolding H.hopRefusal first
   hop-given =
       one-test _ (λ e. hop-1 (wrong-dimension n .0 e)) said-1
@@ -174,7 +176,7 @@ module _ (n s d m room : ℕ) (lab : ℕ → ℕ) where
       accepted : W.walkRefusal n s d m room lab ≡ 0 → W.walkRefusal n s d m room lab ≡ W.refusalOf (W.walked n s d m room lab .ending)
       accepted z = ⊎-elim (λ e. z ∙ sym (ap W.refusalOf (e .1))) (λ e. z ∙ sym (ap W.refusalOf (e .1))) (walk-repeats n s d m room lab z .ends)
 
-  walk-given : Given (WalkWhen n s d m room lab) (1 ∷ 2 ∷ 5 ∷ 4 ∷ 6 ∷ 7 ∷ 8 ∷ []) (W.walkRefusal n s d m room lab)
+  walk-given : WalkGiven n s d m room lab (W.walkRefusal n s d m room lab)
   unfolding W.walkRefusal first
   walk-given =
       one-test _ (λ e. walk-1 (wrong-dimension n .0 e)) said-1

@@ -8,8 +8,8 @@ use Rattle.hop.specs.declared.Hopped.{Hopped}
 use Rattle.walk.specs.declared.Walked.{Walked}
 use Rattle.promises.specs.Library.{Library}
 
-pub record Answers (L : Library) : Type 0 where
-  pub reads : (bytes before : List ℕ) → (x : Noticed) × (after : List ℕ) × L .reads bytes before x after
-  pub labels : (K : Cabinet) (before : List ℕ) → (x : Labelled) × (after : List ℕ) × L .labels K before x after
-  pub hops : (n c d : ℕ) (table : List ℕ) → (x : Hopped) × L .hops n c d table x
-  pub walks : (n s d : ℕ) (table : List ℕ) (room : ℕ) → (w : Walked) × L .walks n s d table room w
+pub record Answers (lib : Library) : Type 0 where
+  pub reads : (bytes before : List ℕ) → (x : Noticed) × (after : List ℕ) × lib .reads bytes before x after
+  pub labels : (K : Cabinet) (before : List ℕ) → (x : Labelled) × (after : List ℕ) × lib .labels K before x after
+  pub hops : (n c d : ℕ) (table : List ℕ) → (x : Hopped) × lib .hops n c d table x
+  pub walks : (n s d : ℕ) (table : List ℕ) (room : ℕ) → (w : Walked) × lib .walks n s d table room w

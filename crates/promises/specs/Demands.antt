@@ -1,5 +1,5 @@
 -- The three demands, of whatever the contracts allow: labelling asked and answered, then hop and walk asked on the bytes that it left, and the notice reader before
--- them. L is the library, as Rattle or as C calls it.
+-- them. lib is the library, as Rattle or as C calls it.
 use mathlib.Core.List.{List}
 use mathlib.Core.Logic.{_⊎_}
 use mathlib.Core.Path.{_≡_}
@@ -9,10 +9,13 @@ use Rattle.cube.specs.Cube.{flip}
 use Rattle.cube.specs.Tables.{labelIn}
 use Rattle.rule.specs.Cabinet.{Cabinet, cabinet, labelsOf}
 use Rattle.notice.specs.Laws.{ReadNotice, TableOf}
-use Rattle.notice.specs.Notice.{addressesOf}
+use Rattle.notice.specs.Notice as N
+use Rattle.notice.specs.declared.Noticed.{Noticed}
 use Rattle.notice.specs.declared.Noticed.the-variants as noticed
+use Rattle.labels.specs.Labelling as L
 use Rattle.labels.specs.declared.Labelled.{Labelled}
 use Rattle.labels.specs.declared.Labelled.the-variants as labelled
+use Rattle.hop.specs.Hop as H
 use Rattle.hop.specs.declared.Decision.{Decision}
 use Rattle.hop.specs.declared.Decision.the-variants.{Deliver, Hop, Halted}
 use Rattle.hop.specs.declared.Hopped.{Hopped}
@@ -25,50 +28,59 @@ use Rattle.theorems.specs.Demand3.{Walks}
 use Rattle.theorems.specs.Picked.{Picked}
 use Rattle.theorems.specs.Words.{Works, place}
 use Rattle.promises.specs.Library.{Library}
+use Rattle.promises.specs.Refusals.{HopGiven, LabelGiven, NoticeGiven, WalkGiven}
 
-pub record Demands (L : Library) : Type 0 where
+pub record Demands (lib : Library) : Type 0 where
   -- ---- 1. No input makes it misbehave
 
+  -- each entry point gives the refusal that the tables name, then and not otherwise
+  pub label-refusal : {K : Cabinet} {before after : List ℕ} {x : Labelled} → lib .labels K before x after → LabelGiven K (length before) (L.refusalOf x)
+  pub hop-refusal :
+      {n c d : ℕ} {table : List ℕ} {x : Hopped} → lib .hops n c d table x → HopGiven n c d (length table) (labelIn table) (H.refusalOf x)
+  pub walk-refusal :
+      {n s d room : ℕ} {table : List ℕ} {w : Walked} → lib .walks n s d table room w
+      → WalkGiven n s d (length table) room (labelIn table) (W.refusalOf (w .ending))
+  pub notice-refusal : {bytes before after : List ℕ} {x : Noticed} → lib .reads bytes before x after → NoticeGiven bytes before (N.refusalOf x)
   -- a refusal writes nothing into any buffer it was lent
-  pub labels-kept : {K : Cabinet} {before after : List ℕ} {k : ℕ} → L .labels K before (labelled.Refused k) after → after ≡ before
-  pub table-kept : {bytes before after : List ℕ} {k : ℕ} → L .reads bytes before (noticed.Refused k) after → after ≡ before
+  pub labels-kept : {K : Cabinet} {before after : List ℕ} {k : ℕ} → lib .labels K before (labelled.Refused k) after → after ≡ before
+  pub table-kept : {bytes before after : List ℕ} {k : ℕ} → lib .reads bytes before (noticed.Refused k) after → after ≡ before
   -- a refused walk has hop count 0 and a row of zeros
-  pub walk-blank : {n s d room k : ℕ} {table : List ℕ} {w : Walked} → L .walks n s d table room w → w .ending ≡ ending.Refused k → w ≡ W.refused k
+  pub walk-blank : {n s d room k : ℕ} {table : List ℕ} {w : Walked} → lib .walks n s d table room w → w .ending ≡ ending.Refused k → w ≡ W.refused k
   -- an accepted notice names what the fault table then holds, all of it
-  pub notice-read : {bytes before after : List ℕ} {n m taken : ℕ} → L .reads bytes before (noticed.Notice n m taken) after → ReadNotice bytes n m taken
+  pub notice-read : {bytes before after : List ℕ} {n m taken : ℕ} → lib .reads bytes before (noticed.Notice n m taken) after → ReadNotice bytes n m taken
   pub table-written :
-      {bytes before after : List ℕ} {n m taken : ℕ} → L .reads bytes before (noticed.Notice n m taken) after → TableOf n m (addressesOf bytes) after
+      {bytes before after : List ℕ} {n m taken : ℕ} → lib .reads bytes before (noticed.Notice n m taken) after → TableOf n m (N.addressesOf bytes) after
   -- ---- 2. The labels are the paper's
 
   -- all 2^n label bytes are written
-  pub labels-written : {K : Cabinet} {before after : List ℕ} {rounds : ℕ} → L .labels K before (labelled.Rounds rounds) after → after ≡ labelsOf K
-  pub labels : {K : Cabinet} {before after : List ℕ} {rounds : ℕ} → L .labels K before (labelled.Rounds rounds) after → Demand2 K (labelIn after) rounds
+  pub labels-written : {K : Cabinet} {before after : List ℕ} {rounds : ℕ} → lib .labels K before (labelled.Rounds rounds) after → after ≡ labelsOf K
+  pub labels : {K : Cabinet} {before after : List ℕ} {rounds : ℕ} → lib .labels K before (labelled.Rounds rounds) after → Demand2 K (labelIn after) rounds
   -- the next hop is the one that Algorithm ROUTE picks,
-  pub hop : {n c d : ℕ} {table : List ℕ} {x : Decision} → L .hops n c d table (hopped.Decided x) → Picked n (labelIn table) c d x
+  pub hop : {n c d : ℕ} {table : List ℕ} {x : Decision} → lib .hops n c d table (hopped.Decided x) → Picked n (labelIn table) c d x
   -- from a node's label and its neighbours' labels: no other byte matters, for the refusals too
   pub hop-local :
-      {n c d : ℕ} {table table′ : List ℕ} {x x′ : Hopped} → L .hops n c d table x → L .hops n c d table′ x′ → length table ≡ length table′
+      {n c d : ℕ} {table table′ : List ℕ} {x x′ : Hopped} → lib .hops n c d table x → lib .hops n c d table′ x′ → length table ≡ length table′
       → labelIn table c ≡ labelIn table′ c → ((i : ℕ) → i < n → labelIn table (flip i c) ≡ labelIn table′ (flip i c)) → x ≡ x′
   -- ---- 3. Walks arrive
 
   -- labelling accepts the table that an accepted notice left
   pub notice-labels :
-      {bytes faults before after old : List ℕ} {n m taken : ℕ} {x : Labelled} → L .reads bytes old (noticed.Notice n m taken) faults
-      → length before ≡ 2 ^ n → L .labels (cabinet n faults) before x after → (rounds : ℕ) × (x ≡ labelled.Rounds rounds)
+      {bytes faults before after old : List ℕ} {n m taken : ℕ} {x : Labelled} → lib .reads bytes old (noticed.Notice n m taken) faults
+      → length before ≡ 2 ^ n → lib .labels (cabinet n faults) before x after → (rounds : ℕ) × (x ≡ labelled.Rounds rounds)
   -- with the labels that labelling left, and two working nodes
   pub walks :
-      {K : Cabinet} {before table : List ℕ} {rounds s d : ℕ} {w : Walked} → L .labels K before (labelled.Rounds rounds) table → Works K s → Works K d
-      → L .walks (K .n) s d table W.rowBytes w → Walks K (labelIn table) s d w
+      {K : Cabinet} {before table : List ℕ} {rounds s d : ℕ} {w : Walked} → lib .labels K before (labelled.Rounds rounds) table → Works K s → Works K d
+      → lib .walks (K .n) s d table W.rowBytes w → Walks K (labelIn table) s d w
   -- on every table that the walk accepts it repeats the hop question: each place but the last is asked, and the next place is across its answer;
   pub walk-steps :
-      {n s d room k : ℕ} {table : List ℕ} {w : Walked} {x : Hopped} → L .walks n s d table room w → W.refusalOf (w .ending) ≡ 0 → k < w .hops
-      → L .hops n (place w k) d table x → (i : ℕ) × (i < n) × (x ≡ hopped.Decided (Hop i)) × (place w (k + 1) ≡ flip i (place w k))
+      {n s d room k : ℕ} {table : List ℕ} {w : Walked} {x : Hopped} → lib .walks n s d table room w → W.refusalOf (w .ending) ≡ 0 → k < w .hops
+      → lib .hops n (place w k) d table x → (i : ℕ) × (i < n) × (x ≡ hopped.Decided (Hop i)) × (place w (k + 1) ≡ flip i (place w k))
   -- at the last place the answer is how the walk ended
   pub walk-ends :
-      {n s d room : ℕ} {table : List ℕ} {w : Walked} {x : Hopped} → L .walks n s d table room w → W.refusalOf (w .ending) ≡ 0
-      → L .hops n (place w (w .hops)) d table x
+      {n s d room : ℕ} {table : List ℕ} {w : Walked} {x : Hopped} → lib .walks n s d table room w → W.refusalOf (w .ending) ≡ 0
+      → lib .hops n (place w (w .hops)) d table x
       → ((x ≡ hopped.Decided Deliver) × (w .ending ≡ ending.Delivered)) ⊎ ((x ≡ hopped.Decided Halted) × (w .ending ≡ ending.Halted))
   -- and no walk enters a node that is labelled faulty
   pub walk-enters :
-      {n s d room k : ℕ} {table : List ℕ} {w : Walked} → L .walks n s d table room w → W.refusalOf (w .ending) ≡ 0 → k ≤ w .hops
+      {n s d room k : ℕ} {table : List ℕ} {w : Walked} → lib .walks n s d table room w → W.refusalOf (w .ending) ≡ 0 → k ≤ w .hops
       → labelIn table (place w k) ≤ 2

@@ -2,7 +2,6 @@ pub mod Library
 pub mod Demands
 pub mod InC
 pub mod Answers
-pub mod Demand1
 pub mod Refusals
 pub mod Settled
 pub mod Worked

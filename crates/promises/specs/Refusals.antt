@@ -46,6 +46,9 @@ pub data LabelWhen (K : Cabinet) (m : ℕ) : ℕ → Type 0 where
   -- "an unused bit is set in the fault table": one that stands for no node
   label-3 : (x : ℕ) → 2 ^ K .n ≤ x → nodeBit (K .faults) x ≡ true → LabelWhen K m 3
 
+abbrev pub LabelGiven : (K : Cabinet) (m : ℕ) → ℕ → Type 0
+LabelGiven K m = Given (LabelWhen K m) (1 ∷ 2 ∷ 3 ∷ [])
+
 -- ---- a hop at c for d, with a label table of m bytes: "1, 2, 5, 4, 6"
 
 pub data HopWhen (n c d m : ℕ) (lab : ℕ → ℕ) : ℕ → Type 0 where
@@ -56,6 +59,9 @@ pub data HopWhen (n c d m : ℕ) (lab : ℕ → ℕ) : ℕ → Type 0 where
   hop-4-here : 3 < lab c → HopWhen n c d m lab 4
   hop-4-near : (i : ℕ) → i < n → 3 < lab (flip i c) → HopWhen n c d m lab 4
   hop-6 : lab c ≡ 3 → HopWhen n c d m lab 6
+
+abbrev pub HopGiven : (n c d m : ℕ) (lab : ℕ → ℕ) → ℕ → Type 0
+HopGiven n c d m lab = Given (HopWhen n c d m lab) (1 ∷ 2 ∷ 5 ∷ 4 ∷ 6 ∷ [])
 
 -- ---- a walk from s to d, with a label table of m bytes and a row of `room` bytes: "1, 2, 5, 4, 6, 7, 8"
 
@@ -75,6 +81,9 @@ pub data WalkWhen (n s d m room : ℕ) (lab : ℕ → ℕ) : ℕ → Type 0 wher
   walk-7 : lab d ≡ 3 → WalkWhen n s d m room lab 7
   walk-8 : AllHops n lab d s → WalkWhen n s d m room lab 8
 
+abbrev pub WalkGiven : (n s d m room : ℕ) (lab : ℕ → ℕ) → ℕ → Type 0
+WalkGiven n s d m room lab = Given (WalkWhen n s d m room lab) (1 ∷ 2 ∷ 5 ∷ 4 ∷ 6 ∷ 7 ∷ 8 ∷ [])
+
 -- ---- a number at a place of the bytes: "9 or 10"
 
 pub data NumberWhen (bytes : List ℕ) (at : ℕ) : ℕ → Type 0 where
@@ -83,6 +92,9 @@ pub data NumberWhen (bytes : List ℕ) (at : ℕ) : ℕ → Type 0 where
   number-9-second : 128 ≤ getD bytes at 0 → length bytes ≤ at + 1 → NumberWhen bytes at 9
   -- "a number's second group is zero or has its high bit set"
   number-10 : 128 ≤ getD bytes at 0 → (getD bytes (at + 1) 0 ≡ 0) ⊎ (128 ≤ getD bytes (at + 1) 0) → NumberWhen bytes at 10
+
+abbrev pub NumberGiven : (bytes : List ℕ) (at : ℕ) → ℕ → Type 0
+NumberGiven bytes at = Given (NumberWhen bytes at) (9 ∷ 10 ∷ [])
 
 -- ---- a notice, read over a fault table: "left to right; each number 9 or 10 first, then its value (1 after the dimension, then 2 for the lent fault
 -- table, 11 after the count, 12 at each address)"
@@ -100,7 +112,7 @@ pub data AddressWhen (n base v : ℕ) : ℕ → Type 0 where
 
 -- what is given at a number that is due at a place, by the cases of its value in their order, and by what is due behind it
 pub data Due (bytes : List ℕ) (at : ℕ) (When : (v : ℕ) → ℕ → Type 0) (order : List ℕ) (Behind : (v next : ℕ) → ℕ → Type 0) : ℕ → Type 0 where
-  ill : {k : ℕ} → Given (NumberWhen bytes at) (9 ∷ 10 ∷ []) k → k ≢ 0 → Due bytes at When order Behind k
+  ill : {k : ℕ} → NumberGiven bytes at k → k ≢ 0 → Due bytes at When order Behind k
   wrong : {v next k : ℕ} → numberAt bytes at ≡ Value v next → Given (When v) order k → k ≢ 0 → Due bytes at When order Behind k
   behind : {v next k : ℕ} → numberAt bytes at ≡ Value v next → Given (When v) order 0 → Behind v next k → Due bytes at When order Behind k
 
@@ -121,11 +133,8 @@ pub record Refusals : Type 1 where
   pub one : (When : ℕ → Type 0) (order : List ℕ) (j k : ℕ) → Given When order j → Given When order k → j ≡ k
   pub one-notice : (bytes table : List ℕ) (j k : ℕ) → NoticeGiven bytes table j → NoticeGiven bytes table k → j ≡ k
   -- each question's refusal, 0 for none, is the number given
-  pub labelling : (K : Cabinet) (m : ℕ) → Given (LabelWhen K m) (1 ∷ 2 ∷ 3 ∷ []) (L.refusalOf (L.labelled K m))
-  pub hop :
-      (n c d m : ℕ) (lab : ℕ → ℕ) → Given (HopWhen n c d m lab) (1 ∷ 2 ∷ 5 ∷ 4 ∷ 6 ∷ []) (H.refusalOf (H.hopped n c d m lab))
-  pub walk :
-      (n s d m room : ℕ) (lab : ℕ → ℕ)
-      → Given (WalkWhen n s d m room lab) (1 ∷ 2 ∷ 5 ∷ 4 ∷ 6 ∷ 7 ∷ 8 ∷ []) (W.refusalOf (W.walked n s d m room lab .ending))
-  pub number : (bytes : List ℕ) (at : ℕ) → Given (NumberWhen bytes at) (9 ∷ 10 ∷ []) (refusalIn (numberAt bytes at))
+  pub labelling : (K : Cabinet) (m : ℕ) → LabelGiven K m (L.refusalOf (L.labelled K m))
+  pub hop : (n c d m : ℕ) (lab : ℕ → ℕ) → HopGiven n c d m lab (H.refusalOf (H.hopped n c d m lab))
+  pub walk : (n s d m room : ℕ) (lab : ℕ → ℕ) → WalkGiven n s d m room lab (W.refusalOf (W.walked n s d m room lab .ending))
+  pub number : (bytes : List ℕ) (at : ℕ) → NumberGiven bytes at (refusalIn (numberAt bytes at))
   pub notice : (bytes table : List ℕ) → NoticeGiven bytes table (N.refusalOf (N.noticed bytes table))
