@@ -37,6 +37,7 @@ module _ (lab : ℕ → ℕ) (c d : ℕ) where
 
   -- ---- line by line
 
+  -- where scan 3 is allowed: the table's bound on the distance is document 01's
   open-third : (most : ℕ) → (eqb (lab c) 2 || leb (dist c d) most) ≡ true → most ≤ 2 → Strong (lab c) ⊎ (dist c d ≤ 2)
   open-third most e h =
       ⊎-elim (λ (t : eqb (lab c) 2 ≡ true). inl (eqb-true (lab c) 2 t)) (λ (t : leb (dist c d) most ≡ true). inr (omega (arith, leb-true (dist c d) most t)))
