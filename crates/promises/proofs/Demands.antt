@@ -120,8 +120,11 @@ module _ (lib : Library) (F : Faithful lib) where
             ∙ hop-local n c d (length table′) (labelIn table) (labelIn table′) own near ∙ sym (F .hops m′);
         notice-labels = notice-labels;
         walks = walks;
+        walk-starts = λ v e. again v e .starts;
         walk-steps = λ v e. steps v e;
         walk-ends = λ v e. ends v e;
+        walk-few = λ v e. again v e .few;
+        walk-unused = λ {n} {s} {d} {room} {k} v e h. again v e .unused k h;
         walk-enters = λ {n} {s} {d} {room} {k} v e h. again v e .enters k h;
       }
 

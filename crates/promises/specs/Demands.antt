@@ -71,15 +71,23 @@ pub record Demands (lib : Library) : Type 0 where
   pub walks :
       {K : Cabinet} {before table : List ℕ} {rounds s d : ℕ} {w : Walked} → lib .labels K before (labelled.Rounds rounds) table → Works K s → Works K d
       → lib .walks (K .n) s d table W.rowBytes w → Walks K (labelIn table) s d w
-  -- on every table that the walk accepts it repeats the hop question: each place but the last is asked, and the next place is across its answer;
+  -- on every table that the walk accepts it starts at the source and repeats the hop question: at each place but the last the answer is a hop, and the next
+  -- place is across it;
+  pub walk-starts :
+      {n s d room : ℕ} {table : List ℕ} {w : Walked} → lib .walks n s d table room w → W.refusalOf (w .ending) ≡ 0 → place w 0 ≡ s
   pub walk-steps :
       {n s d room k : ℕ} {table : List ℕ} {w : Walked} {x : Hopped} → lib .walks n s d table room w → W.refusalOf (w .ending) ≡ 0 → k < w .hops
       → lib .hops n (place w k) d table x → (i : ℕ) × (i < n) × (x ≡ hopped.Decided (Hop i)) × (place w (k + 1) ≡ flip i (place w k))
-  -- at the last place the answer is how the walk ended
+  -- at the last place the answer is how the walk ended;
   pub walk-ends :
       {n s d room : ℕ} {table : List ℕ} {w : Walked} {x : Hopped} → lib .walks n s d table room w → W.refusalOf (w .ending) ≡ 0
       → lib .hops n (place w (w .hops)) d table x
       → ((x ≡ hopped.Decided Deliver) × (w .ending ≡ ending.Delivered)) ⊎ ((x ≡ hopped.Decided Halted) × (w .ending ≡ ending.Halted))
+  -- there are at most n + 4 hops, and the places behind the last are zero;
+  pub walk-few :
+      {n s d room : ℕ} {table : List ℕ} {w : Walked} → lib .walks n s d table room w → W.refusalOf (w .ending) ≡ 0 → w .hops ≤ n + 4
+  pub walk-unused :
+      {n s d room k : ℕ} {table : List ℕ} {w : Walked} → lib .walks n s d table room w → W.refusalOf (w .ending) ≡ 0 → w .hops < k → place w k ≡ 0
   -- and no walk enters a node that is labelled faulty
   pub walk-enters :
       {n s d room k : ℕ} {table : List ℕ} {w : Walked} → lib .walks n s d table room w → W.refusalOf (w .ending) ≡ 0 → k ≤ w .hops

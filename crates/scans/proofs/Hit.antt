@@ -2,7 +2,7 @@
 -- the line of its scan and put together again.
 use mathlib.Core.Path.{_≡_, refl}
 use mathlib.Core.Logic.{_⊎_, inl, inr, ⊎-elim}
-use mathlib.Core.Bool.{true, _&&_, _||_, Bool·beq}
+use mathlib.Core.Bool.{true, _&&_, Bool·beq}
 use Prim.Native.Nat.{ℕ, zero, suc, _≤_}
 use native.Mathlib.Omega.{arith}
 use lib.Dec.{eqb, leb}
@@ -10,7 +10,7 @@ use borrow.Author.Tests.{eq-eqb, eqb-true, leb-true, le-leb}
 use Rattle.cube.specs.Cube.{apart, dist, flip}
 use Rattle.cube.proofs.Bools.{and-true, beq-same, beq-true, clash, or-left, or-right, or-true}
 use Rattle.cube.proofs.Laws.{agree-apart, apart-agree, apart-differ, differ-apart}
-use Rattle.scans.specs.Hit.{Hit, Strong, TableHits, scan1, scan2, scan3, scan4, scan5, takesAt}
+use Rattle.scans.specs.Hit.{Hit, MayEnterStrong, TableHits, scan1, scan2, scan3, scan4, scan5, takesAt}
 use Rattle.scans.specs.Scans.{Scan, scanAt, suits, takes}
 
 module _ (lab : ℕ → ℕ) (c d : ℕ) where
@@ -38,20 +38,19 @@ module _ (lab : ℕ → ℕ) (c d : ℕ) where
   -- ---- line by line
 
   -- where scan 3 is allowed: the table's bound on the distance is document 01's
-  open-third : (most : ℕ) → (eqb (lab c) 2 || leb (dist c d) most) ≡ true → most ≤ 2 → Strong (lab c) ⊎ (dist c d ≤ 2)
-  open-third most e h =
-      ⊎-elim (λ (t : eqb (lab c) 2 ≡ true). inl (eqb-true (lab c) 2 t)) (λ (t : leb (dist c d) most ≡ true). inr (omega (arith, leb-true (dist c d) most t)))
-      (or-true (eqb (lab c) 2) (leb (dist c d) most) e)
+  open-third : scanHere 3 .allowed ≡ true → MayEnterStrong lab c d
+  open-third e =
+      ⊎-elim (λ (t : eqb (lab c) 2 ≡ true). inl (eqb-true (lab c) 2 t)) (λ t. inr (leb-true (dist c d) _ t)) (or-true (eqb (lab c) 2) _ e)
 
-  third-open : Strong (lab c) ⊎ (dist c d ≤ 2) → scanHere 3 .allowed ≡ true
+  third-open : MayEnterStrong lab c d → scanHere 3 .allowed ≡ true
   third-open (inl e) = or-left _ (eq-eqb (lab c) 2 e)
-  third-open (inr l) = or-right (eqb (lab c) 2) (le-leb (dist c d) _ (omega (arith, l)))
+  third-open (inr l) = or-right (eqb (lab c) 2) (le-leb (dist c d) _ l)
 
   hit : (s i : ℕ) → Suits s i → Hit lab c d s i
   hit zero i z = absurd (clash (z .allowed) refl)
   hit (suc zero) i z = scan1 (apart-differ i c d (z .side)) (omega (arith, z .top))
   hit (suc (suc zero)) i z = scan2 (apart-differ i c d (z .side)) (z .top)
-  hit (suc (suc (suc zero))) i z = scan3 (apart-differ i c d (z .side)) (z .top) (open-third _ (z .allowed) (omega arith))
+  hit (suc (suc (suc zero))) i z = scan3 (apart-differ i c d (z .side)) (z .top) (open-third (z .allowed))
   hit (suc (suc (suc (suc zero)))) i z = scan4 (apart-agree i c d (z .side)) (omega (arith, z .top))
   hit (suc (suc (suc (suc (suc zero))))) i z = scan5 (apart-agree i c d (z .side)) (z .top)
   hit (suc (suc (suc (suc (suc (suc s)))))) i z = absurd (clash (z .allowed) refl)

@@ -13,7 +13,7 @@ use Rattle.cube.proofs.Bools.{either}
 use Rattle.cube.proofs.Cube.{flip-lt, flip-flip, dist-fall, dist-rise, dist-sym, apart-sym, neighbour}
 use Rattle.cube.proofs.Laws.{agree-apart, apart-agree, apart-differ, differ-apart}
 use Rattle.rule.specs.Good.{Good}
-use Rattle.scans.specs.Hit.{Forward, Hit, NotFaulty, Spare, Strong, scan1, scan2, scan3, scan4, scan5}
+use Rattle.scans.specs.Hit.{Forward, Hit, MayEnterStrong, NotFaulty, Spare, scan1, scan2, scan3, scan4, scan5}
 use Rattle.scans.specs.Picks.{Misses, NonePicks, Picks}
 use Rattle.scans.specs.Progress.{GoodProgress, Inside, Progress, ScansProgress, rank}
 use Rattle.scans.proofs.Toward.{safe-step, near-step, toward, theorem5}
@@ -107,7 +107,7 @@ module _ (n : ℕ) (lab : ℕ → ℕ) (G : Good n lab) (d : ℕ) (hd : d < 2 ^ 
     falls p {s} {i} hi (scan2 f e) m = (omega (arith, e), forward-falls i hi f (λ l. omega (arith, e, unsafe-far l (m 1 (omega arith)))))
     falls p {s} {i} hi (scan3 f e o) m = (e, forward-falls i hi f (no-worse o))
       where
-        no-worse : Strong (lab c) ⊎ (dist c d ≤ 2) → 2 < dist c d → lab (flip i c) ≤ lab c
+        no-worse : MayEnterStrong lab c d → 2 < dist c d → lab (flip i c) ≤ lab c
         no-worse (inl q) l = omega (arith, e, q)
         no-worse (inr q) l = absurd (omega arith)
     falls p {s} {i} hi (scan4 f e) m =

@@ -27,6 +27,10 @@ Strong label = label ≡ 2
 abbrev pub NotFaulty : (label : ℕ) → Type 0
 NotFaulty label = label ≤ 2
 
+-- "c strongly unsafe or l ≤ 2"
+abbrev pub MayEnterStrong : (lab : ℕ → ℕ) (c d : ℕ) → Type 0
+MayEnterStrong lab c d = Strong (lab c) ⊎ (dist c d ≤ 2)
+
 -- a scan hits a dimension
 pub data Hit (lab : ℕ → ℕ) (c d : ℕ) : (scan i : ℕ) → Type 0 where
   -- "forward, neighbour safe"
@@ -34,7 +38,7 @@ pub data Hit (lab : ℕ → ℕ) (c d : ℕ) : (scan i : ℕ) → Type 0 where
   -- "forward, neighbour safe or ordinarily unsafe"
   scan2 : {i : ℕ} → Forward c d i → SafeOrOrdinary (lab (flip i c)) → Hit lab c d 2 i
   -- "forward, neighbour not faulty, and (c strongly unsafe or l ≤ 2)"
-  scan3 : {i : ℕ} → Forward c d i → NotFaulty (lab (flip i c)) → Strong (lab c) ⊎ (dist c d ≤ 2) → Hit lab c d 3 i
+  scan3 : {i : ℕ} → Forward c d i → NotFaulty (lab (flip i c)) → MayEnterStrong lab c d → Hit lab c d 3 i
   -- "spare, neighbour safe"
   scan4 : {i : ℕ} → Spare c d i → Safe (lab (flip i c)) → Hit lab c d 4 i
   -- "spare, neighbour safe or ordinarily unsafe"

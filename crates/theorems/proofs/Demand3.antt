@@ -1,20 +1,19 @@
 -- Demand 3, from the labels' four facts (Good) and the theorems on walks: what these say of `spot`, `hops` and `last` is read off the answer.
-use mathlib.Core.Bool.{true, false, cond}
+use mathlib.Core.Bool.{true, false}
 use mathlib.Core.Logic.{_⊎_, inl, inr, ⊎-elim}
 use mathlib.Core.Path.{_≡_, refl, sym, ap, _∙_}
 use Prim.Native.Nat.{ℕ, _+_, _*_, _^_, _≤_, _<_}
 use native.Mathlib.Numerals.{add-one}
 use native.Mathlib.Omega.{arith}
-use lib.Dec.{eqb, leb, ltb}
-use lib.ListN.{length, List·getD-eq-default}
-use borrow.Author.Tests.{eq-eqb, ne-eqb, eqb-true, eqb-false, lt-leb, le-ltb, ltb-true, ltb-false}
+use lib.Dec.{eqb, ltb}
+use lib.ListN.{length}
+use borrow.Author.Tests.{eq-eqb, ne-eqb, eqb-true, eqb-false, lt-leb, le-ltb}
 use Rattle.cube.specs.Cube.{apart, dist, flip}
 use Rattle.cube.specs.Refusal.{first}
 use Rattle.cube.specs.Tables.{highest, isDimension}
 use Rattle.cube.proofs.Bools.{either, is-false}
 use Rattle.cube.proofs.Search.{find, some-none}
 use Rattle.cube.proofs.Cube.{flip-lt}
-use Rattle.cube.proofs.Front.{length-tab, getD-tab}
 use Rattle.rule.specs.Cabinet.{Cabinet, labelsOf, out}
 use Rattle.rule.specs.Good.{Good}
 use Rattle.rule.proofs.Cabinet.{label-bytes, labels-length, table-good}
@@ -30,7 +29,7 @@ use Rattle.walk.proofs.Steps.{spot-zero}
 use Rattle.theorems.specs.Demand3.{Stepped, Arrives, Stuck, Walks, Demand3}
 use Rattle.theorems.specs.Words.{Accepted, Works, labelAt, SomeSafe, walkOf, place}
 use Rattle.theorems.proofs.Demand2.{faulty, works}
-use Rattle.theorems.proofs.Places.{row-used}
+use Rattle.theorems.proofs.Places.{row-unused, row-used}
 use Rattle.theorems.proofs.Walks.{Kept, Delivers, Halts, delivers, delivers-safe, delivers-or-halts}
 
 -- what is known of the label bytes of an accepted table
@@ -90,15 +89,6 @@ module _ (K : Cabinet) (T : Table K) (s d : ℕ) (hs : Works K s) (hd : Works K 
   place-used : (e : Ending) (k : ℕ) → k ≤ hops n lab d s → place (ended e) k ≡ spot n lab d s k
   place-used e = row-used n lab d s (T .small)
 
-  place-unused : (e : Ending) (k : ℕ) → hops n lab d s < k → place (ended e) k ≡ 0
-  unfolding row
-  place-unused e k h = go (either (ltb k 17))
-    where
-      go : (ltb k 17 ≡ true) ⊎ (ltb k 17 ≡ false) → place (ended e) k ≡ 0
-      go (inl a) = getD-tab 17 (λ j. cond (leb j (hops n lab d s)) (spot n lab d s j) 0) k (ltb-true k 17 a) ∙ rw (lt-leb k (hops n lab d s) h)
-      go (inr a) =
-          List·getD-eq-default (row n lab d s) 0 {n = k} (rw (length-tab 17 (λ j. cond (leb j (hops n lab d s)) (spot n lab d s j) 0)) (ltb-false k 17 a))
-
   works-at : (x : ℕ) → Inside n lab x → Works K x
   works-at x p = (p .0, is-false (λ t. omega (arith, T .faulty x (p .0) t)))
 
@@ -115,7 +105,7 @@ module _ (K : Cabinet) (T : Table K) (s d : ℕ) (hs : Works K s) (hd : Works K 
               ∙ ap (flip (r .0)) (sym (place-used e k (omega arith))),
         );
         works = λ k h. rw (place-used e k h) (works-at (spot n lab d s k) (W .works k h));
-        unused = place-unused e;
+        unused = row-unused n lab d s;
       }
 
   abbrev end-place : (e : Ending) → place (ended e) (hops n lab d s) ≡ spot n lab d s (hops n lab d s)

@@ -26,12 +26,12 @@ use Rattle.walk.specs.Walk.{endingOf, hops, last, onto, rowBytes, spot, stops, 
 use Rattle.walk.specs.declared.Ending.the-variants as ending
 use Rattle.walk.specs.declared.Walked.{Walked}
 use Rattle.walk.proofs.Local.{spot-lt}
-use Rattle.walk.proofs.Steps.{spot-next, spot-zero}
+use Rattle.walk.proofs.Steps.{hops-within, spot-next, spot-zero}
 use Rattle.theorems.specs.Picked.{Picked, arrived, took, stopped}
 use Rattle.theorems.specs.Repeats.{Decides, Repeats, WalkRepeats}
 use Rattle.theorems.specs.Words.{place}
 use Rattle.theorems.proofs.Decision.{picked}
-use Rattle.theorems.proofs.Places.{row-used}
+use Rattle.theorems.proofs.Places.{row-unused, row-used}
 use Rattle.theorems.proofs.Walks.{hops-on}
 
 -- ---- no hop enters a node that is labelled faulty, whatever the table
@@ -140,6 +140,8 @@ module _ (n s d m room : ℕ) (lab : ℕ → ℕ) (ok : walkRefusal n s d m room
     starts = used 0 (omega arith) ∙ spot-zero n lab d s;
     steps = steps;
     ends = ends;
+    few = hops-within n lab d s;
+    unused = row-unused n lab d s;
     enters = λ k h. rw (used k h) (works k);
   })
 

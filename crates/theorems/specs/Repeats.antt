@@ -25,6 +25,9 @@ pub record Repeats (n s d m : ℕ) (lab : ℕ → ℕ) (w : Walked) : Type 0 whe
   pub ends :
       (Decides n d m lab (place w (w .hops)) Deliver × (w .ending ≡ ending.Delivered))
       ⊎ (Decides n d m lab (place w (w .hops)) Halted × (w .ending ≡ ending.Halted))
+  -- "at most 17 node numbers in a fixed row of places, unused ones zero"
+  pub few : w .hops ≤ n + 4
+  pub unused : (k : ℕ) → w .hops < k → place w k ≡ 0
   -- it enters no node that is labelled faulty
   pub enters : (k : ℕ) → k ≤ w .hops → lab (place w k) ≤ 2
 
