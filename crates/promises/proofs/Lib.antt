@@ -1,10 +1,11 @@
+pub mod Given
+pub mod Notices
+pub mod Refusals
 pub mod Library
 pub mod Outcomes
 pub mod Demands
 pub mod InC
+pub mod InRattle
 pub mod Answers
-pub mod Given
-pub mod Notices
-pub mod Refusals
 pub mod Settled
 pub mod Worked

@@ -1,7 +1,8 @@
 pub mod Library
+pub mod Refusals
 pub mod Demands
 pub mod InC
+pub mod InRattle
 pub mod Answers
-pub mod Refusals
 pub mod Settled
 pub mod Worked

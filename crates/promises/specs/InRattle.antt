@@ -1,0 +1,36 @@
+-- What only a caller in Rattle asks, of whatever the contracts allow: the bytes after a notice, one number, and the reader that keeps its place.
+use mathlib.Core.List.{List, []}
+use mathlib.Core.Logic.{_≢_}
+use mathlib.Core.Path.{_≡_}
+use Prim.Native.Nat.{ℕ, _+_}
+use denote.Ref.{RefT, now}
+use lib.ListN.{drop, length}
+use Rattle.cube.specs.Contracts.{May}
+use Rattle.groups.specs.Number.{refusalIn}
+use Rattle.groups.specs.declared.Number.{Number}
+use Rattle.groups.specs.declared.Number.the-variants as number
+use Rattle.groups.proofs.Functions as groups
+use Rattle.notice.specs.declared.Noticed.the-variants as noticed
+use Rattle.notice.proofs.Functions as notice
+use Rattle.reader.specs.declared.Reader.{Reader}
+use Rattle.reader.proofs.Functions as reader
+use Rattle.promises.specs.Refusals.{NumberGiven}
+
+pub record InRattle : Type 0 where
+  -- "one question gives the bytes after the first notice as a part of the caller's own bytes": these bytes, at their place in the caller's memory
+  pub tail-behind :
+      {bytes before after : List ℕ} {n m taken block offset : ℕ} {x : List ℕ × (ℕ × ℕ)} → May notice.read (bytes, before) (noticed.Notice n m taken) after
+      → May notice.tail (bytes, (block, offset)) x tt → x ≡ (drop taken bytes, (block, offset + taken))
+  -- "if the notice is refused for anything but the table's length, it gives the empty part at their end"
+  pub tail-empty :
+      {bytes before after : List ℕ} {k block offset : ℕ} {x : List ℕ × (ℕ × ℕ)} → May notice.read (bytes, before) (noticed.Refused k) after → k ≢ 2
+      → May notice.tail (bytes, (block, offset)) x tt → x ≡ ([], (block, offset + length bytes))
+  -- a number is refused with 9 or 10, then and not otherwise
+  pub number-refusal : {bytes : List ℕ} {at : ℕ} {x : Number} → May groups.number-at (bytes, at) x tt → NumberGiven bytes at (refusalIn x)
+  -- "a notice reader that keeps the lent bytes and its place", which begins at their start,
+  pub new : {bytes : RefT (List ℕ)} {r : Reader} → May reader.new bytes r tt → (r .bytes ≡ bytes) × (r .at ≡ 0)
+  -- "with one action: the next number. A refusal leaves its place as it stood"
+  pub next : {r after : Reader} {x y : Number} → May reader.next r x after → May groups.number-at (now (r .bytes), r .at) y tt → x ≡ y
+  pub next-keeps : {r after : Reader} {x : Number} → May reader.next r x after → after .bytes ≡ r .bytes
+  pub next-moves : {r after : Reader} {v next : ℕ} → May reader.next r (number.Value v next) after → after .at ≡ next
+  pub next-stays : {r after : Reader} {k : ℕ} → May reader.next r (number.Refused k) after → after .at ≡ r .at
