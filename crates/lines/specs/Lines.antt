@@ -1,18 +1,20 @@
 -- The listing program's lines, as document 01 has them: each line by itself, what is printed for the notice, and what is printed for a pair.
+use mathlib.Core.Path.{_≡_}
 use mathlib.Core.List.{List, [], _++_}
-use Prim.Native.Nat.{ℕ, zero, suc, _+_}
+use Prim.Native.Nat.{ℕ, zero, suc, _+_, _≤_}
 use lib.Dec.{eqb}
-use lib.ListN.{getD, length, replicate}
+use lib.ListN.{getD, length, replicate, take}
 use Rattle.cube.specs.Count.{count}
 use Rattle.cube.specs.Tables.{labelIn, tableLen}
 use Rattle.groups.specs.Number.{numberAt, onNumber}
 use Rattle.notice.specs.Addresses.{withBits}
-use Rattle.notice.specs.Notice.{addressesOf, dimensionAt, noticeOf, onNoticed}
+use Rattle.notice.specs.Notice.{addressesOf, dimensionAt, dimensionOf, noticeOf, onNoticed}
 use Rattle.rule.specs.Cabinet.{Cabinet, cabinet, labelsOf, roundsOf}
 use Rattle.walk.specs.Walk.{rowBytes, walked}
 use Rattle.walk.specs.declared.Ending.{Ending}
 use Rattle.walk.specs.declared.Ending.the-variants as ending
 use Rattle.walk.specs.declared.Walked.{Walked}
+use Rattle.lines.specs.declared.Head.{Head}
 use Rattle.lines.specs.Text.{decimal, field, text}
 
 -- ---- the lines
@@ -67,9 +69,20 @@ cabinetOf s n = cabinet n (withBits (replicate (tableLen n) 0) (addressesOf s))
 unfoldable pub labelsIn : List ℕ → List ℕ
 labelsIn s = onNoticed (noticeOf s) (λ k. []) (λ n m taken. labelsOf (cabinetOf s n))
 
+abbrev pub firstLine : (faulty : ℕ) → Cabinet → List ℕ
+firstLine faulty K = cubeLine (K .n) faulty (labelsOf K) (roundsOf K)
+
 -- "A refused notice prints only `notice refused K`"
 unfoldable pub headLine : List ℕ → List ℕ
-headLine s = onNoticed (noticeOf s) noticeRefused (λ n m taken. cubeLine n m (labelsOf (cabinetOf s n)) (roundsOf (cabinetOf s n)))
+headLine s = onNoticed (noticeOf s) noticeRefused (λ n m taken. firstLine m (cabinetOf s n))
+
+-- what is answered for it: the line stands at the front of the buffer `out`, and the labels at the front of theirs
+pub record Headed (s : List ℕ) (h : Head) (labels out : List ℕ) : Type 0 where
+  pub line : take (h .end) out ≡ headLine s
+  pub near : h .end ≤ 1024
+  pub dimension : h .n ≡ dimensionOf (noticeOf s)
+  pub labelled : take (h .nodes) labels ≡ labelsIn s
+  pub few : h .nodes ≤ 4096
 
 -- ---- what is printed for the pair at place `at` of the bytes s, in a cube of dimension n with these labels
 

@@ -31,8 +31,7 @@ returns c =
     let strong = c .before .before in
     let ordinary = strong .before .before .before .before .before in
     let safe = ordinary .before .before .before .before .before in
-    let first = put-then (safe .put-count .ensures .0) (ordinary .put-count2 .ensures .0) in
-    (
+    let first = put-then (safe .put-count .ensures .0) (ordinary .put-count2 .ensures .0) in (
       put-then first (strong .put-count3 .ensures .0),
       omega (arith, safe .put-count .ensures .1, ordinary .put-count2 .ensures .1, strong .put-count3 .ensures .1),
     )
