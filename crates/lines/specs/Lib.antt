@@ -1,2 +1,3 @@
 pub mod Text
 pub mod Lines
+pub mod Laws

@@ -1,14 +1,15 @@
 -- The listing program's lines, as document 01 has them: each line by itself, what is printed for the notice, and what is printed for a pair.
 use mathlib.Core.Path.{_≡_}
+use mathlib.Core.Bool.{cond}
 use mathlib.Core.List.{List, [], _++_}
 use Prim.Native.Nat.{ℕ, zero, suc, _+_, _≤_}
-use lib.Dec.{eqb}
-use lib.ListN.{getD, length, replicate, take}
+use lib.Dec.{eqb, ltb}
+use lib.ListN.{drop, getD, length, replicate, take}
 use Rattle.cube.specs.Count.{count}
 use Rattle.cube.specs.Tables.{labelIn, tableLen}
 use Rattle.groups.specs.Number.{numberAt, onNumber}
 use Rattle.notice.specs.Addresses.{withBits}
-use Rattle.notice.specs.Notice.{addressesOf, dimensionAt, dimensionOf, noticeOf, onNoticed}
+use Rattle.notice.specs.Notice.{addressesOf, dimensionAt, dimensionOf, noticeOf, onNoticed, tailAt}
 use Rattle.rule.specs.Cabinet.{Cabinet, cabinet, labelsOf, roundsOf}
 use Rattle.walk.specs.Walk.{rowBytes, walked}
 use Rattle.walk.specs.declared.Ending.{Ending}
@@ -104,3 +105,20 @@ nextFrom s at = onNumber (numberAt s at) (λ k. length s) (λ b after. after)
 
 unfoldable pub nextAt : List ℕ → ℕ → ℕ
 nextAt s at = onNumber (numberAt s at) (λ k. length s) (λ a next. nextFrom s next)
+
+-- ---- all that is printed
+
+-- the lines of the pairs from place `at` on, `left` of them at most
+unfoldable pub pairLines : (left n : ℕ) (labels s : List ℕ) (at : ℕ) → List ℕ
+pairLines zero n labels s at = []
+pairLines (suc left) n labels s at = cond (ltb at (length s)) (lineAt n labels s at ++ pairLines left n labels s (nextAt s at)) []
+
+-- those of the bytes behind the notice: each pair takes a byte at least
+abbrev pub pairsOf : (n : ℕ) (labels s : List ℕ) → List ℕ
+pairsOf n labels s = pairLines (length s) n labels s 0
+
+-- "It reads standard input: one notice, then pairs .. to the end. Input over 16,384 bytes prints only `input too long`"
+unfoldable pub listing : List ℕ → List ℕ
+listing s =
+    cond (ltb 16384 (length s)) tooLong
+    (headLine s ++ pairsOf (dimensionOf (noticeOf s)) (labelsIn s) (drop (tailAt s) s))
