@@ -1,5 +1,5 @@
-// The listing program of document 01: one notice from standard input, then pairs of source and destination. The lines are made by `lines`, whose
-// contracts give their bytes; this program reads, goes from pair to pair, and writes each line as it was made.
+// The listing program of document 01: one notice from standard input, then pairs of source and destination. The lines are made by `printed`,
+// whose contracts give their bytes; this program reads, goes from pair to pair, and writes each line as it was made.
 ghost use Prim.Native.Nat.{_≤_};
 ghost use lib.ListN.{length};
 ghost use mathlib.Core.Path.{_≡_};
@@ -18,7 +18,7 @@ fn list_pairs(n: usize, labels: &[u8], bytes: &[u8], out: &mut [u8])
 {
     let mut at: usize = 0;
     while at < bytes.len() {
-        let line = lines::line_at(n, labels, bytes, at, out);
+        let line = printed::line_at(n, labels, bytes, at, out);
         say(out, line.end);
         at = line.next;
     }
@@ -29,7 +29,7 @@ fn list(bytes: &[u8], faults: &mut [u8], labels: &mut [u8], out: &mut [u8])
     requires { ⌜ length (now faults) ≡ 512 ⌝ }
     requires { ⌜ (length (now labels) ≡ 4096) × (length (now out) ≡ 1024) ⌝ }
 {
-    let head = lines::head_line(bytes, faults, labels, out);
+    let head = printed::head_line(bytes, faults, labels, out);
     say(out, head.end);
     let nodes = head.nodes;
     list_pairs(head.n, &labels[..nodes], notice::tail(bytes), out);

@@ -3,10 +3,10 @@ use mathlib.Core.Path.{_∙_}
 use native.Mathlib.Omega.{arith}
 use lib.ListN.{length-take}
 use lib.Seq.{length-take-le}
-use Rattle.lines.proofs.Heads.{wanted-few}
+use Rattle.printed.proofs.Heads.{wanted-few}
 use borrow.Author.Needs.{needs}
-use Rattle.lines.proofs.head_line.Statement.{statement}
-use Rattle.lines.proofs.head_line.Tie as tie
+use Rattle.printed.proofs.head_line.Statement.{statement}
+use Rattle.printed.proofs.head_line.Tie as tie
 
 -- the length that is asked for is at most the table's
 fits : tie.Need-slice-relend-prefix-notice-line

@@ -28,7 +28,8 @@ use Rattle.notice.proofs.Laws.{notice-laws}
 use Rattle.notice.proofs.Opened.{opened-dimension, opened-notice}
 use Rattle.rule.specs.Cabinet.{Cabinet, cabinet, labelsOf, roundsOf}
 use Rattle.rule.proofs.Cabinet.{labels-length}
-use Rattle.lines.specs.Lines.{Headed, cabinetOf, firstLine, headLine, labelsIn, noticeRefused, wantedLen}
+use Rattle.lines.specs.Lines.{noticeRefused}
+use Rattle.printed.specs.Printed.{Headed, cabinetOf, firstLine, headLine, labelsIn, wantedLen}
 
 -- a number that is no dimension, or one of the table's length, passes the test of the length
 passes : (t : List ℕ) (x : Number) → length t ≡ onNumber x (λ k. 1) (λ n at. tableLen n) → tested (lengthTests t) x ≡ x

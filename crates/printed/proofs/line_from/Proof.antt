@@ -1,11 +1,11 @@
 -- `line_from`: the line of the pair, or of the number that is refused.
 use mathlib.Core.Path.{sym, ap, _∙_}
 use Rattle.lines.specs.Lines.{pairLine}
-use Rattle.lines.proofs.Pairs.{second-read, second-refused}
-use Rattle.lines.proofs.Walks.{hops-few}
+use Rattle.printed.proofs.Pairs.{second-read, second-refused}
+use Rattle.printed.proofs.Walks.{hops-few}
 use borrow.Author.Needs.{needs}
-use Rattle.lines.proofs.line_from.Statement.{statement}
-use Rattle.lines.proofs.line_from.Tie as tie
+use Rattle.printed.proofs.line_from.Statement.{statement}
+use Rattle.printed.proofs.line_from.Tie as tie
 
 number-at-requires : tie.Need-number-at-requires
 number-at-requires c κs = search needs
@@ -13,11 +13,8 @@ number-at-requires c κs = search needs
 enum-known-k : tie.Need-enum-known-k
 enum-known-k c = search needs
 
-slice-aggregate-refused-line : tie.Need-slice-aggregate-refused-line
-slice-aggregate-refused-line c = search needs
-
-refused-line-requires : tie.Need-refused-line-requires
-refused-line-requires c κs = search needs
+last-line-requires : tie.Need-last-line-requires
+last-line-requires c κs = search needs
 
 enum-known-d : tie.Need-enum-known-d
 enum-known-d c = search needs
@@ -34,9 +31,9 @@ same-length c = search needs
 returns : tie.Need-returns
 returns c =
     let l = c .before .before in
-    let k = l .before .before .before .before in
+    let k = l .before .before .before in
     let p = second-refused _ _ _ _ _ (sym (k .before .before .number-at .ensures) ∙ k .k .given .1) in
-    (l .refused-line .ensures .0 ∙ p .0, (p .1, l .refused-line .ensures .1))
+    (l .last-line .ensures .0 ∙ p .0, (l .last-line .ensures .1 .0 ∙ p .1, l .last-line .ensures .1 .1))
 
 same-length-2 : tie.Need-same-length-2
 same-length-2 c = search needs
@@ -55,8 +52,7 @@ line-from-spec =
     (tie.spec
     number-at-requires
     enum-known-k
-    slice-aggregate-refused-line
-    refused-line-requires
+    last-line-requires
     enum-known-d
     walk-requires
     pair-line-requires

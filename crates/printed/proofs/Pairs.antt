@@ -9,7 +9,8 @@ use Rattle.groups.specs.Number.{numberAt}
 use Rattle.groups.specs.declared.Number.the-variants.{Value, Refused}
 use Rattle.groups.proofs.Groups.{read-number}
 use Rattle.notice.proofs.Cases.{on-number}
-use Rattle.lines.specs.Lines.{inputRefused, lineAt, lineFrom, nextAt, nextFrom, pairLine, walkedIn}
+use Rattle.lines.specs.Lines.{inputRefused, pairLine}
+use Rattle.printed.specs.Printed.{lineAt, lineFrom, nextAt, nextFrom, walkedIn}
 
 module _ (n : ℕ) (labels s : List ℕ) (at : ℕ) where
   pub first-refused : {k : ℕ} → numberAt s at ≡ Refused k → (inputRefused k ≡ lineAt n labels s at) × (length s ≡ nextAt s at)

@@ -2,11 +2,11 @@
 use mathlib.Core.Path.{sym, ap₂, _∙_}
 use Rattle.rule.specs.Cabinet.{cabinet}
 use Rattle.labels.proofs.Refusal.{of-refused}
 use Rattle.lines.specs.Lines.{cubeLine}
-use Rattle.lines.proofs.Heads.{labels-made}
+use Rattle.printed.proofs.Heads.{labels-made}
 use borrow.Author.Needs.{needs}
-use Rattle.lines.proofs.first_line.Statement.{statement}
-use Rattle.lines.proofs.first_line.Tie as tie
+use Rattle.printed.proofs.first_line.Statement.{statement}
+use Rattle.printed.proofs.first_line.Tie as tie
 
 label-requires : tie.Need-label-requires
 label-requires c κs = search needs

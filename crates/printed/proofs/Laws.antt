@@ -26,10 +26,11 @@ use Rattle.rule.specs.Cabinet.{cabinet, labelsOf, roundsOf}
 use Rattle.rule.specs.Rule.{label, labelOf, marked, meets, newly, quiet, rounds, safe, working}
 use Rattle.scans.specs.Scans.{firstScan, lowest, suits, takes}
 use Rattle.walk.specs.Walk.{hops, last, onto, refused, row, spot, stops, turn, walkFrom, walkRefusal, walked}
-use Rattle.lines.specs.Lines.{cabinetOf, cubeLine, headLine, inputRefused, labelsIn, lineAt, lineFrom, listing, nextAt, nextFrom, noticeRefused, pairLine, pairLines, pairsOf, rowText, tooLong}
+use Rattle.lines.specs.Lines.{cubeLine, inputRefused, noticeRefused, pairLine, rowText, tooLong}
+use Rattle.printed.specs.Printed.{cabinetOf, headLine, labelsIn, lineAt, lineFrom, listing, nextAt, nextFrom, pairLines, pairsOf}
 use Rattle.lines.specs.Text.{decimal, text, width}
-use Rattle.lines.proofs.Pairs.{first-read, first-refused, second-refused}
-use Rattle.lines.specs.Laws.{ListingLaws, sampleBytes, sampleLines}
+use Rattle.printed.proofs.Pairs.{first-read, first-refused, second-refused}
+use Rattle.printed.specs.Laws.{ListingLaws, sampleBytes, sampleLines}
 
 -- ---- the sample
 

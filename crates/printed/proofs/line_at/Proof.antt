@@ -1,9 +1,9 @@
 -- `line_at`: the line of the pair, or of its first number where that is refused.
 use mathlib.Core.Path.{sym, _∙_}
-use Rattle.lines.proofs.Pairs.{first-read, first-refused}
+use Rattle.printed.proofs.Pairs.{first-read, first-refused}
 use borrow.Author.Needs.{needs}
-use Rattle.lines.proofs.line_at.Statement.{statement}
-use Rattle.lines.proofs.line_at.Tie as tie
+use Rattle.printed.proofs.line_at.Statement.{statement}
+use Rattle.printed.proofs.line_at.Tie as tie
 
 number-at-requires : tie.Need-number-at-requires
 number-at-requires c κs = search needs
@@ -11,11 +11,8 @@ number-at-requires c κs = search needs
 enum-known-k : tie.Need-enum-known-k
 enum-known-k c = search needs
 
-slice-aggregate-refused-line : tie.Need-slice-aggregate-refused-line
-slice-aggregate-refused-line c = search needs
-
-refused-line-requires : tie.Need-refused-line-requires
-refused-line-requires c κs = search needs
+last-line-requires : tie.Need-last-line-requires
+last-line-requires c κs = search needs
 
 enum-known-s : tie.Need-enum-known-s
 enum-known-s c = search needs
@@ -29,9 +26,9 @@ same-length c = search needs
 returns : tie.Need-returns
 returns c =
     let l = c .before .before in
-    let k = l .before .before .before .before in
+    let k = l .before .before .before in
     let p = first-refused _ _ _ _ (sym (k .before .before .number-at .ensures) ∙ k .k .given .1) in
-    (l .refused-line .ensures .0 ∙ p .0, (p .1, l .refused-line .ensures .1))
+    (l .last-line .ensures .0 ∙ p .0, (l .last-line .ensures .1 .0 ∙ p .1, l .last-line .ensures .1 .1))
 
 same-length-2 : tie.Need-same-length-2
 same-length-2 c = search needs
@@ -49,8 +46,7 @@ line-at-spec =
     (tie.spec
     number-at-requires
     enum-known-k
-    slice-aggregate-refused-line
-    refused-line-requires
+    last-line-requires
     enum-known-s
     line-from-requires
     same-length

@@ -7,8 +7,9 @@ use Rattle.groups.specs.Number.{numberAt}
 use Rattle.groups.specs.declared.Number.the-variants as number
 use Rattle.notice.specs.Notice.{noticeOf}
 use Rattle.notice.specs.declared.Noticed.the-variants.{Refused}
-use Rattle.lines.specs.Lines.{inputRefused, listing, noticeRefused, pairLines, tooLong}
+use Rattle.lines.specs.Lines.{inputRefused, noticeRefused, tooLong}
+use Rattle.printed.specs.Printed.{listing, pairLines}
 use Rattle.lines.specs.Text.{text}
 
 -- "For the input bytes (hex) `04 04 02 01 03 06 0D 00 06 00 02 00`"
 abbrev pub sampleBytes : List ℕ

@@ -3,10 +3,10 @@ use mathlib.Core.Path.{sym, _∙_}
 use Prim.Native.Nat.{_^_, _≤_}
 use native.Mathlib.Omega.{arith}
 use lib.ListN.{length-take}
-use Rattle.lines.proofs.Heads.{cube-head, few-nodes, labels-fit, refused-head}
+use Rattle.printed.proofs.Heads.{cube-head, few-nodes, labels-fit, refused-head}
 use borrow.Author.Needs.{needs}
-use Rattle.lines.proofs.notice_line.Statement.{statement}
-use Rattle.lines.proofs.notice_line.Tie as tie
+use Rattle.printed.proofs.notice_line.Statement.{statement}
+use Rattle.printed.proofs.notice_line.Tie as tie
 
 -- the function's start, from where the notice was read
 abbrev start : tie.After-read → tie.Start

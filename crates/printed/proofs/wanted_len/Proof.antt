@@ -8,10 +8,10 @@ use Rattle.groups.specs.declared.Number.the-variants.{Value}
 use Rattle.notice.specs.Notice.{dimensionAt}
 use Rattle.notice.specs.Tests.{dimensionTests}
 use Rattle.notice.proofs.Cases.{tested-fails, tested-passes, tested-refused}
-use Rattle.lines.proofs.Heads.{none-wanted, table-wanted}
+use Rattle.printed.proofs.Heads.{none-wanted, table-wanted}
 use borrow.Author.Needs.{needs}
-use Rattle.lines.proofs.wanted_len.Statement.{statement}
-use Rattle.lines.proofs.wanted_len.Tie as tie
+use Rattle.printed.proofs.wanted_len.Statement.{statement}
+use Rattle.printed.proofs.wanted_len.Tie as tie
 
 -- the number that was taken apart
 opened : (c : tie.After-first)
