@@ -21,14 +21,13 @@ use Rattle.notice.specs.Addresses.{withBits}
 use Rattle.notice.specs.Laws.{ReadNotice, TableOf}
 use Rattle.notice.specs.Notice.{addressesOf, dimensionAt, noticeFrom, noticeOf, noticed, tableAfter}
 use Rattle.notice.specs.Tests.{lengthTests, tested}
-use Rattle.notice.specs.declared.Noticed.{Noticed}
 use Rattle.notice.specs.declared.Noticed.the-variants.{Notice, Refused}
 use Rattle.notice.proofs.Cases.{on-number, tested-passes, tested-refused}
 use Rattle.notice.proofs.Laws.{notice-laws}
 use Rattle.notice.proofs.Opened.{opened-dimension, opened-notice}
 use Rattle.rule.specs.Cabinet.{Cabinet, cabinet, labelsOf, roundsOf}
 use Rattle.rule.proofs.Cabinet.{labels-length}
-use Rattle.lines.specs.Lines.{noticeRefused}
+use Rattle.lines.specs.Lines.{noticeRefused, room}
 use Rattle.printed.specs.Printed.{Headed, cabinetOf, firstLine, headLine, labelsIn, wantedLen}
 
 -- a number that is no dimension, or one of the table's length, passes the test of the length
@@ -65,7 +64,7 @@ module _ (s t : List ℕ) (sized : length t ≡ wantedLen s) where
   unfolding noticed noticeOf wantedLen
   same = ap (λ (x : Number). noticeFrom x s) (passes t (dimensionAt s) sized)
 
-  pub refused-head : {k end : ℕ} (labels out : List ℕ) → noticed s t ≡ Refused k → take end out ≡ noticeRefused k → end ≤ 1024
+  pub refused-head : {k end : ℕ} (labels out : List ℕ) → noticed s t ≡ Refused k → take end out ≡ noticeRefused k → end ≤ room
       → Headed s (record { n = 0; nodes = 0; end = end }) labels out
   unfolding headLine labelsIn
   refused-head {k} labels out e line near =
@@ -102,7 +101,7 @@ module _ (s t : List ℕ) (sized : length t ≡ wantedLen s) where
           rw (after, good, eq-eqb _ _ (table .sized), eq-eqb _ _ full, table .unused)
 
       pub cube-head : {nodes end : ℕ} (labels rest out : List ℕ) → nodes ≡ 2 ^ n → labels ≡ labelsOf (cabinet n faults)
-          → take end out ≡ firstLine m (cabinet n faults) → end ≤ 1024
+          → take end out ≡ firstLine m (cabinet n faults) → end ≤ room
           → Headed s (record { n = n; nodes = nodes; end = end }) (labels ++ rest) out
       unfolding headLine labelsIn
       cube-head {nodes} labels rest out full made line near = record {

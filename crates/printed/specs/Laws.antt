@@ -8,7 +8,7 @@ use Rattle.groups.specs.declared.Number.the-variants as number
 use Rattle.notice.specs.Notice.{noticeOf}
 use Rattle.notice.specs.declared.Noticed.the-variants.{Refused}
 use Rattle.lines.specs.Lines.{inputRefused, noticeRefused, tooLong}
-use Rattle.printed.specs.Printed.{listing, pairLines}
+use Rattle.printed.specs.Printed.{listing, pairLines, pairsOf}
 use Rattle.lines.specs.Text.{text}
 
 -- "For the input bytes (hex) `04 04 02 01 03 06 0D 00 06 00 02 00`"
@@ -27,6 +27,8 @@ pub record ListingLaws : Type 0 where
   pub too-long : (s : List ℕ) → 16384 < length s → listing s ≡ tooLong
   -- "A refused notice prints only `notice refused K`"
   pub refused : (s : List ℕ) (k : ℕ) → length s ≤ 16384 → noticeOf s ≡ Refused k → listing s ≡ noticeRefused k
+  -- "pairs of numbers .. to the end": with more steps no more is printed, so no pair is left out
+  pub to-end : (n : ℕ) (labels s : List ℕ) (steps : ℕ) → length s ≤ steps → pairLines steps n labels s 0 ≡ pairsOf n labels s
   -- "A pair cut short or ill written prints `input refused 9` or `input refused 10` as the last line"
   pub source-refused : (left n : ℕ) (labels s : List ℕ) (at k : ℕ) → at < length s → numberAt s at ≡ number.Refused k
       → pairLines (suc left) n labels s at ≡ inputRefused k
