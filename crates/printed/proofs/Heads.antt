@@ -59,17 +59,21 @@ module _ (s : List ℕ) where
   unfolding wantedLen
   wanted-few = on-number (λ (k : ℕ). k ≤ 512) (dimensionAt s) (λ _ _. omega arith) (λ n at e. table-few n (opened-dimension s n at e .good .1))
 
+-- a cube's dimension and its nodes, as the tables have room for them
+abbrev pub Few : ℕ → Type 0
+Few n = (n ≤ 12) × (2 ^ n ≤ 4096)
+
 module _ (s t : List ℕ) (sized : length t ≡ wantedLen s) where
   same : noticed s t ≡ noticeOf s
   unfolding noticed noticeOf wantedLen
   same = ap (λ (x : Number). noticeFrom x s) (passes t (dimensionAt s) sized)
 
-  pub refused-head : {k end : ℕ} (labels out : List ℕ) → noticed s t ≡ Refused k → take end out ≡ noticeRefused k → end ≤ room
+  pub refused-head : {k end : ℕ} (labels out : List ℕ) → noticed s t ≡ Refused k → (take end out ≡ noticeRefused k) × (end ≤ room)
       → Headed s (record { n = 0; nodes = 0; end = end }) labels out
   unfolding headLine labelsIn
-  refused-head {k} labels out e line near =
+  refused-head {k} labels out e made =
       let q : noticeOf s ≡ Refused k = sym same ∙ e in
-      record { line = rw q line; near = near; dimension = rw q; labelled = rw q; few = omega arith }
+      record { line = rw q (made .0); near = made .1; dimension = rw q; labelled = rw q; few = omega arith }
 
   module _ {n m taken : ℕ} (e : noticed s t ≡ Notice n m taken) where
     is-notice : noticeOf s ≡ Notice n m taken
@@ -81,7 +85,7 @@ module _ (s t : List ℕ) (sized : length t ≡ wantedLen s) where
     table : TableOf n m (addressesOf s) (tableAfter s t)
     table = notice-laws .written s t n m taken e
 
-    pub few-nodes : (n ≤ 12) × (2 ^ n ≤ 4096)
+    pub few-nodes : Few n
     few-nodes = (read .dimension .1, nodes-few n (read .dimension .1))
 
     same-length : length t ≡ tableLen n
@@ -100,14 +104,14 @@ module _ (s t : List ℕ) (sized : length t ≡ wantedLen s) where
           let good = and-both (le-leb 1 n (read .dimension .0)) (le-leb n 12 (read .dimension .1)) in
           rw (after, good, eq-eqb _ _ (table .sized), eq-eqb _ _ full, table .unused)
 
-      pub cube-head : {nodes end : ℕ} (labels rest out : List ℕ) → nodes ≡ 2 ^ n → labels ≡ labelsOf (cabinet n faults)
-          → take end out ≡ firstLine m (cabinet n faults) → end ≤ room
+      pub cube-head : {nodes end : ℕ} (labels rest out : List ℕ) → nodes ≡ 2 ^ n
+          → (take end out ≡ firstLine m (cabinet n faults)) × ((end ≤ room) × (labels ≡ labelsOf (cabinet n faults)))
           → Headed s (record { n = n; nodes = nodes; end = end }) (labels ++ rest) out
       unfolding headLine labelsIn
-      cube-head {nodes} labels rest out full made line near = record {
-        line = rw is-notice (line ∙ ap (firstLine m) same-cabinet);
-        near = near;
+      cube-head {nodes} labels rest out full made = record {
+        line = rw is-notice (made .0 ∙ ap (firstLine m) same-cabinet);
+        near = made .1 .0;
         dimension = rw is-notice;
-        labelled = take-at labels rest nodes (ap length made ∙ labels-length _ ∙ sym full) ∙ made ∙ rw (is-notice, same-cabinet);
+        labelled = take-at labels rest nodes (ap length (made .1 .1) ∙ labels-length _ ∙ sym full) ∙ made .1 .1 ∙ rw (is-notice, same-cabinet);
         few = omega (arith, few-nodes .1);
       }

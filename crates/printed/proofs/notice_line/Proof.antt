@@ -1,9 +1,8 @@
 -- `notice_line`: the refusal of the notice, or the first line with the labels of its cube, which fit their table.
 use mathlib.Core.Path.{sym, _∙_}
-use Prim.Native.Nat.{_^_, _≤_}
 use native.Mathlib.Omega.{arith}
 use lib.ListN.{length-take}
-use Rattle.printed.proofs.Heads.{cube-head, few-nodes, labels-fit, refused-head}
+use Rattle.printed.proofs.Heads.{Few, cube-head, few-nodes, labels-fit, refused-head}
 use borrow.Author.Needs.{needs}
 use Rattle.printed.proofs.notice_line.Statement.{statement}
 use Rattle.printed.proofs.notice_line.Tie as tie
@@ -13,10 +12,8 @@ abbrev start : tie.After-read → tie.Start
 start r = r .before .before .before .before .before .before
 
 -- the dimension of an accepted notice, from where it was opened
-few : (c : tie.After-n) → (c .n .given .0 .0 ≤ 12) × (2 ^ c .n .given .0 .0 ≤ 4096)
-few c =
-    let r = c .before .before .before .before in
-    few-nodes _ _ (start r .pre .0) (sym (r .read .ensures .0) ∙ c .n .given .1)
+few : (c : tie.After-n) → Few (c .n .given .0 .0)
+few c = let r = c .before .before .before .before in few-nodes _ _ (start r .pre .0) (sym (r .read .ensures .0) ∙ c .n .given .1)
 
 read-requires : tie.Need-read-requires
 read-requires c κs = search needs
@@ -61,7 +58,7 @@ returns c =
     let l = c .before .before in
     let k = l .before .before .before .before in
     let r = k .before .before .before .before in
-    refused-head _ _ (start r .pre .0) _ _ (sym (r .read .ensures .0) ∙ k .k .given .1) (l .refused-line .ensures .0) (l .refused-line .ensures .1)
+    refused-head _ _ (start r .pre .0) _ _ (sym (r .read .ensures .0) ∙ k .k .given .1) (l .refused-line .ensures)
 
 same-length-3 : tie.Need-same-length-3
 same-length-3 c = search needs
@@ -78,8 +75,7 @@ returns-2 c =
     let size = l .before .before .before .before in
     let n = size .before .before in
     let r = n .before .before .before .before in
-    let head = cube-head _ _ (start r .pre .0) (sym (r .read .ensures .0) ∙ n .n .given .1) (r .read .ensures .1) _ _ _ (size .nodes .ensures) in
-    head (l .first-line .ensures .1 .1) (l .first-line .ensures .0) (l .first-line .ensures .1 .0)
+    cube-head _ _ (start r .pre .0) (sym (r .read .ensures .0) ∙ n .n .given .1) (r .read .ensures .1) _ _ _ (size .nodes .ensures) (l .first-line .ensures)
 
 pub notice-line-spec : {M : Type 1} → statement M
 notice-line-spec =
