@@ -67,12 +67,25 @@ static void start_notice(uint32_t n, unsigned per_mille)
     len = put_notice(n, faults, bytes);
 }
 
+/* Starts with the notice of a cube in which these nodes are faulty. */
+static void start_faulty(uint32_t n, const uint16_t *nodes, size_t count)
+{
+    uint8_t faults[MOST_FAULT_BYTES] = {0};
+    while (count--)
+        faults[nodes[count] / 8] |= (uint8_t)(1u << (nodes[count] % 8));
+    len = put_notice(n, faults, bytes);
+}
+
+static void add_pair(uint32_t s, uint32_t d)
+{
+    add_number(s);
+    add_number(d);
+}
+
 static void add_pairs(uint32_t n, unsigned count)
 {
-    while (count--) {
-        add_number(random_below(1u << n));
-        add_number(random_below(1u << n));
-    }
+    while (count--)
+        add_pair(random_below(1u << n), random_below(1u << n));
 }
 
 /* ---- groups of cases */
@@ -108,12 +121,62 @@ static void worked_cubes(void)
         memcpy(bytes, cubes[k].notice, cubes[k].len);
         len = cubes[k].len;
         for (uint32_t s = 0; s < 1u << cubes[k].n; s++)
-            for (uint32_t d = 0; d < 1u << cubes[k].n; d++) {
-                add_number(s);
-                add_number(d);
-            }
+            for (uint32_t d = 0; d < 1u << cubes[k].n; d++)
+                add_pair(s, d);
         make("worked");
     }
+}
+
+/*
+ * The longest walks: n + 1 and n + 2 hops. No walk by the labels of a fault
+ * table has more, so 15 and 16 hops are for other label tables only.
+ *
+ * As long as a walk goes forward and passes no safe node, every node that
+ * differs from its source in dimensions crossed so far alone is unsafe or
+ * faulty, and so is each neighbour of those across a dimension still forward:
+ * by induction such a node has three neighbours of the kind. So where source
+ * and destination differ in all n dimensions, a spare neighbour has no safe
+ * neighbour itself, and there is no spare hop: n hops. Where they agree in one
+ * dimension, the same holds across it too, unless the walk passes an ordinarily
+ * unsafe node, which has one spare hop left at most; so a node that is reached
+ * by a first spare hop has a safe forward neighbour: n - 1 and 2 hops. The two
+ * spare hops of a walk need two dimensions in which its ends agree: n - 2 and 4.
+ */
+static void long_walks(void)
+{
+    for (uint32_t n = 4; n <= 12; n++) {
+        uint16_t nodes[2 * 12];
+        size_t count = 0;
+        uint32_t high = 1u << (n - 1), next = high / 2;
+        /* of 0's neighbours only `high` works: around by it */
+        for (uint32_t bit = 1; bit < high; bit *= 2)
+            nodes[count++] = (uint16_t)bit;
+        start_faulty(n, nodes, count);
+        add_pair(0, high - 1);
+        make("one-more");
+        /* only `next` works, and of its neighbours only 0 and next + high */
+        count = 0;
+        for (uint32_t bit = 1; bit < next; bit *= 2) {
+            nodes[count++] = (uint16_t)bit;
+            nodes[count++] = (uint16_t)(next + bit);
+        }
+        nodes[count++] = (uint16_t)high;
+        start_faulty(n, nodes, count);
+        add_pair(0, next - 1);
+        make("two-more");
+    }
+}
+
+/* The most rounds known for n = 12, which are 166: no node is safe then. */
+static void many_rounds(void)
+{
+    static const uint16_t nodes[] = {
+        347,  493,  536,  932,  1059, 1149, 1215, 1229, 1285, 1290, 1327,
+        1339, 1372, 1392, 1461, 1510, 1521, 1532, 1752, 1984, 2024, 2251,
+        2252, 2282, 2398, 2623, 3091, 3165, 3199, 3677, 3696, 4003};
+    start_faulty(12, nodes, COUNT(nodes));
+    add_pairs(12, 200);
+    make("many-rounds");
 }
 
 static void refused_notices(void)
@@ -227,6 +290,8 @@ static int make_all(const char *where)
     random_seed(7);
     good_inputs();
     worked_cubes();
+    long_walks();
+    many_rounds();
     refused_notices();
     bad_pairs();
     far_pairs();

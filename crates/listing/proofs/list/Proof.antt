@@ -1,27 +1,36 @@
--- `list`: the fault table that is lent on fits the 512 bytes.
+-- `list`: the labels that the pairs are walked with are the front of their table.
 use native.Mathlib.Omega.{arith}
 use lib.ListN.{length-take}
 use borrow.Author.Needs.{needs}
 use Rattle.listing.proofs.list.Statement.{statement}
 use Rattle.listing.proofs.list.Tie as tie
 
-wanted-len-requires : tie.Need-wanted-len-requires
-wanted-len-requires c κs = search needs
+head-line-requires : tie.Need-head-line-requires
+head-line-requires c κs = search needs
 
-slice-relend-prefix-list-notice : tie.Need-slice-relend-prefix-list-notice
-slice-relend-prefix-list-notice c = search needs
+say-requires : tie.Need-say-requires
+say-requires c κs = search needs
 
-slice-aggregate-list-notice : tie.Need-slice-aggregate-list-notice
-slice-aggregate-list-notice c = simp length-take (omega arith)
+slice-reshare-prefix-list-pairs : tie.Need-slice-reshare-prefix-list-pairs
+slice-reshare-prefix-list-pairs c = search needs
 
-list-notice-requires : tie.Need-list-notice-requires
-list-notice-requires c κs = search needs
+slice-aggregate-list-pairs : tie.Need-slice-aggregate-list-pairs
+slice-aggregate-list-pairs c = simp length-take (omega arith)
+
+tail-requires : tie.Need-tail-requires
+tail-requires c κs = search needs
+
+list-pairs-requires : tie.Need-list-pairs-requires
+list-pairs-requires c κs = search needs
 
 same-length : tie.Need-same-length
 same-length c = search needs
 
 same-length-2 : tie.Need-same-length-2
 same-length-2 c = search needs
+
+same-length-3 : tie.Need-same-length-3
+same-length-3 c = search needs
 
 returns : tie.Need-returns
 returns c = search needs
@@ -30,10 +39,13 @@ pub list-spec : {M : Type 1} → statement M
 list-spec =
     tie.close
     (tie.spec
-    wanted-len-requires
-    slice-relend-prefix-list-notice
-    slice-aggregate-list-notice
-    list-notice-requires
+    head-line-requires
+    say-requires
+    slice-reshare-prefix-list-pairs
+    slice-aggregate-list-pairs
+    tail-requires
+    list-pairs-requires
     same-length
     same-length-2
+    same-length-3
     returns)

@@ -1,31 +1,53 @@
 -- `list_pairs` ends, since each pair lies behind the one before.
+use mathlib.Core.Path.{_≡_}
 use Prim.Native.Nat.{_-_}
 use native.Mathlib.Omega.{arith}
 use lib.ListN.{length}
+use Rattle.printed.proofs.Pairs.{next-beyond}
 use Rattle.listing.proofs.list_pairs.Statement.{statement}
 use Rattle.listing.proofs.list_pairs.Tie as tie
 
 abbrev Inv-loop : tie.InvT-loop
-Inv-loop n labels bytes at₀ at = Unit {0}
+Inv-loop n labels bytes out₀ at₀ out at = length out ≡ 1024
 
 abbrev μ-loop : tie.MeasureT-loop
-μ-loop n labels bytes at₀ at = length bytes - at
+μ-loop n labels bytes out₀ at₀ out at = length bytes - at
 
 loop-holds : tie.Need-loop-holds Inv-loop μ-loop
-loop-holds c = tt
+loop-holds c = omega arith
 
-list-pair-requires : tie.Need-list-pair-requires Inv-loop μ-loop
-list-pair-requires c κs = omega arith
+line-at-requires : tie.Need-line-at-requires Inv-loop μ-loop
+line-at-requires c κs = omega arith
+
+say-requires : tie.Need-say-requires Inv-loop μ-loop
+say-requires c κs = omega arith
 
 loop-less : tie.Need-loop-less Inv-loop μ-loop
-loop-less c = omega arith
+loop-less c =
+    let l = c .before .before .before .before in
+    let i = l .before .before .before in
+    let bytes = i .before .before .before .before .args .bytes .now in
+    omega (arith, l .line-at .ensures .1 .0, next-beyond bytes (i .loop .at) (omega arith))
 
 loop-again : tie.Need-loop-again Inv-loop μ-loop
-loop-again c = tt
+loop-again c = omega arith
+
+same-length : tie.Need-same-length Inv-loop μ-loop
+same-length c = omega arith
 
 returns : tie.Need-returns Inv-loop μ-loop
 returns c = tt
 
 pub list-pairs-spec : {M : Type 1} → statement M
 list-pairs-spec =
-    tie.close (tie.spec Inv-loop μ-loop loop-holds list-pair-requires loop-less loop-again returns)
+    tie.close
+    (tie.spec
+    Inv-loop
+    μ-loop
+    loop-holds
+    line-at-requires
+    say-requires
+    loop-less
+    loop-again
+    same-length
+    returns)

@@ -1,0 +1,51 @@
+-- The listing program's lines, as document 01 has them.
+use mathlib.Core.List.{List, [], _++_}
+use Prim.Native.Nat.{ℕ, zero, suc, _+_}
+use lib.Dec.{eqb}
+use lib.ListN.{getD, length}
+use Rattle.cube.specs.Count.{count}
+use Rattle.cube.specs.Tables.{labelIn}
+use Rattle.walk.specs.declared.Ending.{Ending}
+use Rattle.walk.specs.declared.Ending.the-variants as ending
+use Rattle.walk.specs.declared.Walked.{Walked}
+use Rattle.lines.specs.Text.{decimal, field, text}
+
+-- the bytes that are lent for a line: none is longer
+abbrev pub room : ℕ
+room = 1024
+
+-- how many nodes have the label k
+abbrev pub labelCount : (labels : List ℕ) (k : ℕ) → ℕ
+labelCount labels k = count (length labels) (λ x. eqb (labelIn labels x) k)
+
+abbrev pub countsText : (labels : List ℕ) → List ℕ
+countsText labels = field " safe " (labelCount labels 0) ++ field " ordinary " (labelCount labels 1) ++ field " strong " (labelCount labels 2)
+
+-- "First line: dimension, then counts of faulty, safe, ordinary, strong nodes, then rounds"
+unfoldable pub cubeLine : (n faulty : ℕ) (labels : List ℕ) (rounds : ℕ) → List ℕ
+cubeLine n faulty labels rounds = field "cube " n ++ field " faulty " faulty ++ countsText labels ++ field " rounds " rounds ++ text "\n"
+
+-- "every node visited": the first k places of a row
+unfoldable pub rowText : (row : List ℕ) (k : ℕ) → List ℕ
+rowText row zero = []
+rowText row (suc k) = rowText row k ++ field " " (getD row k 0)
+
+-- "ending, then hop count and every node visited, or the refusal number": after that many hops one node more is visited
+abbrev pub endText : Ending → (hops : ℕ) (row : List ℕ) → List ℕ
+endText ending.Delivered hops row = field " delivered " hops ++ rowText row (hops + 1)
+endText ending.Halted hops row = field " halted " hops ++ rowText row (hops + 1)
+endText (ending.Refused k) hops row = field " refused " k
+
+-- "Each pair: source, destination", and then how the walk between them ended
+unfoldable pub pairLine : (s d : ℕ) → Walked → List ℕ
+pairLine s d w = decimal s ++ field " " d ++ endText (w .ending) (w .hops) (w .row) ++ text "\n"
+
+-- the refusals
+abbrev pub noticeRefused : ℕ → List ℕ
+noticeRefused k = field "notice refused " k ++ text "\n"
+
+abbrev pub inputRefused : ℕ → List ℕ
+inputRefused k = field "input refused " k ++ text "\n"
+
+abbrev pub tooLong : List ℕ
+tooLong = text "input too long\n"

@@ -1,0 +1,117 @@
+-- What is printed for the notice, as the code comes to it. The fault table t has the length that the notice asks for, so the reader's answer is the
+-- notice itself; an accepted notice leaves a good fault table, so labelling does not refuse it.
+use mathlib.Core.Path.{_≡_, refl, sym, ap, _∙_}
+use mathlib.Core.List.{List, _++_}
+use Prim.Native.Nat.{ℕ, _^_, _≤_}
+use native.Mathlib.Omega.{arith}
+use lib.ListN.{length, replicate, take}
+use lib.Seq.{take-at}
+use borrow.Author.Tests.{eq-eqb, le-leb}
+use Rattle.cube.specs.Refusal.{first}
+use Rattle.cube.specs.Tables.{isDimension, tableLen}
+use Rattle.cube.proofs.Bools.{and-both}
+use Rattle.cube.proofs.Tables.{nodes-few, table-few}
+use Rattle.groups.specs.Number.{onNumber}
+use Rattle.groups.specs.declared.Number.{Number}
+use Rattle.groups.specs.declared.Number.the-variants as number
+use Rattle.labels.specs.Labelling.{labelRefusal, labelled, labelsAfter}
+use Rattle.labels.specs.declared.Labelled.the-variants.{Rounds}
+use Rattle.labels.proofs.Refusal.{says-rounds}
+use Rattle.notice.specs.Addresses.{withBits}
+use Rattle.notice.specs.Laws.{ReadNotice, TableOf}
+use Rattle.notice.specs.Notice.{addressesOf, dimensionAt, noticeFrom, noticeOf, noticed, tableAfter}
+use Rattle.notice.specs.Tests.{lengthTests, tested}
+use Rattle.notice.specs.declared.Noticed.the-variants.{Notice, Refused}
+use Rattle.notice.proofs.Cases.{on-number, tested-passes, tested-refused}
+use Rattle.notice.proofs.Laws.{notice-laws}
+use Rattle.notice.proofs.Opened.{opened-dimension, opened-notice}
+use Rattle.rule.specs.Cabinet.{Cabinet, cabinet, labelsOf, roundsOf}
+use Rattle.rule.proofs.Cabinet.{labels-length}
+use Rattle.lines.specs.Lines.{noticeRefused, room}
+use Rattle.printed.specs.Printed.{Headed, cabinetOf, firstLine, headLine, labelsIn, wantedLen}
+
+-- a number that is no dimension, or one of the table's length, passes the test of the length
+passes : (t : List ℕ) (x : Number) → length t ≡ onNumber x (λ k. 1) (λ n at. tableLen n) → tested (lengthTests t) x ≡ x
+unfolding first
+passes t (number.Value n at) e = sym (tested-passes (lengthTests t) refl (rw (eq-eqb (length t) (tableLen n) e)))
+passes t (number.Refused k) e = sym (tested-refused (lengthTests t) refl)
+
+-- labelling that is not refused
+pub labels-made : (K : Cabinet) (before : List ℕ) {after : List ℕ} {r : ℕ} → labelRefusal K (length before) ≡ 0 → Rounds r ≡ labelled K (length before)
+    → after ≡ labelsAfter K before → (after ≡ labelsOf K) × (r ≡ roundsOf K)
+labels-made K before {after} {r} fit answer made =
+    let good = says-rounds K before (labelsOf K) 0 (roundsOf K) (sym fit) refl refl refl in
+    let q : Rounds r ≡ Rounds (roundsOf K) = answer ∙ sym (good .0) in
+    let p : r ≡ roundsOf K = cc in
+    (made ∙ sym (good .1), p)
+
+module _ (s : List ℕ) where
+  pub none-wanted : {k : ℕ} → number.Refused k ≡ dimensionAt s → 1 ≡ wantedLen s
+  unfolding wantedLen
+  none-wanted e = rw (sym e)
+
+  pub table-wanted : {n at : ℕ} → number.Value n at ≡ dimensionAt s → tableLen n ≡ wantedLen s
+  unfolding wantedLen
+  table-wanted e = rw (sym e)
+
+  -- never more than the 512 bytes of the largest table
+  pub wanted-few : wantedLen s ≤ 512
+  unfolding wantedLen
+  wanted-few = on-number (λ (k : ℕ). k ≤ 512) (dimensionAt s) (λ _ _. omega arith) (λ n at e. table-few n (opened-dimension s n at e .good .1))
+
+-- a cube's dimension and its nodes, as the tables have room for them
+abbrev pub Few : ℕ → Type 0
+Few n = (n ≤ 12) × (2 ^ n ≤ 4096)
+
+module _ (s t : List ℕ) (sized : length t ≡ wantedLen s) where
+  same : noticed s t ≡ noticeOf s
+  unfolding noticed noticeOf wantedLen
+  same = ap (λ (x : Number). noticeFrom x s) (passes t (dimensionAt s) sized)
+
+  pub refused-head : {k end : ℕ} (labels out : List ℕ) → noticed s t ≡ Refused k → (take end out ≡ noticeRefused k) × (end ≤ room)
+      → Headed s (record { n = 0; nodes = 0; end = end }) labels out
+  unfolding headLine labelsIn
+  refused-head {k} labels out e made =
+      let q : noticeOf s ≡ Refused k = sym same ∙ e in
+      record { line = rw q (made .0); near = made .1; dimension = rw q; labelled = rw q; few = omega arith }
+
+  module _ {n m taken : ℕ} (e : noticed s t ≡ Notice n m taken) where
+    is-notice : noticeOf s ≡ Notice n m taken
+    is-notice = sym same ∙ e
+
+    read : ReadNotice s n m taken
+    read = notice-laws .accepted s t n m taken e
+
+    table : TableOf n m (addressesOf s) (tableAfter s t)
+    table = notice-laws .written s t n m taken e
+
+    pub few-nodes : Few n
+    few-nodes = (read .dimension .1, nodes-few n (read .dimension .1))
+
+    same-length : length t ≡ tableLen n
+    unfolding wantedLen noticeOf
+    same-length = let d = opened-notice (dimensionAt s) s n m taken is-notice .dimension in rw d at sized
+
+    module _ {faults : List ℕ} (after : faults ≡ tableAfter s t) where
+      same-cabinet : cabinet n faults ≡ cabinetOf s n
+      unfolding tableAfter
+      same-cabinet =
+          ap (cabinet n) after ∙ rw e (ap (λ (k : ℕ). cabinet n (withBits (replicate k 0) (addressesOf s))) same-length)
+
+      pub labels-fit : {size : ℕ} → size ≡ 2 ^ n → labelRefusal (cabinet n faults) size ≡ 0
+      unfolding labelRefusal first isDimension
+      labels-fit full =
+          let good = and-both (le-leb 1 n (read .dimension .0)) (le-leb n 12 (read .dimension .1)) in
+          rw (after, good, eq-eqb _ _ (table .sized), eq-eqb _ _ full, table .unused)
+
+      pub cube-head : {nodes end : ℕ} (labels rest out : List ℕ) → nodes ≡ 2 ^ n
+          → (take end out ≡ firstLine m (cabinet n faults)) × ((end ≤ room) × (labels ≡ labelsOf (cabinet n faults)))
+          → Headed s (record { n = n; nodes = nodes; end = end }) (labels ++ rest) out
+      unfolding headLine labelsIn
+      cube-head {nodes} labels rest out full made = record {
+        line = rw is-notice (made .0 ∙ ap (firstLine m) same-cabinet);
+        near = made .1 .0;
+        dimension = rw is-notice;
+        labelled = take-at labels rest nodes (ap length (made .1 .1) ∙ labels-length _ ∙ sym full) ∙ made .1 .1 ∙ rw (is-notice, same-cabinet);
+        few = omega (arith, few-nodes .1);
+      }

@@ -1,0 +1,142 @@
+-- The laws of `listing` that specs/Laws.antt states: behind a line that is the last one no bytes are left for another. The sample is computed: its labels
+-- once, and the lines from the computed labels.
+use mathlib.Core.Path.{_≡_, refl, sym, ap, ap₂, _∙_}
+use mathlib.Core.Logic.{⊎-elim}
+use mathlib.Core.Bool.{true, false}
+use mathlib.Core.List.{List, [], _∷_, _++_, append-nil}
+use Prim.Native.Nat.{ℕ, zero, suc, _+_, _≤_, _<_}
+use lib.Count.{ones}
+use lib.Dec.{ltb}
+use lib.ListN.{drop, length}
+use lib.Seq.{drop-length}
+use borrow.Author.Tests.{le-ltb, lt-ltb, ltb-true}
+use native.Mathlib.Omega.{arith}
+use Rattle.cube.specs.Count.{count, least, some}
+use Rattle.cube.specs.Cube.{apart, bit, dist, flip}
+use Rattle.cube.specs.Refusal.{first}
+use Rattle.cube.proofs.Bools.{either}
+use Rattle.cube.specs.Tables.{isDimension, labelIn, nodeBit, tab, tableLen}
+use Rattle.groups.specs.Number.{numberAt}
+use Rattle.groups.specs.declared.Number.the-variants as number
+use Rattle.hop.specs.Hop.{answer, decide, hop}
+use Rattle.notice.specs.Addresses.{addressesAt, addressesEnd, withBit, withBits}
+use Rattle.notice.specs.Notice.{addressesOf, dimensionAt, noticeFrom, noticeOf, restAt, tailAt}
+use Rattle.notice.specs.Tests.{tested}
+use Rattle.notice.specs.declared.Noticed.the-variants.{Notice, Refused}
+use Rattle.notice.proofs.Outcomes.{tail-refused}
+use Rattle.rule.specs.Cabinet.{cabinet, labelsOf, roundsOf}
+use Rattle.rule.specs.Rule.{label, labelOf, marked, meets, newly, quiet, rounds, safe, working}
+use Rattle.scans.specs.Scans.{firstScan, lowest, suits, takes}
+use Rattle.walk.specs.Walk.{hops, last, onto, refused, row, spot, stops, turn, walkFrom, walkRefusal, walked}
+use Rattle.lines.specs.Lines.{cubeLine, inputRefused, noticeRefused, pairLine, rowText, tooLong}
+use Rattle.printed.specs.Printed.{cabinetOf, headLine, labelsIn, lineAt, lineFrom, listing, nextAt, nextFrom, pairLines, pairsOf}
+use Rattle.lines.specs.Text.{decimal, text, width}
+use Rattle.printed.proofs.Pairs.{first-read, first-refused, next-beyond, second-refused}
+use Rattle.printed.specs.Laws.{ListingLaws, sampleBytes, sampleLines}
+
+-- ---- the sample
+
+abbrev k4 : List ℕ
+k4 = 1 ∷ 0 ∷ 3 ∷ 0 ∷ 3 ∷ 0 ∷ 1 ∷ 0 ∷ 3 ∷ 0 ∷ 1 ∷ 0 ∷ 1 ∷ 0 ∷ 2 ∷ 3 ∷ []
+
+is-notice : noticeOf sampleBytes ≡ Notice 4 4 6
+unfolding noticeOf noticeFrom dimensionAt restAt tested first isDimension numberAt addressesEnd
+is-notice = refl
+
+table : cabinetOf sampleBytes 4 ≡ cabinet 4 (0x14 ∷ 0x81 ∷ [])
+unfolding addressesOf dimensionAt restAt tested first isDimension numberAt addressesEnd addressesAt withBits withBit tableLen
+table = refl
+
+labels-are : labelsOf (cabinet 4 (0x14 ∷ 0x81 ∷ [])) ≡ k4
+unfolding labelsOf label labelOf safe rounds working quiet newly meets marked count least some flip tab nodeBit bit
+labels-are = refl
+
+rounds-are : roundsOf (cabinet 4 (0x14 ∷ 0x81 ∷ [])) ≡ 2
+unfolding roundsOf rounds working quiet newly meets marked count least some flip tab nodeBit bit
+rounds-are = refl
+
+line-is : cubeLine 4 4 k4 2 ≡ text "cube 4 faulty 4 safe 7 ordinary 4 strong 1 rounds 2\n"
+unfolding cubeLine count labelIn decimal width least
+line-is = refl
+
+head : headLine sampleBytes ≡ text "cube 4 faulty 4 safe 7 ordinary 4 strong 1 rounds 2\n"
+unfolding headLine
+head = rw is-notice (rw table (ap₂ (cubeLine 4 4) labels-are rounds-are ∙ line-is))
+
+labels : labelsIn sampleBytes ≡ k4
+unfolding labelsIn
+labels = rw is-notice (rw table labels-are)
+
+tail : drop (tailAt sampleBytes) sampleBytes ≡ 0x0D ∷ 0x00 ∷ 0x06 ∷ 0x00 ∷ 0x02 ∷ 0x00 ∷ []
+unfolding tailAt
+tail = rw is-notice
+
+pairs : pairsOf 4 k4 (0x0D ∷ 0x00 ∷ 0x06 ∷ 0x00 ∷ 0x02 ∷ 0x00 ∷ [])
+    ≡ text "13 0 delivered 3 13 9 1 0\n6 0 delivered 4 6 7 5 1 0\n2 0 refused 6\n"
+unfolding pairLines lineAt lineFrom nextAt nextFrom numberAt pairLine rowText decimal width least walked walkRefusal walkFrom refused first row last hops
+    turn spot stops onto hop decide answer firstScan lowest takes suits apart dist ones labelIn tab isDimension some count bit flip
+pairs = refl
+
+sample : listing sampleBytes ≡ sampleLines
+unfolding listing
+sample = ap₂ (λ (x y : List ℕ). x ++ y) head (rw (is-notice, labels, tail) pairs)
+
+-- ---- the last line
+
+too-long : (s : List ℕ) → 16384 < length s → listing s ≡ tooLong
+unfolding listing
+too-long s h = rw (lt-ltb 16384 (length s) h)
+
+refused-only : (s : List ℕ) (k : ℕ) → length s ≤ 16384 → noticeOf s ≡ Refused k → listing s ≡ noticeRefused k
+unfolding listing headLine pairLines
+refused-only s k h e =
+    let behind : drop (tailAt s) s ≡ [] = ap (λ (j : ℕ). drop j s) (sym (tail-refused s (sym e))) ∙ drop-length s in
+    rw (le-ltb 16384 (length s) h, e, behind) (append-nil (noticeRefused k))
+
+module _ (n : ℕ) (labels s : List ℕ) where
+  none-left : (left at : ℕ) → length s ≤ at → pairLines left n labels s at ≡ []
+  unfolding pairLines
+  none-left zero at h = refl
+  none-left (suc left) at h = rw (le-ltb at (length s) h)
+
+  -- from place `at` on there are no more pairs than bytes, so any number of steps that is not less will do
+  enough : (left more at : ℕ) → length s ≤ at + left → length s ≤ at + more → pairLines more n labels s at ≡ pairLines left n labels s at
+  unfolding pairLines
+  enough zero more at h k = none-left more at (omega arith)
+  enough (suc left) zero at h k = sym (none-left (suc left) at (omega arith))
+  enough (suc left) (suc more) at h k =
+      ⊎-elim
+      (λ (t : ltb at (length s) ≡ true).
+      let further = next-beyond s at (ltb-true at (length s) t) in
+      rw t (ap (λ (l : List ℕ). lineAt n labels s at ++ l) (enough left more (nextAt s at) (omega arith) (omega arith))))
+      (λ (t : ltb at (length s) ≡ false). rw t) (either (ltb at (length s)))
+
+  to-end : (steps : ℕ) → length s ≤ steps → pairLines steps n labels s 0 ≡ pairsOf n labels s
+  to-end steps h = enough (length s) steps 0 (omega arith) (omega arith)
+
+module _ (left n : ℕ) (labels s : List ℕ) where
+  last-line : (at k : ℕ) → at < length s → (inputRefused k ≡ lineAt n labels s at) × (length s ≡ nextAt s at)
+      → pairLines (suc left) n labels s at ≡ inputRefused k
+  unfolding pairLines
+  last-line at k h p =
+      rw (lt-ltb at (length s) h) (ap₂ (λ (x y : List ℕ). x ++ y) (sym (p .0)) (none-left n labels s left (nextAt s at) (omega (arith, p .1))) ∙ append-nil (inputRefused k))
+
+  source-refused : (at k : ℕ) → at < length s → numberAt s at ≡ number.Refused k → pairLines (suc left) n labels s at ≡ inputRefused k
+  source-refused at k h e = last-line at k h (first-refused n labels s at e)
+
+  destination-refused : (at a next k : ℕ) → at < length s → numberAt s at ≡ number.Value a next → numberAt s next ≡ number.Refused k
+      → pairLines (suc left) n labels s at ≡ inputRefused k
+  destination-refused at a next k h e f =
+      let p = first-read n labels s at e in
+      let q = second-refused n labels s next a f in
+      last-line at k h (q .0 ∙ p .0, q .1 ∙ p .1)
+
+pub listing-laws : ListingLaws
+listing-laws = record {
+  too-long = too-long;
+  refused = refused-only;
+  to-end = to-end;
+  source-refused = source-refused;
+  destination-refused = destination-refused;
+  sample = sample;
+}

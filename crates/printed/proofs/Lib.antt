@@ -1,0 +1,4 @@
+pub mod Walks
+pub mod Pairs
+pub mod Heads
+pub mod Laws

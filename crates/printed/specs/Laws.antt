@@ -1,0 +1,38 @@
+-- What document 01 says of all that is printed, as laws of `listing`, with its sample. Proved in proofs/Laws.antt.
+use mathlib.Core.Path.{_≡_}
+use mathlib.Core.List.{List, [], _∷_, _++_}
+use Prim.Native.Nat.{ℕ, suc, _≤_, _<_}
+use lib.ListN.{length}
+use Rattle.groups.specs.Number.{numberAt}
+use Rattle.groups.specs.declared.Number.the-variants as number
+use Rattle.notice.specs.Notice.{noticeOf}
+use Rattle.notice.specs.declared.Noticed.the-variants.{Refused}
+use Rattle.lines.specs.Lines.{inputRefused, noticeRefused, tooLong}
+use Rattle.printed.specs.Printed.{listing, pairLines, pairsOf}
+use Rattle.lines.specs.Text.{text}
+
+-- "For the input bytes (hex) `04 04 02 01 03 06 0D 00 06 00 02 00`"
+abbrev pub sampleBytes : List ℕ
+sampleBytes = 0x04 ∷ 0x04 ∷ 0x02 ∷ 0x01 ∷ 0x03 ∷ 0x06 ∷ 0x0D ∷ 0x00 ∷ 0x06 ∷ 0x00 ∷ 0x02 ∷ 0x00 ∷ []
+
+abbrev pub sampleLines : List ℕ
+sampleLines =
+    text "cube 4 faulty 4 safe 7 ordinary 4 strong 1 rounds 2\n"
+    ++ text "13 0 delivered 3 13 9 1 0\n"
+    ++ text "6 0 delivered 4 6 7 5 1 0\n"
+    ++ text "2 0 refused 6\n"
+
+pub record ListingLaws : Type 0 where
+  -- "Input over 16,384 bytes prints only `input too long`"
+  pub too-long : (s : List ℕ) → 16384 < length s → listing s ≡ tooLong
+  -- "A refused notice prints only `notice refused K`"
+  pub refused : (s : List ℕ) (k : ℕ) → length s ≤ 16384 → noticeOf s ≡ Refused k → listing s ≡ noticeRefused k
+  -- "pairs of numbers .. to the end": with more steps no more is printed, so no pair is left out
+  pub to-end : (n : ℕ) (labels s : List ℕ) (steps : ℕ) → length s ≤ steps → pairLines steps n labels s 0 ≡ pairsOf n labels s
+  -- "A pair cut short or ill written prints `input refused 9` or `input refused 10` as the last line"
+  pub source-refused : (left n : ℕ) (labels s : List ℕ) (at k : ℕ) → at < length s → numberAt s at ≡ number.Refused k
+      → pairLines (suc left) n labels s at ≡ inputRefused k
+  pub destination-refused : (left n : ℕ) (labels s : List ℕ) (at a next k : ℕ) → at < length s → numberAt s at ≡ number.Value a next
+      → numberAt s next ≡ number.Refused k → pairLines (suc left) n labels s at ≡ inputRefused k
+  -- "it prints exactly:"
+  pub sample : listing sampleBytes ≡ sampleLines

@@ -1,0 +1,2 @@
+pub mod Printed
+pub mod Laws

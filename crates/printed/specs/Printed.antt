@@ -1,0 +1,83 @@
+-- What the listing program prints for the bytes s of its input: a line for the notice at their front, a line for each pair behind it, and all of it.
+use mathlib.Core.Path.{_≡_}
+use mathlib.Core.Bool.{cond}
+use mathlib.Core.List.{List, [], _++_}
+use Prim.Native.Nat.{ℕ, zero, suc, _≤_}
+use lib.Dec.{ltb}
+use lib.ListN.{drop, length, replicate, take}
+use Rattle.cube.specs.Tables.{labelIn, tableLen}
+use Rattle.groups.specs.Number.{numberAt, onNumber}
+use Rattle.lines.specs.Lines.{cubeLine, inputRefused, noticeRefused, pairLine, room, tooLong}
+use Rattle.notice.specs.Addresses.{withBits}
+use Rattle.notice.specs.Notice.{addressesOf, dimensionAt, dimensionOf, noticeOf, onNoticed, tailAt}
+use Rattle.rule.specs.Cabinet.{Cabinet, cabinet, labelsOf, roundsOf}
+use Rattle.walk.specs.Walk.{rowBytes, walked}
+use Rattle.walk.specs.declared.Walked.{Walked}
+use Rattle.printed.specs.declared.Head.{Head}
+
+-- ---- for the notice
+
+-- the bytes of the fault table that it asks for: where it has no dimension, any length will do
+unfoldable pub wantedLen : List ℕ → ℕ
+wantedLen s = onNumber (dimensionAt s) (λ k. 1) (λ n at. tableLen n)
+
+-- the cabinet of an accepted notice of dimension n
+abbrev pub cabinetOf : (s : List ℕ) (n : ℕ) → Cabinet
+cabinetOf s n = cabinet n (withBits (replicate (tableLen n) 0) (addressesOf s))
+
+-- its labels; a refused notice has none
+unfoldable pub labelsIn : List ℕ → List ℕ
+labelsIn s = onNoticed (noticeOf s) (λ k. []) (λ n m taken. labelsOf (cabinetOf s n))
+
+abbrev pub firstLine : (faulty : ℕ) → Cabinet → List ℕ
+firstLine faulty K = cubeLine (K .n) faulty (labelsOf K) (roundsOf K)
+
+-- "A refused notice prints only `notice refused K`"
+unfoldable pub headLine : List ℕ → List ℕ
+headLine s = onNoticed (noticeOf s) noticeRefused (λ n m taken. firstLine m (cabinetOf s n))
+
+-- what is answered for it: the line stands at the front of the buffer `out`, and the labels at the front of theirs
+pub record Headed (s : List ℕ) (h : Head) (labels out : List ℕ) : Type 0 where
+  pub line : take (h .end) out ≡ headLine s
+  pub near : h .end ≤ room
+  pub dimension : h .n ≡ dimensionOf (noticeOf s)
+  pub labelled : take (h .nodes) labels ≡ labelsIn s
+  pub few : h .nodes ≤ 4096
+
+-- ---- for the pair at place `at` of the bytes behind the notice, in a cube of dimension n with these labels
+
+-- the walk with the labels that the program keeps
+abbrev pub walkedIn : (n : ℕ) (labels : List ℕ) (s d : ℕ) → Walked
+walkedIn n labels s d = walked n s d (length labels) rowBytes (labelIn labels)
+
+-- its source is a, and its destination begins at the place
+unfoldable pub lineFrom : (n : ℕ) (labels : List ℕ) (a : ℕ) (s : List ℕ) (at : ℕ) → List ℕ
+lineFrom n labels a s at = onNumber (numberAt s at) inputRefused (λ b after. pairLine a b (walkedIn n labels a b))
+
+-- "A pair cut short or ill written prints `input refused 9` or `input refused 10` as the last line"
+unfoldable pub lineAt : (n : ℕ) (labels s : List ℕ) (at : ℕ) → List ℕ
+lineAt n labels s at = onNumber (numberAt s at) inputRefused (λ a next. lineFrom n labels a s next)
+
+-- where the next pair begins: after such a last line at the end of the bytes
+unfoldable pub nextFrom : List ℕ → ℕ → ℕ
+nextFrom s at = onNumber (numberAt s at) (λ k. length s) (λ b after. after)
+
+unfoldable pub nextAt : List ℕ → ℕ → ℕ
+nextAt s at = onNumber (numberAt s at) (λ k. length s) (λ a next. nextFrom s next)
+
+-- ---- all of it
+
+-- the lines of the pairs from place `at` on, `left` of them at most
+unfoldable pub pairLines : (left n : ℕ) (labels s : List ℕ) (at : ℕ) → List ℕ
+pairLines zero n labels s at = []
+pairLines (suc left) n labels s at = cond (ltb at (length s)) (lineAt n labels s at ++ pairLines left n labels s (nextAt s at)) []
+
+-- those of the bytes behind the notice: each pair takes a byte at least
+abbrev pub pairsOf : (n : ℕ) (labels s : List ℕ) → List ℕ
+pairsOf n labels s = pairLines (length s) n labels s 0
+
+-- "It reads standard input: one notice, then pairs .. to the end. Input over 16,384 bytes prints only `input too long`"
+unfoldable pub listing : List ℕ → List ℕ
+listing s =
+    cond (ltb 16384 (length s)) tooLong
+    (headLine s ++ pairsOf (dimensionOf (noticeOf s)) (labelsIn s) (drop (tailAt s) s))

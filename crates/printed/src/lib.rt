@@ -1,0 +1,142 @@
+// What the listing program prints: a line for the notice at the front of the input, and a line for each pair behind it. `listing` of specs/Printed.antt is
+// all of it; the program writes it line by line.
+ghost use Prim.Native.Nat.{_≤_};
+ghost use Rattle.labels.specs.Labelling.{labelRefusal};
+ghost use Rattle.lines.specs.Lines.{inputRefused, room};
+ghost use Rattle.printed.specs.Printed.{Headed, firstLine, lineAt, lineFrom, nextAt, nextFrom, wantedLen};
+ghost use Rattle.rule.specs.Cabinet.{cabinet, labelsOf};
+ghost use lib.ListN.{length, take};
+ghost use mathlib.Core.Path.{_≡_};
+use cube::is_dimension;
+use cube::nodes;
+use cube::table_len;
+use groups::Number;
+use groups::number_at;
+use labels::Labelled;
+use lines::cube_line;
+use lines::pair_line;
+use lines::refused_line;
+use notice::Noticed;
+use walk::walk;
+
+// The line of the notice by its end in the buffer, with the dimension of the cube and its nodes, both 0 where the notice is refused.
+pub struct Head {
+    pub n: usize,
+    pub nodes: usize,
+    pub end: usize,
+}
+
+// The line of a pair by its end in the buffer, with the place where the next pair begins.
+pub struct Line {
+    pub end: usize,
+    pub next: usize,
+}
+
+// ---- for the notice
+
+// The bytes of the fault table that the notice asks for.
+fn wanted_len(bytes: &[u8]) -> usize
+    ensures { λ r. ⌜ r ≡ wantedLen (now (bytes .entry)) ⌝ }
+{
+    let first = number_at(bytes, 0);
+    let Number::Value(n, _) = first else {
+        return 1;
+    };
+    if is_dimension(n) {
+        return table_len(n);
+    }
+    1
+}
+
+// Labels the nodes of an accepted notice, and makes its first line.
+fn first_line(n: usize, faulty: usize, faults: &[u8], labels: &mut [u8], out: &mut [u8]) -> usize
+    requires { ⌜ labelRefusal (cabinet n (now faults)) (length (now labels)) ≡ 0 ⌝ }
+    requires { ⌜ length (now out) ≡ room ⌝ }
+    ensures line { λ r. ⌜ take r (now (out .exit)) ≡ firstLine faulty (cabinet n (now (faults .entry))) ⌝ }
+    ensures near { λ r. ⌜ r ≤ room ⌝ }
+    ensures labels { λ r. ⌜ now (labels .exit) ≡ labelsOf (cabinet n (now (faults .entry))) ⌝ }
+{
+    let labelled = labels::label(n, faults, labels);
+    let Labelled::Rounds(rounds) = labelled else {
+        return 0;
+    };
+    cube_line(n, faulty, labels, rounds, out)
+}
+
+// The line of the notice, with a fault table of the length that it asks for.
+fn notice_line(bytes: &[u8], faults: &mut [u8], labels: &mut [u8], out: &mut [u8]) -> Head
+    requires { ⌜ length (now faults) ≡ wantedLen (now bytes) ⌝ }
+    requires { ⌜ (length (now labels) ≡ 4096) × (length (now out) ≡ room) ⌝ }
+    ensures { λ r. ⌜ Headed (now (bytes .entry)) r (now (labels .exit)) (now (out .exit)) ⌝ }
+{
+    match notice::read(bytes, faults) {
+        Noticed::Refused(k) => {
+            let end = refused_line(b"notice refused ", k, out);
+            Head {
+                n: 0,
+                nodes: 0,
+                end,
+            }
+        }
+        Noticed::Notice(n, faulty, _) => {
+            let nodes = nodes(n);
+            let end = first_line(n, faulty, faults, &mut labels[..nodes], out);
+            Head { n, nodes, end }
+        }
+    }
+}
+
+// The line of the notice at the front of the bytes: the first line, or the refusal. The labels are at the front of their table.
+pub fn head_line(bytes: &[u8], faults: &mut [u8], labels: &mut [u8], out: &mut [u8]) -> Head
+    requires { ⌜ length (now faults) ≡ 512 ⌝ }
+    requires { ⌜ (length (now labels) ≡ 4096) × (length (now out) ≡ room) ⌝ }
+    ensures { λ r. ⌜ Headed (now (bytes .entry)) r (now (labels .exit)) (now (out .exit)) ⌝ }
+{
+    let len = wanted_len(bytes);
+    notice_line(bytes, &mut faults[..len], labels, out)
+}
+
+// ---- for a pair
+
+// The line of a number that is refused: no pair is left behind it.
+fn last_line(k: u32, bytes: &[u8], out: &mut [u8]) -> Line
+    requires { ⌜ length (now out) ≡ room ⌝ }
+    ensures line { λ r. ⌜ take (r .end) (now (out .exit)) ≡ inputRefused k ⌝ }
+    ensures next { λ r. ⌜ r .next ≡ length (now (bytes .entry)) ⌝ }
+    ensures near { λ r. ⌜ r .end ≤ room ⌝ }
+{
+    let end = refused_line(b"input refused ", k, out);
+    Line {
+        end,
+        next: bytes.len(),
+    }
+}
+
+// The line of a pair whose source is s and whose destination begins at a place.
+fn line_from(n: usize, labels: &[u8], s: usize, bytes: &[u8], at: usize, out: &mut [u8]) -> Line
+    requires { ⌜ length (now out) ≡ room ⌝ }
+    ensures line { λ r. ⌜ take (r .end) (now (out .exit)) ≡ lineFrom n (now (labels .entry)) s (now (bytes .entry)) at ⌝ }
+    ensures next { λ r. ⌜ r .next ≡ nextFrom (now (bytes .entry)) at ⌝ }
+    ensures near { λ r. ⌜ r .end ≤ room ⌝ }
+{
+    match number_at(bytes, at) {
+        Number::Refused(k) => last_line(k, bytes, out),
+        Number::Value(d, next) => {
+            let end = pair_line(s, d, walk(n, s, d, labels), out);
+            Line { end, next }
+        }
+    }
+}
+
+// The line of the pair at a place.
+pub fn line_at(n: usize, labels: &[u8], bytes: &[u8], at: usize, out: &mut [u8]) -> Line
+    requires { ⌜ length (now out) ≡ room ⌝ }
+    ensures line { λ r. ⌜ take (r .end) (now (out .exit)) ≡ lineAt n (now (labels .entry)) (now (bytes .entry)) at ⌝ }
+    ensures next { λ r. ⌜ r .next ≡ nextAt (now (bytes .entry)) at ⌝ }
+    ensures near { λ r. ⌜ r .end ≤ room ⌝ }
+{
+    match number_at(bytes, at) {
+        Number::Refused(k) => last_line(k, bytes, out),
+        Number::Value(s, next) => line_from(n, labels, s, bytes, next, out),
+    }
+}
