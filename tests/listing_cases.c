@@ -131,16 +131,14 @@ static void worked_cubes(void)
  * The longest walks: n + 1 and n + 2 hops. No walk by the labels of a fault
  * table has more, so 15 and 16 hops are for other label tables only.
  *
- * As long as a walk goes forward and passes no safe node, every node that
- * differs from its source in dimensions crossed so far alone is unsafe or
- * faulty, and so is each neighbour of those across a dimension still forward:
- * by induction such a node has three neighbours of the kind. So where source
- * and destination differ in all n dimensions, a spare neighbour has no safe
- * neighbour itself, and there is no spare hop: n hops. Where they agree in one
- * dimension, the same holds across it too, unless the walk passes an ordinarily
- * unsafe node, which has one spare hop left at most; so a node that is reached
- * by a first spare hop has a safe forward neighbour: n - 1 and 2 hops. The two
- * spare hops of a walk need two dimensions in which its ends agree: n - 2 and 4.
+ * A walk has two spare hops at most, each to a better label. If it has two, its
+ * ends agree in two dimensions: the first leads from a strongly unsafe node a
+ * across p to an ordinarily unsafe one, which has a safe neighbour z across a
+ * spare dimension q. The neighbours of a across p and q are neighbours of z,
+ * and not safe, as a has no safe neighbour; so z's others are safe. The node
+ * before a was strongly unsafe too. It did not cross p or q, or it would be a
+ * neighbour of z; and what it crossed leads from z to a safe node, of which the
+ * same holds. So it goes on back to the source, where p and q are spare.
  */
 static void long_walks(void)
 {
