@@ -8,9 +8,10 @@ use Prim.Native.Nat.{ℕ, _^_, _≤_}
 use native.Mathlib.Omega.{arith}
 use lib.Dec.{eqb}
 use lib.ListN.{length}
-use borrow.Author.Tests.{eqb-true, eqb-false, eq-eqb, ne-eqb, not-false}
+use borrow.Author.Tests.{eqb-true, eqb-false, eq-eqb, le-leb, ne-eqb, not-false}
+use Rattle.cube.specs.Refusal.{first}
 use Rattle.cube.specs.Tables.{isDimension, tableLen, unusedSet}
-use Rattle.cube.proofs.Bools.{either}
+use Rattle.cube.proofs.Bools.{by-cases, either}
 use Rattle.cube.proofs.Refusal.{first-le, first-none}
 use Rattle.cube.proofs.Tables.{dimension-is}
 use Rattle.rule.specs.Cabinet.{Cabinet, labelsOf, roundsOf}
@@ -37,6 +38,18 @@ module _ (K : Cabinet) (m : ℕ) where
         labels = eqb-true _ _ (not-false _ (t .1 .1 .0));
         unused = t .1 .1 .1 .0;
       }
+
+  -- and where every test passes, nothing is refused
+  pub fits : (1 ≤ K .n) × (K .n ≤ 12) → length (K .faults) ≡ tableLen (K .n) → unusedSet (K .n) (K .faults) ≡ false → m ≡ 2 ^ K .n → labelRefusal K m ≡ 0
+  unfolding labelRefusal first isDimension
+  fits d f u l =
+      rw (
+        le-leb 1 (K .n) (d .0),
+        le-leb (K .n) 12 (d .1),
+        eq-eqb (length (K .faults)) (tableLen (K .n)) f,
+        eq-eqb m (2 ^ K .n) l,
+        u,
+      )
 
   -- no number is above 3
   pub refusal-le : labelRefusal K m ≤ 3
@@ -68,3 +81,13 @@ module _ (K : Cabinet) (m : ℕ) where
           let q : Refused (labelRefusal K m) ≡ Refused k = rw a at h in
           let p : labelRefusal K m ≡ k = cc in
           (sym p, λ z. eqb-false (labelRefusal K m) 0 a (p ∙ z))
+
+  pub of-rounds : (r : ℕ) → labelled K m ≡ Rounds r → (labelRefusal K m ≡ 0) × (roundsOf K ≡ r)
+  unfolding labelled
+  of-rounds r =
+      by-cases (λ a. a ≡ Rounds r → (labelRefusal K m ≡ 0) × (roundsOf K ≡ r)) (eqb (labelRefusal K m) 0)
+      (λ z e. (eqb-true (labelRefusal K m) 0 z, cc)) (λ _ e. let q : _≡_ {A = ℕ} 0 1 = cc in absurd (omega arith))
+
+pub labels-written : (K : Cabinet) (before : List ℕ) → labelRefusal K (length before) ≡ 0 → labelsAfter K before ≡ labelsOf K
+unfolding labelsAfter
+labels-written K before e = rw e

@@ -6,17 +6,15 @@ use Prim.Native.Nat.{ℕ, _^_, _≤_}
 use native.Mathlib.Omega.{arith}
 use lib.ListN.{length, replicate, take}
 use lib.Seq.{take-at}
-use borrow.Author.Tests.{eq-eqb, le-leb}
+use borrow.Author.Tests.{eq-eqb}
 use Rattle.cube.specs.Refusal.{first}
-use Rattle.cube.specs.Tables.{isDimension, tableLen}
-use Rattle.cube.proofs.Bools.{and-both}
+use Rattle.cube.specs.Tables.{tableLen}
 use Rattle.cube.proofs.Tables.{nodes-few, table-few}
 use Rattle.groups.specs.Number.{onNumber}
 use Rattle.groups.specs.declared.Number.{Number}
 use Rattle.groups.specs.declared.Number.the-variants as number
-use Rattle.labels.specs.Labelling.{labelRefusal, labelled, labelsAfter}
-use Rattle.labels.specs.declared.Labelled.the-variants.{Rounds}
-use Rattle.labels.proofs.Refusal.{says-rounds}
+use Rattle.labels.specs.Labelling.{labelRefusal, labelled}
+use Rattle.labels.proofs.Refusal.{fits}
 use Rattle.notice.specs.Addresses.{withBits}
 use Rattle.notice.specs.Laws.{ReadNotice, TableOf}
 use Rattle.notice.specs.Notice.{addressesOf, dimensionAt, noticeFrom, noticeOf, noticed, tableAfter}
@@ -25,7 +23,7 @@ use Rattle.notice.specs.declared.Noticed.the-variants.{Notice, Refused}
 use Rattle.notice.proofs.Cases.{on-number, tested-passes, tested-refused}
 use Rattle.notice.proofs.Laws.{notice-laws}
 use Rattle.notice.proofs.Opened.{opened-dimension, opened-notice}
-use Rattle.rule.specs.Cabinet.{Cabinet, cabinet, labelsOf, roundsOf}
+use Rattle.rule.specs.Cabinet.{cabinet, labelsOf}
 use Rattle.rule.proofs.Cabinet.{labels-length}
 use Rattle.lines.specs.Lines.{noticeRefused, room}
 use Rattle.printed.specs.Printed.{Headed, cabinetOf, firstLine, headLine, labelsIn, wantedLen}
@@ -35,15 +33,6 @@ passes : (t : List ℕ) (x : Number) → length t ≡ onNumber x (λ k. 1) (λ n
 unfolding first
 passes t (number.Value n at) e = sym (tested-passes (lengthTests t) refl (rw (eq-eqb (length t) (tableLen n) e)))
 passes t (number.Refused k) e = sym (tested-refused (lengthTests t) refl)
-
--- labelling that is not refused
-pub labels-made : (K : Cabinet) (before : List ℕ) {after : List ℕ} {r : ℕ} → labelRefusal K (length before) ≡ 0 → Rounds r ≡ labelled K (length before)
-    → after ≡ labelsAfter K before → (after ≡ labelsOf K) × (r ≡ roundsOf K)
-labels-made K before {after} {r} fit answer made =
-    let good = says-rounds K before (labelsOf K) 0 (roundsOf K) (sym fit) refl refl refl in
-    let q : Rounds r ≡ Rounds (roundsOf K) = answer ∙ sym (good .0) in
-    let p : r ≡ roundsOf K = cc in
-    (made ∙ sym (good .1), p)
 
 module _ (s : List ℕ) where
   pub none-wanted : {k : ℕ} → number.Refused k ≡ dimensionAt s → 1 ≡ wantedLen s
@@ -99,10 +88,7 @@ module _ (s t : List ℕ) (sized : length t ≡ wantedLen s) where
           ap (cabinet n) after ∙ rw e (ap (λ (k : ℕ). cabinet n (withBits (replicate k 0) (addressesOf s))) same-length)
 
       pub labels-fit : {size : ℕ} → size ≡ 2 ^ n → labelRefusal (cabinet n faults) size ≡ 0
-      unfolding labelRefusal first isDimension
-      labels-fit full =
-          let good = and-both (le-leb 1 n (read .dimension .0)) (le-leb n 12 (read .dimension .1)) in
-          rw (after, good, eq-eqb _ _ (table .sized), eq-eqb _ _ full, table .unused)
+      labels-fit full = rw after (fits (cabinet n (tableAfter s t)) _ (read .dimension) (table .sized) (table .unused) full)
 
       pub cube-head : {nodes end : ℕ} (labels rest out : List ℕ) → nodes ≡ 2 ^ n
           → (take end out ≡ firstLine m (cabinet n faults)) × ((end ≤ room) × (labels ≡ labelsOf (cabinet n faults)))

@@ -14,7 +14,7 @@ use Rattle.notice.proofs.Laws.{notice-laws}
 use Rattle.labels.specs.Labelling as L
 use Rattle.labels.specs.declared.Labelled.{Labelled}
 use Rattle.labels.specs.declared.Labelled.the-variants as labelled
-use Rattle.labels.proofs.Refusal.{fitting}
+use Rattle.labels.proofs.Refusal.{fits, fitting, labels-written, of-rounds}
 use Rattle.hop.specs.Hop as H
 use Rattle.hop.specs.declared.Hopped.{Hopped}
 use Rattle.hop.specs.declared.Decision.the-variants.{Deliver, Hop, Halted}
@@ -36,7 +36,7 @@ use Rattle.promises.specs.Demands.{Demands}
 use Rattle.promises.specs.Library.{Library, rattle, c}
 use Rattle.promises.specs.Refusals.{HopGiven, LabelGiven, NoticeGiven, WalkGiven}
 use Rattle.promises.proofs.Library.{Faithful, rattle-faithful, c-faithful}
-use Rattle.promises.proofs.Outcomes.{answered, labels-kept, labels-written, of-blank, of-decided, of-ended, of-rounds, unrefused}
+use Rattle.promises.proofs.Outcomes.{answered, labels-kept, of-blank, of-decided, of-ended}
 use Rattle.promises.proofs.Refusals.{refusals}
 
 module _ (lib : Library) (F : Faithful lib) where
@@ -67,9 +67,11 @@ module _ (lib : Library) (F : Faithful lib) where
       → length before ≡ 2 ^ n → lib .labels (cabinet n faults) before x after → (rounds : ℕ) × (x ≡ labelled.Rounds rounds)
   notice-labels {bytes} {faults} {before} {after} {old} {n} {m} {taken} {x} r long l =
       let f = F .reads r in
-      let e = notice-laws .accepted bytes old n m taken (sym (f .0)) in
-      let t = notice-laws .written bytes old n m taken (sym (f .0)) in
-      (roundsOf (cabinet n faults), F .labels l .0 ∙ answered (cabinet n faults) (length before) (unrefused n faults (length before) e (subst (TableOf n m (N.addressesOf bytes)) (sym (f .1)) t) long))
+      let d = notice-laws .accepted bytes old n m taken (sym (f .0)) .dimension in
+      let t = subst (TableOf n m (N.addressesOf bytes)) (sym (f .1)) (notice-laws .written bytes old n m taken (sym (f .0))) in (
+        roundsOf (cabinet n faults),
+        F .labels l .0 ∙ answered (cabinet n faults) (length before) (fits (cabinet n faults) (length before) d (t .sized) (t .unused) long),
+      )
 
   walks :
       {K : Cabinet} {before table : List ℕ} {rounds s d : ℕ} {w : Walked} → lib .labels K before (labelled.Rounds rounds) table → Works K s → Works K d

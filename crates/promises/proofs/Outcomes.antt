@@ -1,16 +1,13 @@
 -- What an answer says, by the refusal number that it goes by: an accepted one that no refusal is due, a refused one that its number is.
 use mathlib.Core.List.{List}
 use mathlib.Core.Path.{_≡_, ap, _∙_}
-use Prim.Native.Nat.{ℕ, _^_}
+use Prim.Native.Nat.{ℕ}
 use native.Mathlib.Omega.{arith}
 use lib.Dec.{eqb}
 use lib.ListN.{length}
-use borrow.Author.Tests.{eq-eqb, eqb-true, le-leb, ne-eqb}
+use borrow.Author.Tests.{eqb-true, ne-eqb}
 use Rattle.cube.proofs.Bools.{by-cases}
-use Rattle.cube.specs.Refusal.{first}
-use Rattle.cube.specs.Tables.{isDimension, tableLen}
-use Rattle.rule.specs.Cabinet.{Cabinet, cabinet, labelsOf, roundsOf}
-use Rattle.notice.specs.Laws.{ReadNotice, TableOf}
+use Rattle.rule.specs.Cabinet.{Cabinet, roundsOf}
 use Rattle.labels.specs.Labelling.{labelRefusal, labelled, labelsAfter}
 use Rattle.labels.specs.declared.Labelled.the-variants as labelled
 use Rattle.labels.proofs.Refusal.{of-refused}
@@ -25,16 +22,6 @@ use Rattle.hcube.proofs.Small.{has-row}
 
 -- ---- labelling
 
-pub of-rounds : (K : Cabinet) (m r : ℕ) → labelled K m ≡ labelled.Rounds r → (labelRefusal K m ≡ 0) × (roundsOf K ≡ r)
-unfolding labelled
-of-rounds K m r =
-    by-cases (λ a. a ≡ labelled.Rounds r → (labelRefusal K m ≡ 0) × (roundsOf K ≡ r)) (eqb (labelRefusal K m) 0)
-    (λ z e. (eqb-true (labelRefusal K m) 0 z, cc)) (λ _ e. let q : _≡_ {A = ℕ} 0 1 = cc in absurd (omega arith))
-
-pub labels-written : (K : Cabinet) (before : List ℕ) → labelRefusal K (length before) ≡ 0 → labelsAfter K before ≡ labelsOf K
-unfolding labelsAfter
-labels-written K before e = rw e
-
 pub labels-kept : (K : Cabinet) (before : List ℕ) (k : ℕ) → labelled K (length before) ≡ labelled.Refused k → labelsAfter K before ≡ before
 unfolding labelsAfter
 labels-kept K before k e =
@@ -44,19 +31,6 @@ labels-kept K before k e =
 pub answered : (K : Cabinet) (m : ℕ) → labelRefusal K m ≡ 0 → labelled K m ≡ labelled.Rounds (roundsOf K)
 unfolding labelled
 answered K m e = rw e
-
--- a fault table that an accepted notice left is accepted
-pub unrefused : {s l : List ℕ} {k taken : ℕ} (n : ℕ) (faults : List ℕ) (m : ℕ) → ReadNotice s n k taken → TableOf n k l faults → m ≡ 2 ^ n
-    → labelRefusal (cabinet n faults) m ≡ 0
-unfolding labelRefusal isDimension first
-unrefused n faults m r t e =
-    rw (
-      le-leb 1 n (r .dimension .0),
-      le-leb n 12 (r .dimension .1),
-      eq-eqb (length faults) (tableLen n) (t .sized),
-      eq-eqb m (2 ^ n) e,
-      t .unused,
-    )
 
 -- ---- the hop
 

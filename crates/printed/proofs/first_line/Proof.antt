@@ -1,9 +1,8 @@
 -- `first_line`: labelling does not refuse, so the line is of the labels and rounds that it made.
 use mathlib.Core.Path.{sym, ap₂, _∙_}
 use Rattle.rule.specs.Cabinet.{cabinet}
-use Rattle.labels.proofs.Refusal.{of-refused}
+use Rattle.labels.proofs.Refusal.{labels-written, of-refused, of-rounds}
 use Rattle.lines.specs.Lines.{cubeLine}
-use Rattle.printed.proofs.Heads.{labels-made}
 use borrow.Author.Needs.{needs}
 use Rattle.printed.proofs.first_line.Statement.{statement}
 use Rattle.printed.proofs.first_line.Tie as tie
@@ -41,8 +40,9 @@ returns-2 c =
     let r = line .before .before .before .before in
     let l = r .before .before .before .before in
     let fit = l .before .before .before .before .before .pre .0 in
-    let made = labels-made (cabinet _ _) _ fit (sym (r .labelled .given .1) ∙ l .label .ensures .0) (l .label .ensures .1) in
-    (line .cube-line .ensures .0 ∙ ap₂ (cubeLine _ _) (made .0) (made .1), (line .cube-line .ensures .1, made .0))
+    let count = of-rounds (cabinet _ _) _ _ (sym (l .label .ensures .0) ∙ r .labelled .given .1) .1 in
+    let made = l .label .ensures .1 ∙ labels-written (cabinet _ _) _ fit in
+    (line .cube-line .ensures .0 ∙ ap₂ (cubeLine _ _) made (sym count), (line .cube-line .ensures .1, made))
 
 pub first-line-spec : {M : Type 1} → statement M
 first-line-spec =
