@@ -1,6 +1,9 @@
-// The listing program of document 01: one notice from standard input, then pairs of source and destination. The lines are made by `printed`,
-// whose contracts give their bytes; this program reads, goes from pair to pair, and writes each line as it was made.
+// The listing program of document 01: one notice from standard input, then pairs of source and destination. The lines are made by `lines`
+// and `printed`, whose contracts give their bytes; this program reads, goes from pair to pair, and writes each line as it was made.
 ghost use Prim.Native.Nat.{_≤_};
+ghost use Rattle.lines.specs.Lines.{room};
+ghost use Rattle.notice.specs.Notice.{dimensionOf, noticeOf};
+ghost use Rattle.printed.specs.Printed.{labelsIn};
 ghost use lib.ListN.{length};
 ghost use mathlib.Core.Path.{_≡_};
 use libc::STDIN_FILENO;
@@ -13,26 +16,28 @@ fn say(out: &[u8], end: usize)
     io::write_all(STDOUT_FILENO, &out[..end]);
 }
 
+// A line for each pair behind the notice. Behind a refused notice no bytes are left, so its line is the only one.
 fn list_pairs(n: usize, labels: &[u8], bytes: &[u8], out: &mut [u8])
-    requires { ⌜ length (now out) ≡ 1024 ⌝ }
+    requires { ⌜ (n ≡ dimensionOf (noticeOf (now bytes))) × (now labels ≡ labelsIn (now bytes)) ⌝ }
+    requires { ⌜ length (now out) ≡ room ⌝ }
 {
+    let pairs = notice::tail(bytes);
     let mut at: usize = 0;
-    while at < bytes.len() {
-        let line = printed::line_at(n, labels, bytes, at, out);
+    while at < pairs.len() {
+        let line = printed::line_at(n, labels, pairs, at, out);
         say(out, line.end);
         at = line.next;
     }
 }
 
-// Behind a refused notice no bytes are left, so its line is the only one.
 fn list(bytes: &[u8], faults: &mut [u8], labels: &mut [u8], out: &mut [u8])
     requires { ⌜ length (now faults) ≡ 512 ⌝ }
-    requires { ⌜ (length (now labels) ≡ 4096) × (length (now out) ≡ 1024) ⌝ }
+    requires { ⌜ (length (now labels) ≡ 4096) × (length (now out) ≡ room) ⌝ }
 {
     let head = printed::head_line(bytes, faults, labels, out);
     say(out, head.end);
     let nodes = head.nodes;
-    list_pairs(head.n, &labels[..nodes], notice::tail(bytes), out);
+    list_pairs(head.n, &labels[..nodes], bytes, out);
 }
 
 fn main() {

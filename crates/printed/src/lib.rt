@@ -48,7 +48,7 @@ fn wanted_len(bytes: &[u8]) -> usize
     1
 }
 
-// Labels the nodes of an accepted notice, and makes its first line.
+// Labels the nodes of an accepted notice, and makes its first line. Labelling never refuses such a table, so 0 is never answered.
 fn first_line(n: usize, faulty: usize, faults: &[u8], labels: &mut [u8], out: &mut [u8]) -> usize
     requires { ⌜ labelRefusal (cabinet n (now faults)) (length (now labels)) ≡ 0 ⌝ }
     requires { ⌜ length (now out) ≡ room ⌝ }

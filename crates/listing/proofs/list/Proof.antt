@@ -1,4 +1,4 @@
--- `list`: the labels that the pairs are walked with are the front of their table.
+-- `list`: the pairs are walked with the labels that stand at the front of the table.
 use native.Mathlib.Omega.{arith}
 use lib.ListN.{length-take}
 use borrow.Author.Needs.{needs}
@@ -16,9 +16,6 @@ slice-reshare-prefix-list-pairs c = search needs
 
 slice-aggregate-list-pairs : tie.Need-slice-aggregate-list-pairs
 slice-aggregate-list-pairs c = simp length-take (omega arith)
-
-tail-requires : tie.Need-tail-requires
-tail-requires c κs = search needs
 
 list-pairs-requires : tie.Need-list-pairs-requires
 list-pairs-requires c κs = search needs
@@ -43,7 +40,6 @@ list-spec =
     say-requires
     slice-reshare-prefix-list-pairs
     slice-aggregate-list-pairs
-    tail-requires
     list-pairs-requires
     same-length
     same-length-2

@@ -3,15 +3,19 @@ use mathlib.Core.Path.{_≡_}
 use Prim.Native.Nat.{_-_}
 use native.Mathlib.Omega.{arith}
 use lib.ListN.{length}
+use Rattle.lines.specs.Lines.{room}
 use Rattle.printed.proofs.Pairs.{next-beyond}
 use Rattle.listing.proofs.list_pairs.Statement.{statement}
 use Rattle.listing.proofs.list_pairs.Tie as tie
 
 abbrev Inv-loop : tie.InvT-loop
-Inv-loop n labels bytes out₀ at₀ out at = length out ≡ 1024
+Inv-loop n labels bytes out₀ pairs at₀ out at = length out ≡ room
 
 abbrev μ-loop : tie.MeasureT-loop
-μ-loop n labels bytes out₀ at₀ out at = length bytes - at
+μ-loop n labels bytes out₀ pairs at₀ out at = length pairs - at
+
+tail-requires : tie.Need-tail-requires Inv-loop μ-loop
+tail-requires c κs = tt
 
 loop-holds : tie.Need-loop-holds Inv-loop μ-loop
 loop-holds c = omega arith
@@ -26,8 +30,7 @@ loop-less : tie.Need-loop-less Inv-loop μ-loop
 loop-less c =
     let l = c .before .before .before .before in
     let i = l .before .before .before in
-    let bytes = i .before .before .before .before .args .bytes .now in
-    omega (arith, l .line-at .ensures .1 .0, next-beyond bytes (i .loop .at) (omega arith))
+    omega (arith, l .line-at .ensures .1 .0, next-beyond (i .before .tail .result .now) (i .loop .at) (omega arith))
 
 loop-again : tie.Need-loop-again Inv-loop μ-loop
 loop-again c = omega arith
@@ -44,6 +47,7 @@ list-pairs-spec =
     (tie.spec
     Inv-loop
     μ-loop
+    tail-requires
     loop-holds
     line-at-requires
     say-requires
