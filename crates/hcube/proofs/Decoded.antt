@@ -23,6 +23,7 @@ use Rattle.walk.specs.declared.Ending.{Ending}
 use Rattle.walk.specs.declared.Ending.the-variants as ending
 use Rattle.walk.specs.declared.Walked.{Walked}
 use Rattle.walk.proofs.Local.{spot-lt}
+use Rattle.walk.proofs.Refusals.{walk-good}
 use Rattle.notice.specs.Notice as N
 use Rattle.notice.specs.declared.Noticed.{Noticed}
 use Rattle.notice.specs.declared.Noticed.the-variants as noticed
@@ -30,7 +31,7 @@ use Rattle.notice.proofs.Refusals.{parts, refused-few}
 use Rattle.hcube.specs.Answers.{hasRow, hopNumber, labelNumber, noticeNumber, packed, packedNotice, rowAfter, rowByte, walkNumber, walkedBy}
 use Rattle.hcube.specs.Fits.{WalkFits}
 use Rattle.hcube.specs.Decoded.{Decodes, decisionFrom, endingFrom, hoppedFrom, kindPart, labelledFrom, nodeAt, noticedFrom, refusalPart, valuePart, walkedFrom}
-use Rattle.hcube.proofs.Small.{HopFits, LabelFits, has-row, hop-small, label-small, lent, walk-small, written}
+use Rattle.hcube.proofs.Small.{HopFits, LabelFits, has-row, hop-small, label-small, walk-small, written}
 
 -- ---- the parts of a packed number, and the choice by its refusal
 
@@ -165,9 +166,9 @@ module _ (n s d : ℕ) (labels before : List ℕ) where
   row-back : walk-k ≡ 0 → tab 17 (nodeAt (tab W.rowBytes (rowByte (W.row n lab d s)))) ≡ W.row n lab d s
   unfolding W.row
   row-back e =
-      let l = lent n s d (length labels) (length before) lab e in
+      let p = walk-good n s d (length labels) (length before) lab e .placed in
       row-decoded (λ k. cond (leb k (W.hops n lab d s)) (W.spot n lab d s k) 0)
-      (λ k _. by-cases (λ x. x < 65536) (leb k (W.hops n lab d s)) (λ _. omega (arith, spot-lt n lab d s (l .2) k, nodes-few n (l .0))) (λ _. omega arith))
+      (λ k _. by-cases (λ x. x < 65536) (leb k (W.hops n lab d s)) (λ _. omega (arith, spot-lt n lab d s (p .first) k, nodes-few n (p .small))) (λ _. omega arith))
 
   walk-decoded : walkedFrom (walkNumber (walkedBy n s d labels before)) (rowAfter (walkedBy n s d labels before) before) ≡ walkedBy n s d labels before
   unfolding W.walked W.walkFrom

@@ -3,14 +3,13 @@
 use mathlib.Core.Path.{_≡_, refl}
 use mathlib.Core.Bool.{true, false}
 use mathlib.Core.List.{List}
-use Prim.Native.Nat.{ℕ, _^_, _≤_, _<_}
+use Prim.Native.Nat.{ℕ, _≤_, _<_}
 use native.Mathlib.Omega.{arith}
-use lib.Dec.{eqb, leb}
-use borrow.Author.Tests.{eqb-true, leb-false, not-false}
+use lib.Dec.{eqb}
+use borrow.Author.Tests.{eqb-true}
 use Rattle.cube.specs.Tables.{tab}
-use Rattle.cube.proofs.Bools.{by-cases, or-false}
-use Rattle.cube.proofs.Refusal.{first-le, first-none}
-use Rattle.cube.proofs.Tables.{dimension-is}
+use Rattle.cube.proofs.Bools.{by-cases}
+use Rattle.cube.proofs.Refusal.{first-le}
 use Rattle.rule.specs.Cabinet.{Cabinet}
 use Rattle.rule.proofs.Cabinet.{rounds-few}
 use Rattle.labels.specs.Labelling as L
@@ -22,7 +21,7 @@ use Rattle.hop.specs.declared.Decision.{Decision}
 use Rattle.hop.specs.declared.Hopped.{Hopped}
 use Rattle.hop.specs.declared.Decision.the-variants.{Deliver, Hop, Halted}
 use Rattle.walk.specs.declared.Walked.{Walked}
-use Rattle.walk.proofs.Steps.{hops-within}
+use Rattle.walk.proofs.Refusals.{hops-few, walk-good}
 use Rattle.hop.proofs.Local.{hop-dim}
 use Rattle.hop.proofs.Refusals.{hop-good}
 use Rattle.hcube.specs.Answers.{hasRow, rowAfter, rowByte}
@@ -76,22 +75,10 @@ module _ (n s d m room : ℕ) (lab : ℕ → ℕ) where
   unfolding W.walkRefusal
   walk-refusal = first-le 12 (W.walkTests n s d m room lab) refl
 
-  -- where nothing is refused, the dimension, the row's length and the source are good
-  pub lent : W.walkRefusal n s d m room lab ≡ 0 → (n ≤ 12) × (room ≡ W.rowBytes) × (s < 2 ^ n)
-  unfolding W.walkRefusal
-  lent e =
-      let t = first-none 12 (W.walkTests n s d m room lab) refl e in (
-        dimension-is n (not-false _ (t .0)) .1,
-        eqb-true _ _ (not-false _ (t .1 .1 .0)),
-        leb-false (2 ^ n) s (or-false (leb (2 ^ n) s) (leb (2 ^ n) d) (t .1 .1 .1 .0) .0),
-      )
-
-  -- and the last decision is no hop, so the walk has a row to write
+  -- where nothing is refused, the last decision is no hop, so the walk has a row to write
   pub has-row : W.walkRefusal n s d m room lab ≡ 0 → hasRow (W.walkFrom n lab d s .ending) ≡ true
-  unfolding W.walkRefusal W.walkFrom
-  has-row e =
-      let t = first-none 12 (W.walkTests n s d m room lab) refl e in
-      ends-well (W.last n lab d s) (not-false _ (t .1 .1 .1 .1 .1 .1 .1 .0))
+  unfolding W.walkFrom
+  has-row e = ends-well (W.last n lab d s) (walk-good n s d m room lab e .stops)
 
   ending-few : (x : Decision) → W.refusalOf (W.endingOf x) < 256
   ending-few Deliver = omega arith
@@ -100,16 +87,17 @@ module _ (n s d m room : ℕ) (lab : ℕ → ℕ) where
 
   pub walk-small : WalkFits (W.walked n s d m room lab)
   unfolding W.walked W.walkFrom W.refused
-  walk-small =
-      by-cases WalkFits (eqb (W.walkRefusal n s d m room lab) 0)
-      (λ e. (ending-few (W.last n lab d s), omega (arith, lent (eqb-true (W.walkRefusal n s d m room lab) 0 e) .0, hops-within n lab d s)))
-      (λ _. (omega (arith, walk-refusal), omega arith))
+  walk-small = (
+    by-cases (λ (w : Walked). W.refusalOf (w .ending) < 256) (eqb (W.walkRefusal n s d m room lab) 0) (λ _. ending-few (W.last n lab d s))
+        (λ _. omega (arith, walk-refusal)),
+    omega (arith, hops-few n s d m room lab),
+  )
 
   pub row-fits : RowFits (W.walked n s d m room lab) room
   unfolding W.walked W.refused
   row-fits =
       by-cases (λ w. RowFits w room) (eqb (W.walkRefusal n s d m room lab) 0)
-      (λ e _. lent (eqb-true (W.walkRefusal n s d m room lab) 0 e) .1)
+      (λ e _. walk-good n s d m room lab (eqb-true (W.walkRefusal n s d m room lab) 0 e) .lent)
       (λ _ h. let z : _≡_ {A = ℕ} 0 1 = cc in absurd (omega arith))
 
 pub written : (w : Walked) (before : List ℕ) → hasRow (w .ending) ≡ true → tab W.rowBytes (rowByte (w .row)) ≡ rowAfter w before

@@ -1,4 +1,3 @@
-pub mod Walks
 pub mod Pairs
 pub mod Heads
 pub mod Laws

@@ -2,30 +2,28 @@
 -- is; all labels are in order, so the question is refused nowhere on the way, and its decision is the walk's own.
 use mathlib.Core.Path.{_≡_, refl, sym, ap, _∙_}
 use mathlib.Core.Logic.{_⊎_, inl, inr}
-use mathlib.Core.Bool.{true, false, not}
-use mathlib.Core.List.{[], _∷_, _++_}
+use mathlib.Core.Bool.{true, false}
 use Prim.Native.Nat.{ℕ, zero, suc, _+_, _^_, _≤_, _<_}
 use native.Mathlib.Omega.{arith}
-use lib.Dec.{eqb, ltb}
-use borrow.Author.Tests.{eqb-false, le-ltb, lt-leb, ltb-false, ne-eqb, not-false}
+use lib.Dec.{ltb}
+use borrow.Author.Tests.{eq-eqb, le-ltb, lt-leb, ne-eqb}
 use Rattle.cube.specs.Cube.{flip}
-use Rattle.cube.specs.Refusal.{first, _⇒_}
+use Rattle.cube.specs.Refusal.{first}
 use Rattle.cube.specs.Tables.{highest}
 use Rattle.cube.proofs.Bools.{clash}
 use Rattle.cube.proofs.Cube.{flip-lt}
-use Rattle.cube.proofs.Refusal.{None, first-none}
-use Rattle.cube.proofs.Search.{none-some, some-none}
+use Rattle.cube.proofs.Search.{some-none}
 use Rattle.scans.specs.Hit.{Hit, scan1, scan2, scan3, scan4, scan5}
-use Rattle.hop.specs.Helpers.{Placed}
 use Rattle.hop.specs.Hop.{hop, hopRefusal}
 use Rattle.hop.specs.declared.Decision.{Decision}
 use Rattle.hop.specs.declared.Decision.the-variants.{Deliver, Hop, Halted}
 use Rattle.hop.proofs.Local.{hop-dim}
-use Rattle.hop.proofs.Refusals.{good-place, hop-decides}
-use Rattle.walk.specs.Walk.{endingOf, hops, last, onto, rowBytes, spot, stops, tableTests, turn, walkFrom, walkRefusal, walkTests, walked}
+use Rattle.hop.proofs.Refusals.{hop-decides}
+use Rattle.walk.specs.Walk.{endingOf, hops, last, onto, spot, stops, turn, walkFrom, walkRefusal, walked}
 use Rattle.walk.specs.declared.Ending.the-variants as ending
 use Rattle.walk.specs.declared.Walked.{Walked}
 use Rattle.walk.proofs.Local.{spot-lt}
+use Rattle.walk.proofs.Refusals.{WalkGood, walk-good}
 use Rattle.walk.proofs.Steps.{hops-within, spot-next, spot-zero}
 use Rattle.theorems.specs.Picked.{Picked, arrived, took, stopped}
 use Rattle.theorems.specs.Repeats.{Decides, Repeats, WalkRepeats}
@@ -58,36 +56,29 @@ spot-works n lab d s h (suc k) =
 -- ---- a walk that is not refused
 
 module _ (n s d m room : ℕ) (lab : ℕ → ℕ) (ok : walkRefusal n s d m room lab ≡ 0) where
-  passed : None (walkTests n s d m room lab)
-  unfolding walkRefusal
-  passed = first-none 8 (walkTests n s d m room lab) refl ok
-
-  there : Placed n s d m
-  there = good-place n s d m (not (eqb room rowBytes)) (tableTests n s d lab ++ (not (stops (last n lab d s)) ⇒ 8 ∷ [])) passed
+  abbrev G : WalkGood n s d m room lab
+  G = walk-good n s d m room lab ok
 
   abbrev at : ℕ → ℕ
   at = spot n lab d s
 
   inside : (k : ℕ) → at k < 2 ^ n
-  inside = spot-lt n lab d s (there .first)
-
-  low : (x : ℕ) → x < 2 ^ n → lab x ≤ 3
-  low x h = ltb-false highest (lab x) (none-some (2 ^ n) (λ y. ltb highest (lab y)) (passed .1 .1 .1 .1 .0) x h)
+  inside = spot-lt n lab d s (G .placed .first)
 
   works : (k : ℕ) → lab (at k) ≤ 2
-  works = spot-works n lab d s (omega (arith, low s (there .first), eqb-false (lab s) 3 (passed .1 .1 .1 .1 .1 .0)))
+  works = spot-works n lab d s (omega (arith, G .low s (G .placed .first), G .source))
 
   unrefused : (k : ℕ) → hopRefusal n (at k) d m lab ≡ 0
   unfolding hopRefusal first
   unrefused k =
       rw (
-        passed .0,
-        passed .1 .0,
+        G .dimension,
+        eq-eqb m (2 ^ n) (G .placed .sized),
         lt-leb (2 ^ n) (at k) (inside k),
-        lt-leb (2 ^ n) d (there .second),
-        le-ltb highest (lab (at k)) (low (at k) (inside k)),
+        lt-leb (2 ^ n) d (G .placed .second),
+        le-ltb highest (lab (at k)) (G .low (at k) (inside k)),
         some-none n (λ i. ltb highest (lab (flip i (at k))))
-            (λ i h. le-ltb highest (lab (flip i (at k))) (low (flip i (at k)) (flip-lt n i (at k) h (inside k)))),
+            (λ i h. le-ltb highest (lab (flip i (at k))) (G .low (flip i (at k)) (flip-lt n i (at k) h (inside k)))),
         ne-eqb (lab (at k)) 3 (λ e. omega (arith, works k)),
       )
 
@@ -101,7 +92,7 @@ module _ (n s d m room : ℕ) (lab : ℕ → ℕ) (ok : walkRefusal n s d m room
 
   used : (k : ℕ) → k ≤ hops n lab d s → place w k ≡ at k
   unfolding walkFrom
-  used = row-used n lab d s (there .small)
+  used = row-used n lab d s (G .placed .small)
 
   steps : (k : ℕ) → k < hops n lab d s
       → (i : ℕ) × (i < n) × Decides n d m lab (place w k) (Hop i) × (place w (k + 1) ≡ flip i (place w k))
@@ -122,7 +113,7 @@ module _ (n s d m room : ℕ) (lab : ℕ → ℕ) (ok : walkRefusal n s d m room
   ends : (Decides n d m lab (place w (hops n lab d s)) Deliver × (endingOf (last n lab d s) ≡ ending.Delivered))
       ⊎ (Decides n d m lab (place w (hops n lab d s)) Halted × (endingOf (last n lab d s) ≡ ending.Halted))
   unfolding last stops
-  ends = go (last n lab d s) refl (not-false (stops (last n lab d s)) (passed .1 .1 .1 .1 .1 .1 .1 .0))
+  ends = go (last n lab d s) refl (G .stops)
     where
       here : (x : Decision) → last n lab d s ≡ x → Decides n d m lab (place w (hops n lab d s)) x
       here x e = rw (used (hops n lab d s) (omega arith)) (decides (hops n lab d s) x e)

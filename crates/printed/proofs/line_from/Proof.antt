@@ -2,7 +2,7 @@
 use mathlib.Core.Path.{sym, ap, _∙_}
 use Rattle.lines.specs.Lines.{pairLine}
 use Rattle.printed.proofs.Pairs.{second-read, second-refused}
-use Rattle.printed.proofs.Walks.{hops-few}
+use Rattle.walk.proofs.Refusals.{hops-few}
 use borrow.Author.Needs.{needs}
 use Rattle.printed.proofs.line_from.Statement.{statement}
 use Rattle.printed.proofs.line_from.Tie as tie
