@@ -43,6 +43,8 @@ kernel_packages() { # RELEASE
 # The headers' own programs are for x86-64: puts a script that calls the emulator in the place of each.
 emulate_programs() { # FOLDER FINAL_FOLDER
     emulator=$(dirname "$(dirname "$(rt doc)")")/on/$machine/toolchain/bin/qemu-x86_64
+    # the loader's absolute link would lead out of the folder
+    ln -sf ../lib/x86_64-linux-gnu/ld-linux-x86-64.so.2 "$1/lib64/ld-linux-x86-64.so.2"
     find "$1"/usr/lib/linux-kbuild-* -type f -perm -u+x | sort | while read -r program; do
         [ "$(head -c 4 "$program" | tail -c 3)" = ELF ] || continue
         mv "$program" "$program.x86_64"
