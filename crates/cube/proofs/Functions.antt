@@ -20,6 +20,7 @@ use Rattle.cube.proofs.unused_set
 abbrev pub distance : Function distance-claims.ended (ℕ × ℕ) ℕ Nothing
 distance =
     record {
+      clauses = λ w. distance-claims.clauses (w .𝓤) (w .H) (w .𝓖 .A) (w .𝓜 .mem) (w .𝓡 .run);
       asked = distance-claims.Reads.Asked;
       post = distance-claims.Reads.Post;
       handed = λ κs a. (a .0, a .1 .0);
@@ -28,7 +29,7 @@ distance =
     }
 
 pub distance-asks : AsksNothing distance
-distance-asks κs a = tt
+distance-asks = record { asked = λ κs a. tt; empty = λ w κs a. (tt, refl) }
 
 pub distance-says : Says distance (λ i. dist (i .0) (i .1)) (λ i. tt)
 distance-says = record { says = λ κs a r e p. (p, refl) }
@@ -36,6 +37,7 @@ distance-says = record { says = λ κs a r e p. (p, refl) }
 abbrev pub is-dimension : Function is_dimension.ended ℕ Bool Nothing
 is-dimension =
     record {
+      clauses = λ w. is_dimension.clauses (w .𝓤) (w .H) (w .𝓖 .A) (w .𝓜 .mem) (w .𝓡 .run);
       asked = is_dimension.Reads.Asked;
       post = is_dimension.Reads.Post;
       handed = λ κs a. a .0;
@@ -44,7 +46,7 @@ is-dimension =
     }
 
 pub is-dimension-asks : AsksNothing is-dimension
-is-dimension-asks κs a = tt
+is-dimension-asks = record { asked = λ κs a. tt; empty = λ w κs a. (tt, refl) }
 
 pub is-dimension-says : Says is-dimension isDimension (λ i. tt)
 is-dimension-says = record { says = λ κs a r e p. (p, refl) }
@@ -52,6 +54,7 @@ is-dimension-says = record { says = λ κs a r e p. (p, refl) }
 abbrev pub nodes : Function nodes-claims.ended ℕ ℕ Nothing
 nodes =
     record {
+      clauses = λ w. nodes-claims.clauses (w .𝓤) (w .H) (w .𝓖 .A) (w .𝓜 .mem) (w .𝓡 .run);
       asked = nodes-claims.Reads.Asked;
       post = nodes-claims.Reads.Post;
       handed = λ κs a. a .0;
@@ -65,6 +68,7 @@ nodes-says = record { says = λ κs a r e p. (p, refl) }
 abbrev pub neighbour : Function neighbour-claims.ended (ℕ × ℕ) ℕ Nothing
 neighbour =
     record {
+      clauses = λ w. neighbour-claims.clauses (w .𝓤) (w .H) (w .𝓖 .A) (w .𝓜 .mem) (w .𝓡 .run);
       asked = neighbour-claims.Reads.Asked;
       post = neighbour-claims.Reads.Post;
       handed = λ κs a. (a .0, a .1 .0);
@@ -78,6 +82,7 @@ neighbour-says = record { says = λ κs a r e p. (p, refl) }
 abbrev pub table-len : Function table_len.ended ℕ ℕ Nothing
 table-len =
     record {
+      clauses = λ w. table_len.clauses (w .𝓤) (w .H) (w .𝓖 .A) (w .𝓜 .mem) (w .𝓡 .run);
       asked = table_len.Reads.Asked;
       post = table_len.Reads.Post;
       handed = λ κs a. a .0;
@@ -91,6 +96,7 @@ table-len-says = record { says = λ κs a r e p. (p, refl) }
 abbrev pub node-bit : Function node_bit.ended (List ℕ × ℕ) Bool Nothing
 node-bit =
     record {
+      clauses = λ w. node_bit.clauses (w .𝓤) (w .H) (w .𝓖 .A) (w .𝓜 .mem) (w .𝓡 .run);
       asked = node_bit.Reads.Asked;
       post = node_bit.Reads.Post;
       handed = λ κs a. (now (a .0), a .1 .0);
@@ -104,6 +110,7 @@ node-bit-says = record { says = λ κs a r e p. (p, refl) }
 abbrev pub unused-set : Function unused_set.ended (ℕ × List ℕ) Bool Nothing
 unused-set =
     record {
+      clauses = λ w. unused_set.clauses (w .𝓤) (w .H) (w .𝓖 .A) (w .𝓜 .mem) (w .𝓡 .run);
       asked = unused_set.Reads.Asked;
       post = unused_set.Reads.Post;
       handed = λ κs a. (a .0, now (a .1 .0));

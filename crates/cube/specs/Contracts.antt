@@ -2,13 +2,16 @@
 -- `Post` of its `ensures`. Each crate gathers its public functions with these claims in proofs/Functions.antt, and the promises speak of them and of no copy: a
 -- contract that is weakened takes its promises with it.
 use mathlib.Core.Path.{_≡_}
+use base.Logic.{emp}
+use borrow.Fn.World.{World}
 use contract.Lifetimes.{Lfts}
-use denote.Triple.Clauses.{AtExit, Ended}
+use denote.Triple.Clauses.{AtExit, Clauses, Ended}
 use denote.Triple.Entry.{Args, Res}
 
--- a function: its signature T, the two claims, and how it is seen from outside: the contents A of what it is handed, X of its answer, and B of what it
--- leaves in the buffers that it was lent
-pub record Function (T : Ended) (A X B : Type 0) : Type 1 where
+-- a function: its signature T, its clauses, the two claims, and how it is seen from outside: the contents A of what it is handed, X of its answer, and B of
+-- what it leaves in the buffers that it was lent
+pub record Function (T : Ended) (A X B : Type 0) : Type 2 where
+  pub clauses : (w : World) → Clauses (w .𝓤) T
   pub asked : (κs : Lfts (T .signature .lifetimes)) → Args (T .signature) κs → Type 0
   pub post : (κs : Lfts (T .signature .lifetimes)) → Args (T .signature) κs → Res (T .signature) κs → AtExit T κs → Type 0
   pub handed : (κs : Lfts (T .signature .lifetimes)) → Args (T .signature) κs → A
@@ -35,6 +38,8 @@ module _ {T : Ended} {A X B : Type 0} (f : Function T A X B) where
   abbrev pub Settles : Type 0
   Settles = (i : A) (x x′ : X) (o o′ : B) → May i x o → May i x′ o′ → (x ≡ x′) × (o ≡ o′)
 
-  -- nothing is asked of its caller
-  abbrev pub AsksNothing : Type 0
-  AsksNothing = (κs : Lfts (T .signature .lifetimes)) (a : Args (T .signature) κs) → f .asked κs a
+  -- nothing is asked of its caller: the claim holds of everything that is handed, and the `requires` that it was made of is empty
+  pub record AsksNothing : Type 2 where
+    pub asked : (κs : Lfts (T .signature .lifetimes)) (a : Args (T .signature) κs) → f .asked κs a
+    pub empty : (w : World) (κs : Lfts (T .signature .lifetimes)) (a : Args (T .signature) κs)
+        → (g : f .clauses w κs a .ghost) × (f .clauses w κs a .requires g ≡ emp (w .𝓤))

@@ -13,6 +13,7 @@ use Rattle.groups.proofs.number_at
 abbrev pub number-at : Function number_at.ended (List ℕ × ℕ) Number Nothing
 number-at =
     record {
+      clauses = λ w. number_at.clauses (w .𝓤) (w .H) (w .𝓖 .A) (w .𝓜 .mem) (w .𝓡 .run);
       asked = number_at.Reads.Asked;
       post = number_at.Reads.Post;
       handed = λ κs a. (now (a .0), a .1 .0);
@@ -21,7 +22,7 @@ number-at =
     }
 
 pub number-at-asks : AsksNothing number-at
-number-at-asks κs a = tt
+number-at-asks = record { asked = λ κs a. tt; empty = λ w κs a. (tt, refl) }
 
 pub number-at-says : Says number-at (λ i. numberAt (i .0) (i .1)) (λ i. tt)
 number-at-says = record { says = λ κs a r e p. (p, refl) }

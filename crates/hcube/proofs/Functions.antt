@@ -21,6 +21,7 @@ use Rattle.hcube.proofs.hcube_read_notice
 abbrev pub label : Function hcube_label.ended (ℕ × List ℕ × List ℕ) ℕ (List ℕ)
 label =
     record {
+      clauses = λ w. hcube_label.clauses (w .𝓤) (w .H) (w .𝓖 .A) (w .𝓜 .mem) (w .𝓡 .run);
       asked = hcube_label.Reads.Asked;
       post = hcube_label.Reads.Post;
       handed = λ κs a. (a .0, now (a .1 .0), now (a .1 .1 .0));
@@ -29,7 +30,7 @@ label =
     }
 
 pub label-asks : AsksNothing label
-label-asks κs a = tt
+label-asks = record { asked = λ κs a. tt; empty = λ w κs a. (tt, refl) }
 
 pub label-says : Says label (λ i. labelNumber (labelled (cabinet (i .0) (i .1)) (length (i .2)))) (λ i. labelsAfter (cabinet (i .0) (i .1)) (i .2))
 label-says = record { says = λ κs a r e p. (p .0, p .1) }
@@ -37,6 +38,7 @@ label-says = record { says = λ κs a r e p. (p .0, p .1) }
 abbrev pub hop : Function hcube_hop.ended (ℕ × ℕ × ℕ × List ℕ) ℕ Nothing
 hop =
     record {
+      clauses = λ w. hcube_hop.clauses (w .𝓤) (w .H) (w .𝓖 .A) (w .𝓜 .mem) (w .𝓡 .run);
       asked = hcube_hop.Reads.Asked;
       post = hcube_hop.Reads.Post;
       handed = λ κs a. (a .0, a .1 .0, a .1 .1 .0, now (a .1 .1 .1 .0));
@@ -45,7 +47,7 @@ hop =
     }
 
 pub hop-asks : AsksNothing hop
-hop-asks κs a = tt
+hop-asks = record { asked = λ κs a. tt; empty = λ w κs a. (tt, refl) }
 
 pub hop-says : Says hop (λ i. hopNumber (hopped (i .0) (i .1) (i .2) (length (i .3)) (labelIn (i .3)))) (λ i. tt)
 hop-says = record { says = λ κs a r e p. (p, refl) }
@@ -53,6 +55,7 @@ hop-says = record { says = λ κs a r e p. (p, refl) }
 abbrev pub walk : Function hcube_walk.ended (ℕ × ℕ × ℕ × List ℕ × List ℕ) ℕ (List ℕ)
 walk =
     record {
+      clauses = λ w. hcube_walk.clauses (w .𝓤) (w .H) (w .𝓖 .A) (w .𝓜 .mem) (w .𝓡 .run);
       asked = hcube_walk.Reads.Asked;
       post = hcube_walk.Reads.Post;
       handed = λ κs a. (a .0, a .1 .0, a .1 .1 .0, now (a .1 .1 .1 .0), now (a .1 .1 .1 .1 .0));
@@ -61,7 +64,7 @@ walk =
     }
 
 pub walk-asks : AsksNothing walk
-walk-asks κs a = tt
+walk-asks = record { asked = λ κs a. tt; empty = λ w κs a. (tt, refl) }
 
 pub walk-says : Says walk (λ i. walkNumber (walkedBy (i .0) (i .1) (i .2) (i .3) (i .4))) (λ i. rowAfter (walkedBy (i .0) (i .1) (i .2) (i .3) (i .4)) (i .4))
 walk-says = record { says = λ κs a r e p. (p .0, p .1) }
@@ -69,6 +72,7 @@ walk-says = record { says = λ κs a r e p. (p .0, p .1) }
 abbrev pub read-notice : Function hcube_read_notice.ended (List ℕ × List ℕ) ℕ (List ℕ)
 read-notice =
     record {
+      clauses = λ w. hcube_read_notice.clauses (w .𝓤) (w .H) (w .𝓖 .A) (w .𝓜 .mem) (w .𝓡 .run);
       asked = hcube_read_notice.Reads.Asked;
       post = hcube_read_notice.Reads.Post;
       handed = λ κs a. (now (a .0), now (a .1 .0));
@@ -77,7 +81,7 @@ read-notice =
     }
 
 pub read-notice-asks : AsksNothing read-notice
-read-notice-asks κs a = tt
+read-notice-asks = record { asked = λ κs a. tt; empty = λ w κs a. (tt, refl) }
 
 pub read-notice-says : Says read-notice (λ i. noticeNumber (noticed (i .0) (i .1))) (λ i. tableAfter (i .0) (i .1))
 read-notice-says = record { says = λ κs a r e p. (p .0, p .1) }

@@ -20,6 +20,7 @@ use Rattle.hop.proofs.hop_at
 abbrev pub hop : Function hop-claims.ended (ℕ × ℕ × ℕ × List ℕ) Hopped Nothing
 hop =
     record {
+      clauses = λ w. hop-claims.clauses (w .𝓤) (w .H) (w .𝓖 .A) (w .𝓜 .mem) (w .𝓡 .run);
       asked = hop-claims.Reads.Asked;
       post = hop-claims.Reads.Post;
       handed = λ κs a. (a .0, a .1 .0, a .1 .1 .0, now (a .1 .1 .1 .0));
@@ -28,7 +29,7 @@ hop =
     }
 
 pub hop-asks : AsksNothing hop
-hop-asks κs a = tt
+hop-asks = record { asked = λ κs a. tt; empty = λ w κs a. (tt, refl) }
 
 pub hop-says : Says hop (λ i. spec.hopped (i .0) (i .1) (i .2) (length (i .3)) (labelIn (i .3))) (λ i. tt)
 hop-says = record { says = λ κs a r e p. (p, refl) }
@@ -36,6 +37,7 @@ hop-says = record { says = λ κs a r e p. (p, refl) }
 abbrev pub place-refusal : Function place_refusal.ended (ℕ × ℕ × ℕ × ℕ × Bool) ℕ Nothing
 place-refusal =
     record {
+      clauses = λ w. place_refusal.clauses (w .𝓤) (w .H) (w .𝓖 .A) (w .𝓜 .mem) (w .𝓡 .run);
       asked = place_refusal.Reads.Asked;
       post = place_refusal.Reads.Post;
       handed = λ κs a. (a .0, a .1 .0, a .1 .1 .0, a .1 .1 .1 .0, a .1 .1 .1 .1 .0);
@@ -44,7 +46,7 @@ place-refusal =
     }
 
 pub place-refusal-asks : AsksNothing place-refusal
-place-refusal-asks κs a = tt
+place-refusal-asks = record { asked = λ κs a. tt; empty = λ w κs a. (tt, refl) }
 
 pub place-refusal-says : Says place-refusal (λ i. placeRefusal (i .0) (i .1) (i .2) (i .3) (i .4)) (λ i. tt)
 place-refusal-says = record { says = λ κs a r e p. (p, refl) }
@@ -52,6 +54,7 @@ place-refusal-says = record { says = λ κs a r e p. (p, refl) }
 abbrev pub hop-at : Function hop_at.ended (ℕ × ℕ × ℕ × List ℕ) Decision Nothing
 hop-at =
     record {
+      clauses = λ w. hop_at.clauses (w .𝓤) (w .H) (w .𝓖 .A) (w .𝓜 .mem) (w .𝓡 .run);
       asked = hop_at.Reads.Asked;
       post = hop_at.Reads.Post;
       handed = λ κs a. (a .0, a .1 .0, a .1 .1 .0, now (a .1 .1 .1 .0));

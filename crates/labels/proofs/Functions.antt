@@ -1,6 +1,7 @@
 -- The crate's public functions as they are seen from outside, each with the claims that the check makes of its clauses, and what its contract says: the answer, and
 -- what is left of what was lent, for whatever is handed; and that an entry point asks nothing of its caller.
 use mathlib.Core.List.{List}
+use mathlib.Core.Path.{refl}
 use Prim.Native.Nat.{ℕ}
 use denote.Ref.{now}
 use lib.ListN.{length}
@@ -14,6 +15,7 @@ use Rattle.labels.proofs.label as label-claims
 abbrev pub label : Function label-claims.ended (ℕ × List ℕ × List ℕ) Labelled (List ℕ)
 label =
     record {
+      clauses = λ w. label-claims.clauses (w .𝓤) (w .H) (w .𝓖 .A) (w .𝓜 .mem) (w .𝓡 .run);
       asked = label-claims.Reads.Asked;
       post = label-claims.Reads.Post;
       handed = λ κs a. (a .0, now (a .1 .0), now (a .1 .1 .0));
@@ -22,7 +24,7 @@ label =
     }
 
 pub label-asks : AsksNothing label
-label-asks κs a = tt
+label-asks = record { asked = λ κs a. tt; empty = λ w κs a. (tt, refl) }
 
 pub label-says : Says label (λ i. labelled (cabinet (i .0) (i .1)) (length (i .2))) (λ i. labelsAfter (cabinet (i .0) (i .1)) (i .2))
 label-says = record { says = λ κs a r e p. (p .0, p .1) }

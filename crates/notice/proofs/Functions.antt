@@ -15,6 +15,7 @@ use Rattle.notice.proofs.tail as tail-claims
 abbrev pub read : Function read-claims.ended (List ℕ × List ℕ) Noticed (List ℕ)
 read =
     record {
+      clauses = λ w. read-claims.clauses (w .𝓤) (w .H) (w .𝓖 .A) (w .𝓜 .mem) (w .𝓡 .run);
       asked = read-claims.Reads.Asked;
       post = read-claims.Reads.Post;
       handed = λ κs a. (now (a .0), now (a .1 .0));
@@ -23,7 +24,7 @@ read =
     }
 
 pub read-asks : AsksNothing read
-read-asks κs a = tt
+read-asks = record { asked = λ κs a. tt; empty = λ w κs a. (tt, refl) }
 
 pub read-says : Says read (λ i. noticed (i .0) (i .1)) (λ i. tableAfter (i .0) (i .1))
 read-says = record { says = λ κs a r e p. (p .0, p .1) }
@@ -32,6 +33,7 @@ read-says = record { says = λ κs a r e p. (p .0, p .1) }
 abbrev pub tail : Function tail-claims.ended (List ℕ × (ℕ × ℕ)) (List ℕ × (ℕ × ℕ)) Nothing
 tail =
     record {
+      clauses = λ w. tail-claims.clauses (w .𝓤) (w .H) (w .𝓖 .A) (w .𝓜 .mem) (w .𝓡 .run);
       asked = tail-claims.Reads.Asked;
       post = tail-claims.Reads.Post;
       handed = λ κs a. (now (a .0), a .0 .ptr);
@@ -40,7 +42,7 @@ tail =
     }
 
 pub tail-asks : AsksNothing tail
-tail-asks κs a = tt
+tail-asks = record { asked = λ κs a. tt; empty = λ w κs a. (tt, refl) }
 
 pub tail-says : Says tail (λ i. (drop (tailAt (i .0)) (i .0), (i .1 .0, i .1 .1 + tailAt (i .0)))) (λ i. tt)
 tail-says = record { says = λ κs a r e p. (ap₂ (λ (s : List ℕ) (q : ℕ × ℕ). (s, q)) (p .0) (p .1), refl) }

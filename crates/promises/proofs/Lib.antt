@@ -7,5 +7,6 @@ pub mod Demands
 pub mod InC
 pub mod InRattle
 pub mod Answers
+pub mod Tied
 pub mod Settled
 pub mod Worked

@@ -39,7 +39,7 @@ pub record Settled : Type 0 where
   pub cube-unused-set : Settles cube.unused-set
 
 -- all but those last six
-pub record Unasked : Type 0 where
+pub record Unasked : Type 2 where
   pub hcube-label : AsksNothing hcube.label
   pub hcube-hop : AsksNothing hcube.hop
   pub hcube-walk : AsksNothing hcube.walk

@@ -35,7 +35,7 @@ new-clauses w = new-claims.clauses (w .𝓤) (w .H) (w .𝓖 .A) (w .𝓜 .mem) 
 abbrev new-requires : (w : World) (κs : Lfts 1) (a : Args new-claims.signature κs) → Reads w (new-clauses w κs a .requires tt)
 new-requires w κs a = search reads
 
-abbrev new-ensures :
+abbrev pub new-ensures :
     (w : World) (κs : Lfts 1) (a : Args new-claims.signature κs) (r : Res new-claims.signature κs) (e : AtExit new-claims.ended κs)
     → Reads w (new-clauses w κs a .ensures tt r e)
 new-ensures w κs a r e = search reads
@@ -43,15 +43,16 @@ new-ensures w κs a r e = search reads
 abbrev pub new : Function new-claims.ended (RefT (List ℕ)) Reader Nothing
 new =
     record {
+      clauses = new-clauses;
       asked = λ κs a. AllOf (new-requires w₀ κs a .owes);
-      post = λ κs a r e. AllOf (new-ensures w₀ κs a r e .owes);
+      post = λ κs a r e. AllOf (new-ensures w₀ κs a r e .tells);
       handed = λ κs a. a .0;
       answered = λ κs r. r;
       left = λ κs e. tt;
     }
 
 pub new-asks : AsksNothing new
-new-asks κs a = tt
+new-asks = record { asked = λ κs a. tt; empty = λ w κs a. (tt, refl) }
 
 pub new-says : Says new (λ i. record { bytes = i; at = 0 }) (λ i. tt)
 new-says = record { says = λ κs a r e p. (ap₂ (λ b t. record { bytes = b; at = t }) (p .0) (p .1), refl) }
@@ -64,7 +65,7 @@ next-clauses w = next-claims.clauses (w .𝓤) (w .H) (w .𝓖 .A) (w .𝓜 .mem
 abbrev next-requires : (w : World) (κs : Lfts 2) (a : Args next-claims.signature κs) → Reads w (next-clauses w κs a .requires tt)
 next-requires w κs a = search reads
 
-abbrev next-ensures :
+abbrev pub next-ensures :
     (w : World) (κs : Lfts 2) (a : Args next-claims.signature κs) (r : Res next-claims.signature κs) (e : AtExit next-claims.ended κs)
     → Reads w (next-clauses w κs a .ensures tt r e)
 next-ensures w κs a r e = search reads
@@ -72,15 +73,16 @@ next-ensures w κs a r e = search reads
 abbrev pub next : Function next-claims.ended Reader Number Reader
 next =
     record {
+      clauses = next-clauses;
       asked = λ κs a. AllOf (next-requires w₀ κs a .owes);
-      post = λ κs a r e. AllOf (next-ensures w₀ κs a r e .owes);
+      post = λ κs a r e. AllOf (next-ensures w₀ κs a r e .tells);
       handed = λ κs a. now (a .0);
       answered = λ κs r. r;
       left = λ κs e. now (e .0);
     }
 
 pub next-asks : AsksNothing next
-next-asks κs a = tt
+next-asks = record { asked = λ κs a. tt; empty = λ w κs a. (tt, refl) }
 
 pub next-says : Says next (λ i. numberAt (now (i .bytes)) (i .at)) (λ i. record { bytes = i .bytes; at = placeAfter (now (i .bytes)) (i .at) })
 next-says = record { says = λ κs a r e p. (p .0, ap₂ (λ b t. record { bytes = b; at = t }) (p .1 .0) (p .1 .1)) }
@@ -90,6 +92,7 @@ next-says = record { says = λ κs a r e p. (p .0, ap₂ (λ b t. record { bytes
 abbrev pub next-at : Function next_at.ended (List ℕ × ℕ) Step Nothing
 next-at =
     record {
+      clauses = λ w. next_at.clauses (w .𝓤) (w .H) (w .𝓖 .A) (w .𝓜 .mem) (w .𝓡 .run);
       asked = next_at.Reads.Asked;
       post = next_at.Reads.Post;
       handed = λ κs a. (now (a .0), a .1 .0);
@@ -98,7 +101,7 @@ next-at =
     }
 
 pub next-at-asks : AsksNothing next-at
-next-at-asks κs a = tt
+next-at-asks = record { asked = λ κs a. tt; empty = λ w κs a. (tt, refl) }
 
 pub next-at-says : Says next-at (λ i. record { number = numberAt (i .0) (i .1); at = placeAfter (i .0) (i .1) }) (λ i. tt)
 next-at-says = record { says = λ κs a r e p. (ap₂ (λ b t. record { number = b; at = t }) (p .0) (p .1), refl) }

@@ -16,6 +16,7 @@ use Rattle.walk.proofs.walk_for
 abbrev pub walk : Function walk-claims.ended (ℕ × ℕ × ℕ × List ℕ) Walked Nothing
 walk =
     record {
+      clauses = λ w. walk-claims.clauses (w .𝓤) (w .H) (w .𝓖 .A) (w .𝓜 .mem) (w .𝓡 .run);
       asked = walk-claims.Reads.Asked;
       post = walk-claims.Reads.Post;
       handed = λ κs a. (a .0, a .1 .0, a .1 .1 .0, now (a .1 .1 .1 .0));
@@ -24,7 +25,7 @@ walk =
     }
 
 pub walk-asks : AsksNothing walk
-walk-asks κs a = tt
+walk-asks = record { asked = λ κs a. tt; empty = λ w κs a. (tt, refl) }
 
 pub walk-says : Says walk (λ i. walked (i .0) (i .1) (i .2) (length (i .3)) rowBytes (labelIn (i .3))) (λ i. tt)
 walk-says = record { says = λ κs a r e p. (p, refl) }
@@ -32,6 +33,7 @@ walk-says = record { says = λ κs a r e p. (p, refl) }
 abbrev pub walk-for : Function walk_for.ended (ℕ × ℕ × ℕ × List ℕ × ℕ) Walked Nothing
 walk-for =
     record {
+      clauses = λ w. walk_for.clauses (w .𝓤) (w .H) (w .𝓖 .A) (w .𝓜 .mem) (w .𝓡 .run);
       asked = walk_for.Reads.Asked;
       post = walk_for.Reads.Post;
       handed = λ κs a. (a .0, a .1 .0, a .1 .1 .0, now (a .1 .1 .1 .0), a .1 .1 .1 .1 .0);
@@ -40,7 +42,7 @@ walk-for =
     }
 
 pub walk-for-asks : AsksNothing walk-for
-walk-for-asks κs a = tt
+walk-for-asks = record { asked = λ κs a. tt; empty = λ w κs a. (tt, refl) }
 
 pub walk-for-says : Says walk-for (λ i. walked (i .0) (i .1) (i .2) (length (i .3)) (i .4) (labelIn (i .3))) (λ i. tt)
 walk-for-says = record { says = λ κs a r e p. (p, refl) }

@@ -1,0 +1,33 @@
+-- Each is the same by its text.
+use mathlib.Core.Path.{refl}
+use borrow.Fn.World.{w₀}
+use Rattle.reader.proofs.Functions as reader
+use Rattle.promises.specs.Tied.{AllTied}
+
+pub all-tied : AllTied
+all-tied =
+    record {
+      hcube-label = record { clauses = λ w. refl; asked = refl; post = refl };
+      hcube-hop = record { clauses = λ w. refl; asked = refl; post = refl };
+      hcube-walk = record { clauses = λ w. refl; asked = refl; post = refl };
+      hcube-read-notice = record { clauses = λ w. refl; asked = refl; post = refl };
+      labels-label = record { clauses = λ w. refl; asked = refl; post = refl };
+      hop-hop = record { clauses = λ w. refl; asked = refl; post = refl };
+      hop-place-refusal = record { clauses = λ w. refl; asked = refl; post = refl };
+      hop-hop-at = record { clauses = λ w. refl; asked = refl; post = refl };
+      walk-walk = record { clauses = λ w. refl; asked = refl; post = refl };
+      walk-walk-for = record { clauses = λ w. refl; asked = refl; post = refl };
+      notice-read = record { clauses = λ w. refl; asked = refl; post = refl };
+      notice-tail = record { clauses = λ w. refl; asked = refl; post = refl };
+      groups-number-at = record { clauses = λ w. refl; asked = refl; post = refl };
+      reader-new = record { clauses = λ w. refl; post = λ κs a g r e. (reader.new-ensures w₀ κs a r e, refl) };
+      reader-next = record { clauses = λ w. refl; post = λ κs a g r e. (reader.next-ensures w₀ κs a r e, refl) };
+      reader-next-at = record { clauses = λ w. refl; asked = refl; post = refl };
+      cube-distance = record { clauses = λ w. refl; asked = refl; post = refl };
+      cube-is-dimension = record { clauses = λ w. refl; asked = refl; post = refl };
+      cube-nodes = record { clauses = λ w. refl; asked = refl; post = refl };
+      cube-neighbour = record { clauses = λ w. refl; asked = refl; post = refl };
+      cube-table-len = record { clauses = λ w. refl; asked = refl; post = refl };
+      cube-node-bit = record { clauses = λ w. refl; asked = refl; post = refl };
+      cube-unused-set = record { clauses = λ w. refl; asked = refl; post = refl };
+    }
