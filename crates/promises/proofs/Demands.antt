@@ -3,7 +3,7 @@ use mathlib.Core.List.{List}
 use mathlib.Core.Logic.{_⊎_, ⊎-elim, inl, inr}
 use mathlib.Core.Path.{_≡_, sym, ap, subst, _∙_}
 use Prim.Native.Nat.{ℕ, _+_, _^_, _<_}
-use lib.ListN.{length}
+use lib.ListN.{length, replicate}
 use Rattle.cube.specs.Cube.{flip}
 use Rattle.cube.specs.Tables.{labelIn}
 use Rattle.rule.specs.Cabinet.{Cabinet, cabinet, labelsOf, roundsOf}
@@ -82,7 +82,15 @@ module _ (lib : Library) (F : Faithful lib) where
       (subst (λ (t : List ℕ). Walks K (labelIn t) s d (W.walked (K .n) s d (length t) W.rowBytes (labelIn t))) (l .bytes)
       (demand3 K (l .accepted) s d hs hd))
 
-  -- ---- a walk that is not refused, on any table
+  -- ---- a walk that is refused, and one that is not, on any table
+
+  blank : {n s d room k : ℕ} {table : List ℕ} {w : Walked} → lib .walks n s d table room w → w .ending ≡ ending.Refused k
+      → (w .hops ≡ 0) × (w .row ≡ replicate 17 0)
+  unfolding W.refused
+  blank {n} {s} {d} {room} {k} {table} v e =
+      let f = F .walks v in
+      let b = f ∙ of-blank n s d (length table) room (labelIn table) k (ap (λ (u : Walked). u .ending) (sym f) ∙ e) in
+      (ap (λ (u : Walked). u .hops) b, ap (λ (u : Walked). u .row) b)
 
   module _ {n s d room : ℕ} {table : List ℕ} {w : Walked} (v : lib .walks n s d table room w) (e : W.refusalOf (w .ending) ≡ 0) where
     again : Repeats n s d (length table) (labelIn table) w
@@ -110,7 +118,7 @@ module _ (lib : Library) (F : Faithful lib) where
         notice-refusal = λ {bytes} {before} m. subst (λ x. NoticeGiven bytes before (N.refusalOf x)) (sym (F .reads m .0)) (refusals .notice bytes before);
         labels-kept = λ {K} {before} m. let f = F .labels m in f .1 ∙ labels-kept K before _ (sym (f .0));
         table-kept = λ {bytes} {before} m. let f = F .reads m in f .1 ∙ notice-laws .kept bytes before _ (sym (f .0));
-        walk-blank = λ {n} {s} {d} {room} {k} {table} v e. let f = F .walks v in f ∙ of-blank n s d (length table) room (labelIn table) k (ap (λ (u : Walked). u .ending) (sym f) ∙ e);
+        walk-blank = λ v e. blank v e;
         notice-read = λ {bytes} {before} m. notice-laws .accepted bytes before _ _ _ (sym (F .reads m .0));
         table-written = λ {bytes} {before} {after} {n} {m} {taken} r. let f = F .reads r in
             subst (TableOf n m (N.addressesOf bytes)) (sym (f .1)) (notice-laws .written bytes before n m taken (sym (f .0)));

@@ -1,100 +1,75 @@
--- Each number is that of the library's own answer, and C takes that answer out of it. So where a refusal is taken out, it is the whole number; and where none is, the
--- row was written.
+-- Each number is that of the library's own answer; and where C takes no refusal out of it, the row was written.
 use mathlib.Core.Bool.{true}
 use mathlib.Core.List.{List}
-use mathlib.Core.Logic.{_≢_}
+use mathlib.Core.Logic.{inl}
 use mathlib.Core.Path.{_≡_, refl, sym, ap, _∙_}
 use Prim.Native.Nat.{ℕ, _+_, _*_, _/_, _%_, _<_}
 use native.Mathlib.Omega.{arith}
 use lib.Dec.{eqb}
 use lib.ListN.{getD, length}
-use borrow.Author.Tests.{ne-eqb}
 use Rattle.cube.specs.Contracts.{May}
 use Rattle.cube.specs.Tables.{labelIn, tab}
 use Rattle.cube.proofs.Bools.{by-cases}
 use Rattle.cube.proofs.Contracts.{told}
 use Rattle.cube.proofs.Front.{getD-tab, length-tab}
-use Rattle.rule.specs.Cabinet.{cabinet}
-use Rattle.labels.specs.declared.Labelled.the-variants as labelled
-use Rattle.hop.specs.declared.Hopped.the-variants as hopped
-use Rattle.notice.specs.declared.Noticed.the-variants as noticed
+use Rattle.notice.proofs.Functions as notice
+use Rattle.labels.proofs.Functions as labels
+use Rattle.hop.proofs.Functions as hop
+use Rattle.labels.specs.declared.Labelled.{Labelled}
+use Rattle.hop.specs.declared.Hopped.{Hopped}
+use Rattle.notice.specs.declared.Noticed.{Noticed}
+use Rattle.walk.specs.declared.Ending.the-variants as ending
 use Rattle.walk.specs.Walk as W
 use Rattle.walk.specs.declared.Ending.{Ending}
 use Rattle.walk.specs.declared.Walked.{Walked}
 use Rattle.walk.proofs.Functions as walk
 use Rattle.theorems.specs.Words.{place}
-use Rattle.hcube.specs.Answers.{hasRow, hopNumber, labelNumber, noticeNumber, packed, packedNotice, rowAfter, rowByte, walkNumber, walkedBy}
-use Rattle.hcube.specs.Decoded.{endingFrom, hoppedFrom, kindPart, labelledFrom, nodeAt, noticeRefusalPart, noticedFrom, refusalPart, valuePart, walkedFrom}
-use Rattle.hcube.proofs.Decoded.{decodes, high-byte, low-byte}
+use Rattle.hcube.specs.Answers.{hasRow, hopNumber, labelNumber, noticeNumber, rowAfter, rowByte, walkNumber, walkedBy}
+use Rattle.hcube.specs.Decoded.{endingFrom, kindPart, nodeAt, refusalPart, valuePart, walkedFrom}
+use Rattle.hcube.proofs.Decoded.{high-byte, low-byte}
 use Rattle.hcube.proofs.Functions as hcube
 use Rattle.hcube.proofs.Small.{row-fits, written}
 use Rattle.promises.specs.InC.{InC}
-use Rattle.promises.proofs.Demands.{c-demands}
+use Rattle.promises.proofs.Demands.{rattle-demands}
 use Rattle.promises.proofs.Library.{c-faithful}
 
--- ---- what is taken out where a refusal is, or none
+-- ---- the number of the library's own answer
 
-label-some : (r : ℕ) → refusalPart r ≢ 0 → labelledFrom r ≡ labelled.Refused (refusalPart r)
-unfolding labelledFrom
-label-some r h = rw (ne-eqb (refusalPart r) 0 h)
+label-same : {n r : ℕ} {x : Labelled} {faults before after after′ : List ℕ} → May hcube.label (n, faults, before) r after
+    → May labels.label (n, faults, before) x after′ → r ≡ labelNumber x
+label-same m v = told hcube.label-says m .0 ∙ ap labelNumber (sym (told labels.label-says v .0))
 
-label-none : (r : ℕ) → refusalPart r ≡ 0 → labelledFrom r ≡ labelled.Rounds (valuePart r)
-unfolding labelledFrom
-label-none r h = rw h
+hop-same : {n c d r : ℕ} {x : Hopped} {table : List ℕ} → May hcube.hop (n, c, d, table) r tt → May hop.hop (n, c, d, table) x tt → r ≡ hopNumber x
+hop-same m v = told hcube.hop-says m .0 ∙ ap hopNumber (sym (told hop.hop-says v .0))
 
-hop-some : (r : ℕ) → refusalPart r ≢ 0 → hoppedFrom r ≡ hopped.Refused (refusalPart r)
-unfolding hoppedFrom
-hop-some r h = rw (ne-eqb (refusalPart r) 0 h)
+walk-same : {n s d r : ℕ} {table before after : List ℕ} {w : Walked} → May hcube.walk (n, s, d, table, before) r after
+    → May walk.walk-for (n, s, d, table, length before) w tt → (r ≡ walkNumber w) × (after ≡ rowAfter w before)
+walk-same {before = before} m v =
+    let t = told hcube.walk-says m in
+    let e = sym (told walk.walk-for-says v .0) in
+    (t .0 ∙ ap walkNumber e, t .1 ∙ ap (λ (u : Walked). rowAfter u before) e)
 
-walk-some : (r : ℕ) (row : List ℕ) → refusalPart r ≢ 0 → walkedFrom r row ≡ W.refused (refusalPart r)
-unfolding walkedFrom
-walk-some r row h = rw (ne-eqb (refusalPart r) 0 h)
+notice-same : {r : ℕ} {x : Noticed} {bytes before after after′ : List ℕ} → May hcube.read-notice (bytes, before) r after
+    → May notice.read (bytes, before) x after′ → r ≡ noticeNumber x
+notice-same m v = told hcube.read-notice-says m .0 ∙ ap noticeNumber (sym (told notice.read-says v .0))
+
+-- a refused walk has hop count 0
+walk-refuses : {n s d r k : ℕ} {table before after : List ℕ} {w : Walked} → May hcube.walk (n, s, d, table, before) r after
+    → May walk.walk-for (n, s, d, table, length before) w tt → w .ending ≡ ending.Refused k → (r ≡ k * 16777216) × (after ≡ before)
+unfolding rowAfter
+walk-refuses {w = w} m v e =
+    let t = walk-same m v in
+    let b = rattle-demands .walk-blank (inl v) e in
+    let refusal = ap W.refusalOf e in
+    let kind = ap W.kindOf e in
+    (omega (arith, t .0, b .0), t .1 ∙ rw e)
+
+-- ---- the row
 
 walk-none : (r : ℕ) (row : List ℕ) → refusalPart r ≡ 0
     → walkedFrom r row ≡ record { row = tab 17 (nodeAt row); hops = valuePart r; ending = endingFrom (kindPart r) }
 unfolding walkedFrom
 walk-none r row h = rw h
-
-notice-some : (r : ℕ) → noticeRefusalPart r ≢ 0 → noticedFrom r ≡ noticed.Refused (noticeRefusalPart r)
-unfolding noticedFrom
-notice-some r h = rw (ne-eqb (noticeRefusalPart r) 0 h)
-
--- ---- labelling
-
-module _ {n r : ℕ} {faults before after : List ℕ} (m : May hcube.label (n, faults, before) r after) where
-  label-is : r ≡ labelNumber (labelledFrom r)
-  label-is =
-      let t = told hcube.label-says m in
-      t .0 ∙ ap labelNumber (sym (decodes .label (cabinet n faults) (length before)) ∙ ap labelledFrom (sym (t .0)))
-
-  label-refused : refusalPart r ≢ 0 → (r ≡ packed (refusalPart r) 0 0) × (after ≡ before)
-  label-refused h = (label-is ∙ ap labelNumber (label-some r h), c-demands .labels-kept (r, m, label-some r h))
-
-  label-accepted : refusalPart r ≡ 0 → r ≡ packed 0 0 (valuePart r)
-  label-accepted h = label-is ∙ ap labelNumber (label-none r h)
-
--- ---- the hop
-
-hop-refused : {n c d r : ℕ} {table : List ℕ} → May hcube.hop (n, c, d, table) r tt → refusalPart r ≢ 0 → r ≡ packed (refusalPart r) 0 0
-hop-refused {n} {c} {d} {r} {table} m h =
-    let t = told hcube.hop-says m in
-    t .0 ∙ ap hopNumber (sym (decodes .hop n c d (length table) (labelIn table)) ∙ ap hoppedFrom (sym (t .0)) ∙ hop-some r h)
-
--- ---- the notice
-
-notice-refused : {r : ℕ} {bytes before after : List ℕ} → May hcube.read-notice (bytes, before) r after → noticeRefusalPart r ≢ 0
-    → (r ≡ packedNotice (noticeRefusalPart r) 0 0 0) × (after ≡ before)
-notice-refused {r} {bytes} {before} m h =
-    let t = told hcube.read-notice-says m in (
-      t .0 ∙ ap noticeNumber (sym (decodes .notice bytes before) ∙ ap noticedFrom (sym (t .0)) ∙ notice-some r h),
-      c-demands .table-kept (r, m, notice-some r h),
-    )
-
--- ---- the walk
-
-kept : (k : ℕ) (before : List ℕ) → rowAfter (W.refused k) before ≡ before
-unfolding rowAfter W.refused
-kept k before = refl
 
 has-row : (kind : ℕ) → hasRow (endingFrom kind) ≡ true
 has-row kind = by-cases (λ (e : Ending). hasRow e ≡ true) (eqb kind 0) (λ _. refl) (λ _. refl)
@@ -108,12 +83,6 @@ module _ {n s d r : ℕ} {table before after : List ℕ} (m : May hcube.walk (n,
 
   taken : w ≡ walkedFrom r after
   taken = sym (c-faithful .walks (r, before, after, m, refl, refl))
-
-  walk-refused : refusalPart r ≢ 0 → (r ≡ packed (refusalPart r) 0 0) × (after ≡ before)
-  unfolding W.refused
-  walk-refused h =
-      let e = taken ∙ walk-some r after h in
-      (said .0 ∙ ap walkNumber e, said .1 ∙ ap (λ (u : Walked). rowAfter u before) e ∙ kept (refusalPart r) before)
 
   module _ (h : refusalPart r ≡ 0) where
     ended : w ≡ record { row = tab 17 (nodeAt after); hops = valuePart r; ending = endingFrom (kindPart r) }
@@ -155,11 +124,17 @@ module _ {n s d r : ℕ} {table before after : List ℕ} (m : May hcube.walk (n,
 pub in-c : InC
 in-c =
     record {
-      label-refused = label-refused;
-      hop-refused = hop-refused;
-      walk-refused = walk-refused;
-      notice-refused = notice-refused;
-      label-accepted = label-accepted;
+      label-rounds = λ {n} {r} m v. let e = label-same m v in omega arith;
+      label-refuses = λ {n} {r} m v. let e = label-same m v in omega arith;
+      hop-delivers = λ m v. hop-same m v;
+      hop-hops = λ m v. hop-same m v;
+      hop-halts = λ m v. hop-same m v;
+      hop-refuses = λ {n} {c} {d} {r} m v. let e = hop-same m v in omega arith;
+      walk-delivers = λ {n} {s} {d} {r} m v e. let f = walk-same m v .0 in let g = ap W.refusalOf e in let h = ap W.kindOf e in omega arith;
+      walk-halts = λ {n} {s} {d} {r} m v e. let f = walk-same m v .0 in let g = ap W.refusalOf e in let h = ap W.kindOf e in omega arith;
+      walk-refuses = walk-refuses;
+      notice-reads = λ {r} m v. let e = notice-same m v in omega arith;
+      notice-refuses = λ {r} m v. let e = notice-same m v in omega arith;
       row-nodes = λ m h v. row-nodes m h v;
       row-bytes = row-bytes;
       row-whole = λ m m′ h h′. (whole m h, bytes m h ∙ ap (λ (u : Walked). tab W.rowBytes (rowByte (u .row))) (same m h ∙ sym (same m′ h′)) ∙ sym (bytes m′ h′));

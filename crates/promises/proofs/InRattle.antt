@@ -11,6 +11,7 @@ use Rattle.groups.proofs.Functions as groups
 use Rattle.notice.proofs.Functions as notice
 use Rattle.notice.proofs.Laws.{notice-laws}
 use Rattle.reader.specs.declared.Reader.{Reader}
+use Rattle.reader.specs.declared.Step.{Step}
 use Rattle.reader.proofs.Functions as reader
 use Rattle.reader.proofs.Laws.{reader-laws}
 use Rattle.promises.specs.InRattle.{InRattle}
@@ -30,4 +31,9 @@ in-rattle =
       next-keeps = λ m. ap (λ (r : Reader). r .bytes) (told reader.next-says m .1);
       next-moves = λ {r} m. let t = told reader.next-says m in ap (λ (r : Reader). r .at) (t .1) ∙ reader-laws .moves (now (r .bytes)) (r .at) _ _ (sym (t .0));
       next-stays = λ {r} m. let t = told reader.next-says m in ap (λ (r : Reader). r .at) (t .1) ∙ reader-laws .stays (now (r .bytes)) (r .at) _ (sym (t .0));
+      next-at = λ m y. ap (λ (x : Step). x .number) (told reader.next-at-says m .0) ∙ sym (told groups.number-at-says y .0);
+      next-at-moves = λ {bytes} {at} m e. let t = told reader.next-at-says m .0 in
+          ap (λ (x : Step). x .at) t ∙ reader-laws .moves bytes at _ _ (ap (λ (x : Step). x .number) (sym t) ∙ e);
+      next-at-stays = λ {bytes} {at} m e. let t = told reader.next-at-says m .0 in
+          ap (λ (x : Step). x .at) t ∙ reader-laws .stays bytes at _ (ap (λ (x : Step). x .number) (sym t) ∙ e);
     }

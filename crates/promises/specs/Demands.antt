@@ -4,7 +4,7 @@ use mathlib.Core.List.{List}
 use mathlib.Core.Logic.{_⊎_}
 use mathlib.Core.Path.{_≡_}
 use Prim.Native.Nat.{ℕ, _+_, _^_, _≤_, _<_}
-use lib.ListN.{length}
+use lib.ListN.{length, replicate}
 use Rattle.cube.specs.Cube.{flip}
 use Rattle.cube.specs.Tables.{labelIn}
 use Rattle.rule.specs.Cabinet.{Cabinet, cabinet, labelsOf}
@@ -45,7 +45,9 @@ pub record Demands (lib : Library) : Type 0 where
   pub labels-kept : {K : Cabinet} {before after : List ℕ} {k : ℕ} → lib .labels K before (labelled.Refused k) after → after ≡ before
   pub table-kept : {bytes before after : List ℕ} {k : ℕ} → lib .reads bytes before (noticed.Refused k) after → after ≡ before
   -- a refused walk has hop count 0 and a row of zeros
-  pub walk-blank : {n s d room k : ℕ} {table : List ℕ} {w : Walked} → lib .walks n s d table room w → w .ending ≡ ending.Refused k → w ≡ W.refused k
+  pub walk-blank :
+      {n s d room k : ℕ} {table : List ℕ} {w : Walked} → lib .walks n s d table room w → w .ending ≡ ending.Refused k
+      → (w .hops ≡ 0) × (w .row ≡ replicate 17 0)
   -- an accepted notice names what the fault table then holds, all of it
   pub notice-read : {bytes before after : List ℕ} {n m taken : ℕ} → lib .reads bytes before (noticed.Notice n m taken) after → ReadNotice bytes n m taken
   pub table-written :

@@ -1,32 +1,57 @@
--- What C has in hand, of whatever the contracts of the C functions allow: the number of an answer, and every byte of the row.
+-- What C has in hand, of whatever the contracts of the C functions allow: the number of an answer, in plain numbers, and every byte of the row.
 use mathlib.Core.List.{List}
-use mathlib.Core.Logic.{_≢_}
 use mathlib.Core.Path.{_≡_}
 use Prim.Native.Nat.{ℕ, _+_, _*_, _/_, _%_, _<_}
 use lib.ListN.{getD, length}
 use Rattle.cube.specs.Contracts.{May}
+use Rattle.notice.specs.declared.Noticed.the-variants as noticed
+use Rattle.notice.proofs.Functions as notice
+use Rattle.labels.specs.declared.Labelled.the-variants as labelled
+use Rattle.labels.proofs.Functions as labels
+use Rattle.hop.specs.declared.Decision.the-variants.{Deliver, Hop, Halted}
+use Rattle.hop.specs.declared.Hopped.the-variants as hopped
+use Rattle.hop.proofs.Functions as hop
 use Rattle.walk.specs.Walk.{rowBytes}
+use Rattle.walk.specs.declared.Ending.the-variants as ending
 use Rattle.walk.specs.declared.Walked.{Walked}
 use Rattle.walk.proofs.Functions as walk
 use Rattle.theorems.specs.Words.{place}
-use Rattle.hcube.specs.Answers.{packed, packedNotice}
-use Rattle.hcube.specs.Decoded.{nodeAt, noticeRefusalPart, refusalPart, valuePart}
+use Rattle.hcube.specs.Decoded.{nodeAt, refusalPart}
 use Rattle.hcube.proofs.Functions as hcube
 
 pub record InC : Type 0 where
-  -- "the answer is the refusal number with zero in every other field", and "lent tables keep every byte"
-  pub label-refused :
-      {n r : ℕ} {faults before after : List ℕ} → May hcube.label (n, faults, before) r after → refusalPart r ≢ 0
-      → (r ≡ packed (refusalPart r) 0 0) × (after ≡ before)
-  pub hop-refused : {n c d r : ℕ} {table : List ℕ} → May hcube.hop (n, c, d, table) r tt → refusalPart r ≢ 0 → r ≡ packed (refusalPart r) 0 0
-  pub walk-refused :
-      {n s d r : ℕ} {table before after : List ℕ} → May hcube.walk (n, s, d, table, before) r after → refusalPart r ≢ 0
-      → (r ≡ packed (refusalPart r) 0 0) × (after ≡ before)
-  pub notice-refused :
-      {r : ℕ} {bytes before after : List ℕ} → May hcube.read-notice (bytes, before) r after → noticeRefusalPart r ≢ 0
-      → (r ≡ packedNotice (noticeRefusalPart r) 0 0 0) × (after ≡ before)
+  -- "to C each answers one number: refusal × 16,777,216 + kind × 65,536 + value": that of the answer that the library's own function gives.
   -- "Labelling: kind 0, value is the round count"
-  pub label-accepted : {n r : ℕ} {faults before after : List ℕ} → May hcube.label (n, faults, before) r after → refusalPart r ≡ 0 → r ≡ packed 0 0 (valuePart r)
+  pub label-rounds :
+      {n r v : ℕ} {faults before after after′ : List ℕ} → May hcube.label (n, faults, before) r after
+      → May labels.label (n, faults, before) (labelled.Rounds v) after′ → r ≡ v
+  pub label-refuses :
+      {n r k : ℕ} {faults before after after′ : List ℕ} → May hcube.label (n, faults, before) r after
+      → May labels.label (n, faults, before) (labelled.Refused k) after′ → r ≡ k * 16777216
+  -- "Hop: kind 0 deliver, 1 hop (value is the dimension), 2 halted"
+  pub hop-delivers : {n c d r : ℕ} {table : List ℕ} → May hcube.hop (n, c, d, table) r tt → May hop.hop (n, c, d, table) (hopped.Decided Deliver) tt → r ≡ 0
+  pub hop-hops :
+      {n c d r i : ℕ} {table : List ℕ} → May hcube.hop (n, c, d, table) r tt → May hop.hop (n, c, d, table) (hopped.Decided (Hop i)) tt → r ≡ 65536 + i
+  pub hop-halts : {n c d r : ℕ} {table : List ℕ} → May hcube.hop (n, c, d, table) r tt → May hop.hop (n, c, d, table) (hopped.Decided Halted) tt → r ≡ 131072
+  pub hop-refuses :
+      {n c d r k : ℕ} {table : List ℕ} → May hcube.hop (n, c, d, table) r tt → May hop.hop (n, c, d, table) (hopped.Refused k) tt → r ≡ k * 16777216
+  -- "Walk: kind 0 delivered, 1 halted, value is the hop count"
+  pub walk-delivers :
+      {n s d r : ℕ} {table before after : List ℕ} {w : Walked} → May hcube.walk (n, s, d, table, before) r after
+      → May walk.walk-for (n, s, d, table, length before) w tt → w .ending ≡ ending.Delivered → r ≡ w .hops
+  pub walk-halts :
+      {n s d r : ℕ} {table before after : List ℕ} {w : Walked} → May hcube.walk (n, s, d, table, before) r after
+      → May walk.walk-for (n, s, d, table, length before) w tt → w .ending ≡ ending.Halted → r ≡ 65536 + w .hops
+  pub walk-refuses :
+      {n s d r k : ℕ} {table before after : List ℕ} {w : Walked} → May hcube.walk (n, s, d, table, before) r after
+      → May walk.walk-for (n, s, d, table, length before) w tt → w .ending ≡ ending.Refused k → (r ≡ k * 16777216) × (after ≡ before)
+  -- a notice: refusal × 2^48 + dimension × 2^32 + count × 2^16 + bytes taken
+  pub notice-reads :
+      {r n m taken : ℕ} {bytes before after after′ : List ℕ} → May hcube.read-notice (bytes, before) r after
+      → May notice.read (bytes, before) (noticed.Notice n m taken) after′ → r ≡ n * 4294967296 + m * 65536 + taken
+  pub notice-refuses :
+      {r k : ℕ} {bytes before after after′ : List ℕ} → May hcube.read-notice (bytes, before) r after
+      → May notice.read (bytes, before) (noticed.Refused k) after′ → r ≡ k * 281474976710656
   -- "a lent buffer of exactly 34 bytes, two a node, low byte first": the node is the one that the walk has at that place
   pub row-nodes :
       {n s d r : ℕ} {table before after : List ℕ} {w : Walked} → May hcube.walk (n, s, d, table, before) r after → refusalPart r ≡ 0

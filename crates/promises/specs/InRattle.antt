@@ -13,6 +13,7 @@ use Rattle.groups.proofs.Functions as groups
 use Rattle.notice.specs.declared.Noticed.the-variants as noticed
 use Rattle.notice.proofs.Functions as notice
 use Rattle.reader.specs.declared.Reader.{Reader}
+use Rattle.reader.specs.declared.Step.{Step}
 use Rattle.reader.proofs.Functions as reader
 use Rattle.promises.specs.Refusals.{NumberGiven}
 
@@ -34,3 +35,8 @@ pub record InRattle : Type 0 where
   pub next-keeps : {r after : Reader} {x : Number} → May reader.next r x after → after .bytes ≡ r .bytes
   pub next-moves : {r after : Reader} {v next : ℕ} → May reader.next r (number.Value v next) after → after .at ≡ next
   pub next-stays : {r after : Reader} {k : ℕ} → May reader.next r (number.Refused k) after → after .at ≡ r .at
+  -- and so through a reader that stands at a place
+  pub next-at : {bytes : List ℕ} {at : ℕ} {x : Step} {y : Number} → May reader.next-at (bytes, at) x tt → May groups.number-at (bytes, at) y tt → x .number ≡ y
+  pub next-at-moves :
+      {bytes : List ℕ} {at v next : ℕ} {x : Step} → May reader.next-at (bytes, at) x tt → x .number ≡ number.Value v next → x .at ≡ next
+  pub next-at-stays : {bytes : List ℕ} {at k : ℕ} {x : Step} → May reader.next-at (bytes, at) x tt → x .number ≡ number.Refused k → x .at ≡ at
