@@ -2,10 +2,10 @@
 -- proofs/Laws.antt.
 use mathlib.Core.Path.{_≡_}
 use mathlib.Core.Logic.{_⊎_}
-use mathlib.Core.List.{List, [], _∷_}
+use mathlib.Core.List.{List, [], _∷_, _++_}
 use Prim.Native.Nat.{ℕ, _+_, _≤_, _<_}
 use lib.ListN.{length, drop}
-use Rattle.groups.specs.Number.{numberAt, further}
+use Rattle.groups.specs.Number.{further, groupsOf, numberAt}
 use Rattle.groups.specs.declared.Number.the-variants.{Value, Refused}
 
 -- the number at place `at` has the value v and the next place `next`
@@ -23,6 +23,8 @@ pub record NumberLaws : Type 0 where
   -- "every number is taken apart as a value with the next place, or else the notice is refused"
   pub value : (s : List ℕ) (at v next : ℕ) → numberAt s at ≡ Value v next → ReadNumber s at v next
   pub refused : (s : List ℕ) (at k : ℕ) → numberAt s at ≡ Refused k → (k ≡ 9) ⊎ (k ≡ 10)
+  -- "in groups of seven bits, lowest group first, high bit set when another group follows": what is written so is read, whatever follows it
+  pub back : (v : ℕ) (rest : List ℕ) → v < 16384 → numberAt (groupsOf v ++ rest) 0 ≡ Value v (length (groupsOf v))
   -- bytes that "are handed on by themselves": the number at place `at` of the bytes from k on is the number at place k + at of them all
   pub handed-on : (s : List ℕ) (k at : ℕ) → numberAt s (k + at) ≡ further k (numberAt (drop k s) at)
   -- "200 is C8 01; 81 00 and 81 81 are refused with 10; 81 alone with 9"

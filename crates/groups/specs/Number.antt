@@ -1,8 +1,8 @@
 -- A number of document 01: one or two groups of seven bits, lowest group first, a group's high bit set when another follows. `numberAt` reads the
 -- number that begins at a place; what stands below it takes such an answer apart.
 use mathlib.Core.Bool.{cond, _||_}
-use mathlib.Core.List.{List}
-use Prim.Native.Nat.{ℕ, _+_, _*_, _%_}
+use mathlib.Core.List.{List, [], _∷_}
+use Prim.Native.Nat.{ℕ, _+_, _*_, _/_, _%_}
 use lib.Dec.{eqb, ltb, leb}
 use lib.ListN.{length, getD}
 use Rattle.groups.specs.declared.Number.{Number}
@@ -18,6 +18,10 @@ numberAt s at =
     cond (leb (length s) at) (Refused 9)
     (cond (ltb (getD s at 0) 128) (Value (getD s at 0) (at + 1))
     (cond (leb (length s) (at + 1)) (Refused 9) (twoGroups (getD s at 0) (getD s (at + 1) 0) (at + 2))))
+
+-- the groups of a number below 16,384, as it is written: one where seven bits hold it
+unfoldable pub groupsOf : ℕ → List ℕ
+groupsOf v = cond (ltb v 128) (v ∷ []) ((128 + v % 128) ∷ v / 128 ∷ [])
 
 -- ---- an answer taken apart
 

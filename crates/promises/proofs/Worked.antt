@@ -37,10 +37,13 @@ unfolding those visited walked walkRefusal walkFrom refused first row last hops 
     working quiet newly meets marked
 worked =
     record {
+      table-bytes = refl;
+      table-bits = refl;
       k4-faulty = refl;
       k4-round1 = refl;
       k4-round2 = refl;
       k4-rounds = refl;
+      k4-labels = k4-labels;
       k4-strong = refl;
       k4-13-0 = on k4 13 0 _ k4-labels refl;
       k4-6-0 = on k4 6 0 _ k4-labels refl;

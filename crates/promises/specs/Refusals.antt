@@ -65,9 +65,10 @@ HopGiven n c d m lab = Given (HopWhen n c d m lab) (1 ∷ 2 ∷ 5 ∷ 4 ∷ 6 �
 
 -- ---- a walk from s to d, with a label table of m bytes and a row of `room` bytes: "1, 2, 5, 4, 6, 7, 8"
 
--- "after n + 4 hops without delivery, where the next decision is another hop": each decision after 0 to n + 4 hops is one
+-- "after n + 4 hops without delivery, where the next decision is another hop": from the source on, each decision after 0 to n + 4 hops is one
 abbrev pub AllHops : (n : ℕ) (lab : ℕ → ℕ) (d s : ℕ) → Type 0
-AllHops n lab d s = (k : ℕ) → k ≤ n + 4 → (i : ℕ) × (W.turn n lab d s k ≡ Hop i)
+AllHops n lab d s =
+    (at : ℕ → ℕ) × (at 0 ≡ s) × ((k : ℕ) → k ≤ n + 4 → (i : ℕ) × (H.hop n lab (at k) d ≡ Hop i) × (at (k + 1) ≡ flip i (at k)))
 
 pub data WalkWhen (n s d m room : ℕ) (lab : ℕ → ℕ) : ℕ → Type 0 where
   walk-1 : ¬ (Dimension n) → WalkWhen n s d m room lab 1

@@ -5,7 +5,8 @@ use mathlib.Core.Path.{_≡_}
 use Prim.Native.Nat.{ℕ, zero, suc}
 use lib.Dec.{eqb}
 use lib.ListN.{replicate}
-use Rattle.rule.specs.Cabinet.{Cabinet, cabinet, out}
+use Rattle.cube.specs.Tables.{nodeBit}
+use Rattle.rule.specs.Cabinet.{Cabinet, cabinet, labelsOf, out}
 use Rattle.rule.specs.Rule.{marked, safe}
 use Rattle.labels.specs.Labelling.{labelled}
 use Rattle.labels.specs.declared.Labelled.the-variants.{Rounds}
@@ -30,10 +31,15 @@ unfoldable pub visited : (nodes : List ℕ) (hops left : ℕ) → Ending → Wal
 visited nodes hops left e = record { row = nodes ++ replicate left 0; hops = hops; ending = e }
 
 pub record Worked : Type 0 where
+  -- "node k in byte k/8 at bit k mod 8 (bit 0 lowest)"
+  pub table-bytes : those 32 (nodeBit (1 ∷ 2 ∷ 4 ∷ 8 ∷ [])) ≡ 0 ∷ 9 ∷ 18 ∷ 27 ∷ []
+  pub table-bits : those 8 (nodeBit (0x68 ∷ [])) ≡ 3 ∷ 5 ∷ 6 ∷ []
   pub k4-faulty : those 16 (out k4) ≡ 2 ∷ 4 ∷ 8 ∷ 15 ∷ []
   pub k4-round1 : those 16 (marked 4 3 (out k4) 1) ≡ 0 ∷ 6 ∷ 10 ∷ 12 ∷ []
   pub k4-round2 : those 16 (marked 4 3 (out k4) 2) ≡ 0 ∷ 6 ∷ 10 ∷ 12 ∷ 14 ∷ []
   pub k4-rounds : labelled k4 16 ≡ Rounds 2
+  -- its label table, byte by byte
+  pub k4-labels : labelsOf k4 ≡ 1 ∷ 0 ∷ 3 ∷ 0 ∷ 3 ∷ 0 ∷ 1 ∷ 0 ∷ 3 ∷ 0 ∷ 1 ∷ 0 ∷ 1 ∷ 0 ∷ 2 ∷ 3 ∷ []
   pub k4-strong : those 16 (λ x. eqb (labelAt k4 x) 2) ≡ 14 ∷ []
   pub k4-13-0 : walkOf k4 13 0 ≡ visited (13 ∷ 9 ∷ 1 ∷ 0 ∷ []) 3 13 Delivered
   pub k4-6-0 : walkOf k4 6 0 ≡ visited (6 ∷ 7 ∷ 5 ∷ 1 ∷ 0 ∷ []) 4 12 Delivered
