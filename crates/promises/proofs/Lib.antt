@@ -10,3 +10,4 @@ pub mod Answers
 pub mod Tied
 pub mod Settled
 pub mod Worked
+pub mod Promises

@@ -7,3 +7,4 @@ pub mod Answers
 pub mod Tied
 pub mod Settled
 pub mod Worked
+pub mod Promises

@@ -2,21 +2,21 @@
 -- nodes and never fewer than the rounds: within as many rounds as there are working nodes one is quiet, and `rounds` is the first. It leaves the marks as
 -- they are, so every later one is quiet too.
 use mathlib.Core.Path.{_≡_, refl, sym, ap, ap₂, _∙_}
-use mathlib.Core.Logic.{_⊎_, inl, inr, ⊎-elim}
+use mathlib.Core.Logic.{_⊎_, inl, inr, ⊎-elim, _↔_}
 use mathlib.Core.Bool.{Bool, true, false, not, or-false, _&&_, _||_}
 use Prim.Native.Nat.{ℕ, zero, suc, _+_, _^_, _≤_, _<_}
 use native.Mathlib.Nat.{eq-or-lt-of-le}
 use native.Mathlib.Omega.{arith}
-use lib.Dec.{ltb}
-use borrow.Author.Tests.{ltb-true, ltb-false, eqb-true, eqb-false, eq-eqb, not-true}
+use lib.Dec.{leb, ltb}
+use borrow.Author.Tests.{ltb-true, ltb-false, eqb-true, eqb-false, eq-eqb, le-leb, leb-true, not-true}
 use Rattle.cube.specs.Count.{count}
 use Rattle.cube.specs.Cube.{flip}
-use Rattle.cube.proofs.Bools.{either, clash, is-false, and-true, or-true}
+use Rattle.cube.proofs.Bools.{and-both, and-true, clash, either, is-false, or-left, or-right, or-true}
 use Rattle.cube.proofs.Count.{count-bound, count-le, count-same, count-sum, count-none, none-counted}
 use Rattle.cube.proofs.Cube.{flip-lt}
 use Rattle.cube.proofs.Search.{find, the-least, least-is}
 use Rattle.cube.proofs.Tables.{nodes-few}
-use Rattle.rule.specs.Rounds.{Rested}
+use Rattle.rule.specs.Rounds.{Marks, Rested, Unsafe}
 use Rattle.rule.specs.Rule.{meets, newly, marked, quiet, working, rounds}
 
 -- the rule looks at the neighbours alone
@@ -110,7 +110,14 @@ module _ (n k : ℕ) (F : ℕ → Bool) where
           eq-eqb (count (2 ^ n) (newly n k F (marked n k F (rounds n k F)))) 0
           (omega (arith, one-each (rounds n k F) rounds-first, bounded (suc (rounds n k F)), grows (rounds n k F)))
 
-  -- a round that marks nothing new leaves the marks as they are, so the next one meets them again
+  -- a round that marks nothing new leaves the marks as they are,
+  quiet-same : (r : ℕ) → quiet n k F r ≡ true → (x : ℕ) → x < 2 ^ n → marked n k F (suc r) x ≡ marked n k F r x
+  unfolding quiet
+  quiet-same r q x h =
+      let new = newly n k F (marked n k F r) in
+      marked-suc r x ∙ rw (none-counted (2 ^ n) new (eqb-true (count (2 ^ n) new) 0 q) x h) (or-false (marked n k F r x))
+
+  -- so the next one meets them again
   quiet-next : (r : ℕ) → quiet n k F r ≡ true → quiet n k F (suc r) ≡ true
   unfolding quiet newly
   quiet-next r q = eq-eqb (count (2 ^ n) (newly n k F (marked n k F (suc r)))) 0 (count-none (2 ^ n) (newly n k F (marked n k F (suc r))) again)
@@ -118,17 +125,17 @@ module _ (n k : ℕ) (F : ℕ → Bool) where
       none : (x : ℕ) → x < 2 ^ n → newly n k F (marked n k F r) x ≡ false
       none = none-counted (2 ^ n) (newly n k F (marked n k F r)) (eqb-true (count (2 ^ n) (newly n k F (marked n k F r))) 0 q)
 
-      same : (x : ℕ) → x < 2 ^ n → marked n k F (suc r) x ≡ marked n k F r x
-      same x h = marked-suc r x ∙ rw (none x h) (or-false (marked n k F r x))
-
       again : (x : ℕ) → x < 2 ^ n → newly n k F (marked n k F (suc r)) x ≡ false
       again x h =
-          rw (same x h, meets-same n k F F (marked n k F (suc r)) (marked n k F r) x (λ _ _. refl) (λ i l. same (flip i x) (flip-lt n i x l h))) (none x h)
+          rw (
+            quiet-same r q x h,
+            meets-same n k F F (marked n k F (suc r)) (marked n k F r) x (λ _ _. refl) (λ i l. quiet-same r q (flip i x) (flip-lt n i x l h)),
+          ) (none x h)
 
-  still : (r : ℕ) → rounds n k F ≤ r → quiet n k F r ≡ true
-  still zero h = let z : rounds n k F ≡ zero = omega arith in rw z at rest
-  still (suc r) h =
-      ⊎-elim (λ (e : rounds n k F ≡ suc r). rw e at rest) (λ (l : rounds n k F < suc r). quiet-next r (still r (omega arith))) (eq-or-lt-of-le h)
+  quiet-on : (r : ℕ) → rounds n k F ≤ r → quiet n k F r ≡ true
+  quiet-on zero h = let z : rounds n k F ≡ zero = omega arith in rw z at rest
+  quiet-on (suc r) h =
+      ⊎-elim (λ (e : rounds n k F ≡ suc r). rw e at rest) (λ (l : rounds n k F < suc r). quiet-next r (quiet-on r (omega arith))) (eq-or-lt-of-le h)
 
   -- each counted round marks some node that had no mark,
   round-marks : (j : ℕ) → j < rounds n k F → (x : ℕ) × (x < 2 ^ n) × (newly n k F (marked n k F j) x ≡ true)
@@ -141,7 +148,56 @@ module _ (n k : ℕ) (F : ℕ → Bool) where
       go (inr a) = absurd (eqb-false (count (2 ^ n) (newly n k F (marked n k F j))) 0 (rounds-first j h) (count-none (2 ^ n) (newly n k F (marked n k F j)) a))
 
   pub rested : Rested n k F
-  rested = record { loud = round-marks; still = still; ceiling = rounds-le }
+  unfolding newly
+  rested =
+      record {
+        loud = λ r h. let m = round-marks r h in
+            let a = and-true (not (F (m .0))) (not (marked n k F r (m .0)) && meets n k F (marked n k F r) (m .0)) (m .2) in
+            let b = and-true (not (marked n k F r (m .0))) (meets n k F (marked n k F r) (m .0)) (a .1) in
+            (m .0, m .1, not-true _ (b .0), marked-suc r (m .0) ∙ or-right (marked n k F r (m .0)) (m .2));
+        still = λ r x h l. quiet-same r (quiet-on r h) x l;
+        ceiling = rounds-le;
+      }
+
+  -- ---- document 01's words
+
+  meets-says : (m : ℕ → Bool) (x : ℕ) → (meets n k F m x ≡ true) ↔ Unsafe n k F m x
+  unfolding meets
+  meets-says m x = (said, given)
+    where
+      out : ℕ
+      out = count n (λ i. F (flip i x))
+
+      bad : ℕ
+      bad = count n (λ i. F (flip i x) || m (flip i x))
+
+      said : meets n k F m x ≡ true → Unsafe n k F m x
+      said e = ⊎-elim (λ (a : leb 2 out ≡ true). inl (leb-true 2 out a)) (λ (a : leb k bad ≡ true). inr (leb-true k bad a)) (or-true (leb 2 out) (leb k bad) e)
+
+      given : Unsafe n k F m x → meets n k F m x ≡ true
+      given u = ⊎-elim (λ (h : 2 ≤ out). or-left (leb k bad) (le-leb 2 out h)) (λ (h : k ≤ bad). or-right (leb 2 out) (le-leb k bad h)) u
+
+  pub marks : Marks n k F
+  unfolding marked newly
+  marks = record { none = λ x. refl; next = λ r x. (said r x, given r x) }
+    where
+      said : (r x : ℕ) → marked n k F (suc r) x ≡ true → (marked n k F r x ≡ true) ⊎ ((F x ≡ false) × Unsafe n k F (marked n k F r) x)
+      said r x e = ⊎-elim (λ (a : marked n k F r x ≡ true). inl a) (λ (a : newly n k F (marked n k F r) x ≡ true). inr (fresh a))
+          (or-true (marked n k F r x) (newly n k F (marked n k F r) x) e)
+        where
+          fresh : newly n k F (marked n k F r) x ≡ true → (F x ≡ false) × Unsafe n k F (marked n k F r) x
+          fresh a =
+              let b = and-true (not (F x)) (not (marked n k F r x) && meets n k F (marked n k F r) x) a in
+              let c = and-true (not (marked n k F r x)) (meets n k F (marked n k F r) x) (b .1) in
+              (not-true (F x) (b .0), meets-says (marked n k F r) x .0 (c .1))
+
+      given : (r x : ℕ) → (marked n k F r x ≡ true) ⊎ ((F x ≡ false) × Unsafe n k F (marked n k F r) x) → marked n k F (suc r) x ≡ true
+      given r x (inl a) = or-left (newly n k F (marked n k F r) x) a
+      given r x (inr a) =
+          ⊎-elim (λ (m : marked n k F r x ≡ true). or-left (newly n k F (marked n k F r) x) m)
+          (λ (m : marked n k F r x ≡ false). or-right (marked n k F r x)
+          (and-both (ap not (a .0)) (and-both (ap not m) (meets-says (marked n k F r) x .1 (a .1)))))
+          (either (marked n k F r x))
 
   -- the round after the last counted one marks no node
   pub none-new : (x : ℕ) → x < 2 ^ n → newly n k F (marked n k F (rounds n k F)) x ≡ false

@@ -1,13 +1,26 @@
--- The rounds come to rest, and the round count says when. Proved in proofs/Rounds.antt.
-use mathlib.Core.Bool.{Bool, true}
+-- The rounds in document 01's words, that they come to rest, and that the round count says when. Proved in proofs/Rounds.antt.
+use mathlib.Core.Bool.{Bool, true, false, _||_}
+use mathlib.Core.Logic.{_⊎_, _↔_}
 use mathlib.Core.Path.{_≡_}
-use Prim.Native.Nat.{ℕ, _^_, _≤_, _<_}
-use Rattle.rule.specs.Rule.{marked, newly, quiet, rounds, working}
+use Prim.Native.Nat.{ℕ, suc, _^_, _≤_, _<_}
+use Rattle.cube.specs.Count.{count}
+use Rattle.cube.specs.Cube.{flip}
+use Rattle.rule.specs.Rule.{marked, rounds, working}
+
+-- "two or more faulty neighbours, or three or more neighbours that are faulty or unsafe" (k or more), with the marks m
+abbrev pub Unsafe : (n k : ℕ) (F m : ℕ → Bool) (x : ℕ) → Type 0
+Unsafe n k F m x = (2 ≤ count n (λ i. F (flip i x))) ⊎ (k ≤ count n (λ i. F (flip i x) || m (flip i x)))
+
+pub record Marks (n k : ℕ) (F : ℕ → Bool) : Type 0 where
+  -- "Round 0 has no unsafe node"
+  pub none : (x : ℕ) → marked n k F 0 x ≡ false
+  -- "Round r + 1 marks each working node that meets the rule with the marks of round r", and the marks stay
+  pub next : (r x : ℕ) → (marked n k F (suc r) x ≡ true) ↔ ((marked n k F r x ≡ true) ⊎ ((F x ≡ false) × Unsafe n k F (marked n k F r) x))
 
 pub record Rested (n k : ℕ) (F : ℕ → Bool) : Type 0 where
   -- each round that is counted marks some node that had no mark,
-  pub loud : (r : ℕ) → r < rounds n k F → (x : ℕ) × (x < 2 ^ n) × (newly n k F (marked n k F r) x ≡ true)
+  pub loud : (r : ℕ) → r < rounds n k F → (x : ℕ) × (x < 2 ^ n) × (marked n k F r x ≡ false) × (marked n k F (suc r) x ≡ true)
   -- the next one marks nothing new, and no later one does,
-  pub still : (r : ℕ) → rounds n k F ≤ r → quiet n k F r ≡ true
+  pub still : (r x : ℕ) → rounds n k F ≤ r → x < 2 ^ n → marked n k F (suc r) x ≡ marked n k F r x
   -- and no more are counted than there are working nodes
   pub ceiling : rounds n k F ≤ working n F

@@ -5,15 +5,15 @@ use mathlib.Core.Path.{_≡_, sym, ap, _∙_}
 use Prim.Native.Nat.{ℕ, _^_, _≤_, _<_}
 use native.Mathlib.Omega.{arith}
 use lib.Dec.{eqb}
-use borrow.Author.Tests.{eq-eqb, eqb-true}
+use borrow.Author.Tests.{eq-eqb, eqb-true, not-true}
 use Rattle.cube.specs.Cube.{flip}
-use Rattle.cube.proofs.Bools.{either, clash, is-false}
+use Rattle.cube.proofs.Bools.{either, clash, is-false, or-false}
 use Rattle.cube.proofs.Count.{count-same}
 use Rattle.cube.proofs.Cube.{flip-lt}
 use Rattle.rule.specs.Cabinet.{Cabinet, out, outByte, roundsOf, ruleOf}
 use Rattle.rule.specs.Closed.{Closed, Largest}
 use Rattle.rule.specs.Rounds.{Rested}
-use Rattle.rule.specs.Rule.{label, safe}
+use Rattle.rule.specs.Rule.{label, marked, safe}
 use Rattle.rule.proofs.Bytes.{out-byte, zero-safe, safe-zero, byte-out}
 use Rattle.rule.proofs.Cabinet.{label-in, out-high, table-good}
 use Rattle.rule.proofs.Largest.{safe-largest}
@@ -62,6 +62,14 @@ module _ (K : Cabinet) where
       below : ¬ (3 ≤ labelAt K x)
       below l = clash (byte-out n (out K) (outByte K) S (C .works) (out-high K) x (omega (arith, label-in K x h))) e
 
+  unmarked : (x : ℕ) → S x ≡ true → (out K x ≡ false) × (marked n (ruleOf K) (out K) (roundsOf K) x ≡ false)
+  unfolding safe roundsOf
+  unmarked x e = or-false (out K x) (marked n (ruleOf K) (out K) (roundsOf K) x) (not-true _ e)
+
+  makes-safe : (x : ℕ) → out K x ≡ false → marked n (ruleOf K) (out K) (roundsOf K) x ≡ false → S x ≡ true
+  unfolding safe roundsOf
+  makes-safe x f m = rw (f, m)
+
   pub demand2 : Demand2 K (labelAt K) (roundsOf K)
   unfolding roundsOf
   demand2 =
@@ -80,6 +88,7 @@ module _ (K : Cabinet) where
         works = works;
         ordinary = table-good K .ordinary;
         strong = table-good K .strong;
+        safe = λ x h. (λ e. unmarked x (zero-is x h e), λ e. is-zero x h (makes-safe x (e .0) (e .1)));
         loud = R .loud;
         still = R .still;
         ceiling = R .ceiling;

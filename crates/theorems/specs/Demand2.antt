@@ -1,12 +1,13 @@
 -- Demand 2: the labels are the paper's. K is a cabinet, lab x the label byte of its node x, and rounds the round count.
 use mathlib.Core.Bool.{Bool, true, false}
+use mathlib.Core.Logic.{_↔_}
 use mathlib.Core.Path.{_≡_}
-use Prim.Native.Nat.{ℕ, _^_, _≤_, _<_}
+use Prim.Native.Nat.{ℕ, suc, _^_, _≤_, _<_}
 use lib.Dec.{eqb}
 use Rattle.cube.specs.Cube.{flip}
 use Rattle.rule.specs.Cabinet.{Cabinet, out, ruleOf}
 use Rattle.rule.specs.Closed.{Closed}
-use Rattle.rule.specs.Rule.{marked, newly, quiet, working}
+use Rattle.rule.specs.Rule.{marked, working}
 
 pub record Demand2 (K : Cabinet) (lab : ℕ → ℕ) (rounds : ℕ) : Type 0 where
   -- of all sets of working nodes in which each has at most one faulty neighbour and at most two neighbours outside the set,
@@ -19,7 +20,11 @@ pub record Demand2 (K : Cabinet) (lab : ℕ → ℕ) (rounds : ℕ) : Type 0 whe
   -- an unsafe node without a safe neighbour is strongly unsafe; any other unsafe node is ordinarily unsafe
   pub ordinary : (x : ℕ) → x < 2 ^ K .n → lab x ≡ 1 → (i : ℕ) × (i < K .n) × (lab (flip i x) ≡ 0)
   pub strong : (x i : ℕ) → x < 2 ^ K .n → i < K .n → lab x ≡ 2 → lab (flip i x) ≡ 0 → ⊥
+  -- "the labels are those reached when a round marks nothing new": the safe nodes are the working ones that have no mark then,
+  pub safe : (x : ℕ) → x < 2 ^ K .n → (lab x ≡ 0) ↔ ((out K x ≡ false) × (marked (K .n) (ruleOf K) (out K) rounds x ≡ false))
   -- each round that is counted marked some node that had no mark, none after it marks anything new, and there are no more than working nodes
-  pub loud : (r : ℕ) → r < rounds → (x : ℕ) × (x < 2 ^ K .n) × (newly (K .n) (ruleOf K) (out K) (marked (K .n) (ruleOf K) (out K) r) x ≡ true)
-  pub still : (r : ℕ) → rounds ≤ r → quiet (K .n) (ruleOf K) (out K) r ≡ true
+  pub loud :
+      (r : ℕ) → r < rounds
+      → (x : ℕ) × (x < 2 ^ K .n) × (marked (K .n) (ruleOf K) (out K) r x ≡ false) × (marked (K .n) (ruleOf K) (out K) (suc r) x ≡ true)
+  pub still : (r x : ℕ) → rounds ≤ r → x < 2 ^ K .n → marked (K .n) (ruleOf K) (out K) (suc r) x ≡ marked (K .n) (ruleOf K) (out K) r x
   pub ceiling : rounds ≤ working (K .n) (out K)

@@ -1,0 +1,61 @@
+-- Each is proved where it belongs.
+use Rattle.cube.proofs.Laws.{cube-laws}
+use Rattle.groups.proofs.Laws.{number-laws}
+use Rattle.notice.proofs.Laws.{notice-laws}
+use Rattle.reader.proofs.Laws.{reader-laws}
+use Rattle.rule.proofs.Good.{labels-good}
+use Rattle.rule.proofs.Largest.{safe-largest}
+use Rattle.rule.proofs.Rounds.{marks, rested}
+use Rattle.scans.proofs.Hit.{table-hits}
+use Rattle.scans.proofs.Progress.{scans-progress}
+use Rattle.hop.proofs.Local.{hop-local}
+use Rattle.walk.proofs.Laws.{message-laws}
+use Rattle.walk.proofs.Local.{walk-local}
+use Rattle.theorems.proofs.Decision.{hop-picked}
+use Rattle.theorems.proofs.Demand2.{demand2}
+use Rattle.theorems.proofs.Demand3.{demand3}
+use Rattle.theorems.proofs.Repeats.{walk-repeats}
+use Rattle.hcube.proofs.Decoded.{decodes}
+use Rattle.promises.specs.Promises.{Promises}
+use Rattle.promises.proofs.Answers.{c-answers, rattle-answers}
+use Rattle.promises.proofs.Demands.{c-demands, rattle-demands}
+use Rattle.promises.proofs.InC.{in-c}
+use Rattle.promises.proofs.InRattle.{in-rattle}
+use Rattle.promises.proofs.Refusals.{refusals}
+use Rattle.promises.proofs.Settled.{settled, unasked}
+use Rattle.promises.proofs.Tied.{all-tied}
+use Rattle.promises.proofs.Worked.{worked}
+
+pub promises : Promises
+promises =
+    record {
+      tied = all-tied;
+      settled = settled;
+      unasked = unasked;
+      rattle-answers = rattle-answers;
+      c-answers = c-answers;
+      rattle-demands = rattle-demands;
+      c-demands = c-demands;
+      in-c = in-c;
+      in-rattle = in-rattle;
+      decodes = decodes;
+      demand2 = demand2;
+      demand3 = demand3;
+      largest = safe-largest;
+      rested = rested;
+      good = labels-good;
+      progress = scans-progress;
+      refusals = refusals;
+      marks = marks;
+      hits = table-hits;
+      picked = hop-picked;
+      repeats = walk-repeats;
+      hop-local = hop-local;
+      walk-local = walk-local;
+      cube = cube-laws;
+      number = number-laws;
+      notice = notice-laws;
+      reader = reader-laws;
+      message = message-laws;
+      worked = worked;
+    }

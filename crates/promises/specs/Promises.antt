@@ -1,0 +1,66 @@
+-- All that is promised of the library, in one record: if this is proved, each statement that it names is.
+use mathlib.Core.Bool.{Bool}
+use Prim.Native.Nat.{ℕ}
+use Rattle.cube.specs.Laws.{CubeLaws}
+use Rattle.groups.specs.Laws.{NumberLaws}
+use Rattle.notice.specs.Laws.{NoticeLaws}
+use Rattle.reader.specs.Laws.{ReaderLaws}
+use Rattle.rule.specs.Cabinet.{Cabinet, roundsOf}
+use Rattle.rule.specs.Closed.{Largest}
+use Rattle.rule.specs.Good.{LabelsGood}
+use Rattle.rule.specs.Rounds.{Marks, Rested}
+use Rattle.scans.specs.Hit.{TableHits}
+use Rattle.scans.specs.Progress.{ScansProgress}
+use Rattle.hop.specs.Local.{HopLocal}
+use Rattle.walk.specs.Laws.{MessageLaws}
+use Rattle.walk.specs.Local.{WalkLocal}
+use Rattle.theorems.specs.Demand2.{Demand2}
+use Rattle.theorems.specs.Demand3.{Demand3}
+use Rattle.theorems.specs.Picked.{HopPicked}
+use Rattle.theorems.specs.Repeats.{WalkRepeats}
+use Rattle.theorems.specs.Words.{labelAt}
+use Rattle.hcube.specs.Decoded.{Decodes}
+use Rattle.promises.specs.Answers.{Answers}
+use Rattle.promises.specs.Demands.{Demands}
+use Rattle.promises.specs.InC.{InC}
+use Rattle.promises.specs.InRattle.{InRattle}
+use Rattle.promises.specs.Library as library
+use Rattle.promises.specs.Refusals.{Refusals}
+use Rattle.promises.specs.Settled.{Settled, Unasked}
+use Rattle.promises.specs.Tied.{AllTied}
+use Rattle.promises.specs.Worked.{Worked}
+
+pub record Promises : Type 2 where
+  -- the contracts are the code's own, settle everything, ask nothing, and always allow an answer
+  pub tied : AllTied
+  pub settled : Settled
+  pub unasked : Unasked
+  pub rattle-answers : Answers library.rattle
+  pub c-answers : Answers library.c
+  -- the three demands, and what C and a caller in Rattle have in hand
+  pub rattle-demands : Demands library.rattle
+  pub c-demands : Demands library.c
+  pub in-c : InC
+  pub in-rattle : InRattle
+  pub decodes : Decodes
+  -- demands 2 and 3 of the definitions, and what they rest on
+  pub demand2 : (K : Cabinet) → Demand2 K (labelAt K) (roundsOf K)
+  pub demand3 : Demand3
+  pub largest : (n k : ℕ) (F : ℕ → Bool) → Largest n k F
+  pub rested : (n k : ℕ) (F : ℕ → Bool) → Rested n k F
+  pub good : LabelsGood
+  pub progress : ScansProgress
+  -- document 01's words
+  pub refusals : Refusals
+  pub marks : (n k : ℕ) (F : ℕ → Bool) → Marks n k F
+  pub hits : TableHits
+  pub picked : (n : ℕ) (lab : ℕ → ℕ) (c d : ℕ) → HopPicked n lab c d
+  pub repeats : WalkRepeats
+  pub hop-local : HopLocal
+  pub walk-local : WalkLocal
+  pub cube : CubeLaws
+  pub number : NumberLaws
+  pub notice : NoticeLaws
+  pub reader : ReaderLaws
+  pub message : MessageLaws
+  pub worked : Worked
