@@ -1,4 +1,5 @@
--- A number that was packed of small parts has these parts again, so each answer comes out as it was put in. Of a row: a node is below 65,536, so its two bytes make it.
+-- A number that was packed of small parts has these parts again, so each answer comes out as it was put in. Of a row: a node is below 65,536, so its two
+-- bytes make it.
 use mathlib.Core.Bool.{true, cond}
 use mathlib.Core.List.{List}
 use mathlib.Core.Path.{_≡_, refl, sym, ap, _∙_}
@@ -60,9 +61,11 @@ module _ (K : Cabinet) (m : ℕ) where
   unfolding L.labelled labelledFrom
   label-decoded =
       by-cases (λ a. LabelFits a → labelledFrom (labelNumber a) ≡ a) (eqb label-k 0)
-      (λ _ f. accepted (labelled.Rounds (valuePart (packed 0 0 (roundsOf K)))) labelled.Refused (refusalPart (packed 0 0 (roundsOf K))) (refusal-is 0 0 (roundsOf K) (omega arith) (f .1))
+      (λ _ f. accepted (labelled.Rounds (valuePart (packed 0 0 (roundsOf K)))) labelled.Refused (refusalPart (packed 0 0 (roundsOf K)))
+      (refusal-is 0 0 (roundsOf K) (omega arith) (f .1))
       ∙ ap labelled.Rounds (value-is 0 0 (roundsOf K) (f .1)))
-      (λ e _. refused (labelled.Rounds (valuePart (packed label-k 0 0))) labelled.Refused (refusalPart (packed label-k 0 0)) label-k (refusal-is label-k 0 0 (omega arith) (omega arith)) (eqb-false label-k 0 e))
+      (λ e _. refused (labelled.Rounds (valuePart (packed label-k 0 0))) labelled.Refused (refusalPart (packed label-k 0 0)) label-k
+      (refusal-is label-k 0 0 (omega arith) (omega arith)) (eqb-false label-k 0 e))
       (label-small K m)
 
 -- ---- the hop
@@ -94,7 +97,8 @@ module _ (n c d m : ℕ) (lab : ℕ → ℕ) where
       by-cases (λ a. HopFits a → hoppedFrom (hopNumber a) ≡ a) (eqb hop-k 0)
       (λ _ f. accepted (hopped.Decided (decisionFrom (kindPart number) (valuePart number))) hopped.Refused (refusalPart number)
       (refusal-is 0 (H.decisionKind x) (H.decisionValue x) (kind-small x) (f .1)) ∙ ap hopped.Decided (decision-decoded x (f .1)))
-      (λ e _. refused (hopped.Decided (decisionFrom (kindPart (packed hop-k 0 0)) (valuePart (packed hop-k 0 0)))) hopped.Refused (refusalPart (packed hop-k 0 0)) hop-k (refusal-is hop-k 0 0 (omega arith) (omega arith)) (eqb-false hop-k 0 e))
+      (λ e _. refused (hopped.Decided (decisionFrom (kindPart (packed hop-k 0 0)) (valuePart (packed hop-k 0 0)))) hopped.Refused
+      (refusalPart (packed hop-k 0 0)) hop-k (refusal-is hop-k 0 0 (omega arith) (omega arith)) (eqb-false hop-k 0 e))
       (hop-small n c d m lab)
 
 -- ---- the walk
@@ -145,14 +149,16 @@ module _ (w : Walked) (fits : W.refusalOf (w .ending) < 256) (few : w .hops < 65
   ended-decoded before h r =
       let t = ended (w .ending) h refl in
       ap (walkedFrom walk-number) (sym (written w before h))
-      ∙ accepted (record { row = tab 17 (nodeAt (tab W.rowBytes (rowByte (w .row)))); hops = valuePart walk-number; ending = endingFrom (kindPart walk-number) }) W.refused
+      ∙ accepted (record { row = tab 17 (nodeAt (tab W.rowBytes (rowByte (w .row)))); hops = valuePart walk-number; ending = endingFrom (kindPart walk-number) })
+      W.refused
       (refusalPart walk-number) (t .0)
       ∙ rw (r, t .1, t .2)
 
 refused-decoded : (before : List ℕ) (k : ℕ) → (k ≡ 0 → ⊥) → walkedFrom (walkNumber (W.refused k)) (rowAfter (W.refused k) before) ≡ W.refused k
 unfolding walkedFrom W.refused
 refused-decoded before k h =
-    refused (record { row = tab 17 (nodeAt (rowAfter (W.refused k) before)); hops = valuePart (packed k 0 0); ending = endingFrom (kindPart (packed k 0 0)) }) W.refused
+    refused (record { row = tab 17 (nodeAt (rowAfter (W.refused k) before)); hops = valuePart (packed k 0 0); ending = endingFrom (kindPart (packed k 0 0)) })
+    W.refused
     (refusalPart (packed k 0 0)) k (refusal-is k 0 0 (omega arith) (omega arith)) h
 
 module _ (n s d : ℕ) (labels before : List ℕ) where
@@ -168,13 +174,15 @@ module _ (n s d : ℕ) (labels before : List ℕ) where
   row-back e =
       let p = walk-good n s d (length labels) (length before) lab e .placed in
       row-decoded (λ k. cond (leb k (W.hops n lab d s)) (W.spot n lab d s k) 0)
-      (λ k _. by-cases (λ x. x < 65536) (leb k (W.hops n lab d s)) (λ _. omega (arith, spot-lt n lab d s (p .first) k, nodes-few n (p .small))) (λ _. omega arith))
+      (λ k _. by-cases (λ x. x < 65536) (leb k (W.hops n lab d s))
+      (λ _. omega (arith, spot-lt n lab d s (p .first) k, nodes-few n (p .small))) (λ _. omega arith))
 
   walk-decoded : walkedFrom (walkNumber (walkedBy n s d labels before)) (rowAfter (walkedBy n s d labels before) before) ≡ walkedBy n s d labels before
   unfolding W.walked W.walkFrom
   walk-decoded =
       by-cases (λ w. WalkFits w → walkedFrom (walkNumber w) (rowAfter w before) ≡ w) (eqb walk-k 0)
-      (λ e f. ended-decoded (W.walkFrom n lab d s) (f .0) (f .1) before (has-row n s d (length labels) (length before) lab (eqb-true walk-k 0 e)) (row-back (eqb-true walk-k 0 e)))
+      (λ e f. ended-decoded (W.walkFrom n lab d s) (f .0) (f .1) before
+      (has-row n s d (length labels) (length before) lab (eqb-true walk-k 0 e)) (row-back (eqb-true walk-k 0 e)))
       (λ e _. refused-decoded before walk-k (eqb-false walk-k 0 e))
       (walk-small n s d (length labels) (length before) lab)
 

@@ -29,7 +29,8 @@ width-is n (suc j) h f = ap suc (sym (least-is 19 (λ t. ltb n (10 ^ suc t)) j (
 pub few-digits : (n k : ℕ) → n < 18446744073709551616 → Fewest 10 1 n k → k ≤ 20
 few-digits n k h f =
     ⊎-elim (λ (t : leb k 20 ≡ true). leb-true k 20 t)
-    (λ (t : leb k 20 ≡ false). let l = leb-false k 20 t in absurd (omega (arith, f .2 (omega arith), tens {i = 20} {j = k - 1} (omega arith)))) (either (leb k 20))
+    (λ (t : leb k 20 ≡ false). let l = leb-false k 20 t in absurd (omega (arith, f .2 (omega arith), tens {i = 20} {j = k - 1} (omega arith))))
+    (either (leb k 20))
 
 pub decimal-is : (n k : ℕ) → k ≤ 20 → Fewest 10 1 n k → digits 10 k n ≡ decimal n
 unfolding decimal

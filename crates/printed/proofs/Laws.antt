@@ -119,7 +119,8 @@ module _ (left n : ℕ) (labels s : List ℕ) where
       → pairLines (suc left) n labels s at ≡ inputRefused k
   unfolding pairLines
   last-line at k h p =
-      rw (lt-ltb at (length s) h) (ap₂ (λ (x y : List ℕ). x ++ y) (sym (p .0)) (none-left n labels s left (nextAt s at) (omega (arith, p .1))) ∙ append-nil (inputRefused k))
+      rw (lt-ltb at (length s) h)
+      (ap₂ (λ (x y : List ℕ). x ++ y) (sym (p .0)) (none-left n labels s left (nextAt s at) (omega (arith, p .1))) ∙ append-nil (inputRefused k))
 
   source-refused : (at k : ℕ) → at < length s → numberAt s at ≡ number.Refused k → pairLines (suc left) n labels s at ≡ inputRefused k
   source-refused at k h e = last-line at k h (first-refused n labels s at e)

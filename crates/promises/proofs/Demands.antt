@@ -97,7 +97,8 @@ module _ (lib : Library) (F : Faithful lib) where
     again =
         let f = F .walks v in
         subst (Repeats n s d (length table) (labelIn table)) (sym f)
-        (walk-repeats n s d (length table) room (labelIn table) (of-ended n s d (length table) room (labelIn table) (ap (λ (u : Walked). W.refusalOf (u .ending)) (sym f) ∙ e)))
+        (walk-repeats n s d (length table) room (labelIn table)
+        (of-ended n s d (length table) room (labelIn table) (ap (λ (u : Walked). W.refusalOf (u .ending)) (sym f) ∙ e)))
 
     steps : {k : ℕ} {x : Hopped} → k < w .hops → lib .hops n (place w k) d table x
         → (i : ℕ) × (i < n) × (x ≡ hopped.Decided (Hop i)) × (place w (k + 1) ≡ flip i (place w k))
@@ -110,7 +111,8 @@ module _ (lib : Library) (F : Faithful lib) where
   demands : Demands lib
   demands =
       record {
-        label-refusal = λ {K} {before} m. subst (λ x. LabelGiven K (length before) (L.refusalOf x)) (sym (F .labels m .0)) (refusals .labelling K (length before));
+        label-refusal = λ {K} {before} m. subst (λ x. LabelGiven K (length before) (L.refusalOf x)) (sym (F .labels m .0))
+            (refusals .labelling K (length before));
         hop-refusal = λ {n} {c} {d} {table} m. subst (λ x. HopGiven n c d (length table) (labelIn table) (H.refusalOf x)) (sym (F .hops m))
             (refusals .hop n c d (length table) (labelIn table));
         walk-refusal = λ {n} {s} {d} {room} {table} v. subst (λ (w : Walked). WalkGiven n s d (length table) room (labelIn table) (W.refusalOf (w .ending)))
@@ -124,7 +126,8 @@ module _ (lib : Library) (F : Faithful lib) where
             subst (TableOf n m (N.addressesOf bytes)) (sym (f .1)) (notice-laws .written bytes before n m taken (sym (f .0)));
         labels-written = λ m. sym (left m .bytes);
         labels = labels;
-        hop = λ {n} {c} {d} {table} {x} m. subst (Picked n (labelIn table) c d) (of-decided n c d (length table) (labelIn table) x (sym (F .hops m))) (picked n (labelIn table) c d);
+        hop = λ {n} {c} {d} {table} {x} m. subst (Picked n (labelIn table) c d) (of-decided n c d (length table) (labelIn table) x (sym (F .hops m)))
+            (picked n (labelIn table) c d);
         hop-local = λ {n} {c} {d} {table} {table′} m m′ long own near. F .hops m
             ∙ ap (λ (k : ℕ). H.hopped n c d k (labelIn table)) long
             ∙ hop-local n c d (length table′) (labelIn table) (labelIn table′) own near ∙ sym (F .hops m′);

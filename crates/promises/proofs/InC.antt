@@ -137,5 +137,9 @@ in-c =
       notice-refuses = λ {r} m v. let e = notice-same m v in omega arith;
       row-nodes = λ m h v. row-nodes m h v;
       row-bytes = row-bytes;
-      row-whole = λ m m′ h h′. (whole m h, bytes m h ∙ ap (λ (u : Walked). tab W.rowBytes (rowByte (u .row))) (same m h ∙ sym (same m′ h′)) ∙ sym (bytes m′ h′));
+      row-whole = λ m m′ h h′. (
+        whole m h,
+        bytes m h
+            ∙ ap (λ (u : Walked). tab W.rowBytes (rowByte (u .row))) (same m h ∙ sym (same m′ h′)) ∙ sym (bytes m′ h′),
+      );
     }

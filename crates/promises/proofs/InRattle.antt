@@ -25,7 +25,8 @@ in-rattle =
           ∙ ap (λ (k : ℕ). (drop k bytes, (block, offset + k))) (notice-laws .tail-behind bytes before n m taken (sym (told notice.read-says r .0)));
       tail-empty = λ {bytes} {before} {after} {k} {block} {offset} r h t. let e = notice-laws .tail-empty bytes before k (sym (told notice.read-says r .0)) h in
           told notice.tail-says t .0 ∙ ap₂ (λ (s : List ℕ) (j : ℕ). (s, (block, offset + j))) (e .1) (e .0);
-      number-refusal = λ {bytes} {at} m. subst (λ (x : Number). NumberGiven bytes at (refusalIn x)) (sym (told groups.number-at-says m .0)) (refusals .number bytes at);
+      number-refusal = λ {bytes} {at} m. subst (λ (x : Number). NumberGiven bytes at (refusalIn x)) (sym (told groups.number-at-says m .0))
+          (refusals .number bytes at);
       new = λ m. let e = told reader.new-says m .0 in (ap (λ (r : Reader). r .bytes) e, ap (λ (r : Reader). r .at) e);
       next = λ m y. told reader.next-says m .0 ∙ sym (told groups.number-at-says y .0);
       next-keeps = λ m. ap (λ (r : Reader). r .bytes) (told reader.next-says m .1);

@@ -1,4 +1,5 @@
--- Whatever a contract allows is what the definitions give: of Rattle's functions by what each contract says, of C's by that and by what C takes out of an answer.
+-- Whatever a contract allows is what the definitions give: of Rattle's functions by what each contract says, of C's by that
+-- and by what C takes out of an answer.
 use mathlib.Core.List.{List}
 use mathlib.Core.Logic.{⊎-elim}
 use mathlib.Core.Path.{_≡_, sym, ap, ap₂, _∙_}
@@ -27,7 +28,9 @@ use Rattle.promises.specs.Library.{Library, rattle, c}
 
 pub record Faithful (lib : Library) : Type 0 where
   pub reads : {bytes before after : List ℕ} {x : Noticed} → lib .reads bytes before x after → (x ≡ noticed bytes before) × (after ≡ tableAfter bytes before)
-  pub labels : {K : Cabinet} {before after : List ℕ} {x : Labelled} → lib .labels K before x after → (x ≡ labelled K (length before)) × (after ≡ labelsAfter K before)
+  pub labels :
+      {K : Cabinet} {before after : List ℕ} {x : Labelled} → lib .labels K before x after
+      → (x ≡ labelled K (length before)) × (after ≡ labelsAfter K before)
   pub hops : {n c d : ℕ} {table : List ℕ} {x : Hopped} → lib .hops n c d table x → x ≡ hopped n c d (length table) (labelIn table)
   pub walks : {n s d room : ℕ} {table : List ℕ} {w : Walked} → lib .walks n s d table room w → w ≡ walked n s d (length table) room (labelIn table)
 

@@ -1,5 +1,5 @@
--- The three demands, of whatever the contracts allow: labelling asked and answered, then hop and walk asked on the bytes that it left, and the notice reader before
--- them. lib is the library, as Rattle or as C calls it.
+-- The three demands, of whatever the contracts allow: labelling asked and answered, then hop and walk asked on the bytes that it left, and the notice
+-- reader before them. lib is the library, as Rattle or as C calls it.
 use mathlib.Core.List.{List}
 use mathlib.Core.Logic.{_⊎_}
 use mathlib.Core.Path.{_≡_}

@@ -1,5 +1,6 @@
--- The library's four questions as relations: what is handed, what is answered and what is left, wherever the contract of the function allows it. `rattle` has the
--- functions that Rattle calls. `c` has those that C calls, and there the answer is what C takes out of the number and the row by the header's macros.
+-- The library's four questions as relations: what is handed, what is answered and what is left, wherever the contract of the function allows it.
+-- `rattle` has the functions that Rattle calls. `c` has those that C calls, and there the answer is what C takes out of the number and the row by the
+-- header's macros.
 use mathlib.Core.List.{List}
 use mathlib.Core.Logic.{_⊎_}
 use mathlib.Core.Path.{_≡_}

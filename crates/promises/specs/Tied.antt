@@ -1,5 +1,5 @@
--- The functions that the promises speak of are those of the code: for each public function by its name, the clauses and claims that its crate's Functions gives are those
--- that the check made of that very function.
+-- The functions that the promises speak of are those of the code: for each public function by its name, the clauses and claims that its crate's
+-- Functions gives are those that the check made of that very function.
 use mathlib.Core.Path.{_≡_}
 use base.Logic.{emp}
 use borrow.Fn.Claims.{AllOf}
@@ -62,26 +62,62 @@ module _ {T : Ended} {A X B : Type 0} (f : Function T A X B) (written : Written 
         → (read : ReadAt w₀ (λ w. emp (w .𝓤)) no-know (written w₀ κs a .ensures g r e)) × (f .post κs a r e ≡ AllOf (read .tells))
 
 pub record AllTied : Type 2 where
-  pub hcube-label : Tied hcube.label (λ w. hcube-label.clauses (w .𝓤) (w .H) (w .𝓖 .A) (w .𝓜 .mem) (w .𝓡 .run)) hcube-label.Reads.Asked hcube-label.Reads.Post
+  pub hcube-label :
+      Tied hcube.label (λ w. hcube-label.clauses (w .𝓤) (w .H) (w .𝓖 .A) (w .𝓜 .mem) (w .𝓡 .run))
+      hcube-label.Reads.Asked hcube-label.Reads.Post
   pub hcube-hop : Tied hcube.hop (λ w. hcube-hop.clauses (w .𝓤) (w .H) (w .𝓖 .A) (w .𝓜 .mem) (w .𝓡 .run)) hcube-hop.Reads.Asked hcube-hop.Reads.Post
-  pub hcube-walk : Tied hcube.walk (λ w. hcube-walk.clauses (w .𝓤) (w .H) (w .𝓖 .A) (w .𝓜 .mem) (w .𝓡 .run)) hcube-walk.Reads.Asked hcube-walk.Reads.Post
-  pub hcube-read-notice : Tied hcube.read-notice (λ w. hcube-read-notice.clauses (w .𝓤) (w .H) (w .𝓖 .A) (w .𝓜 .mem) (w .𝓡 .run)) hcube-read-notice.Reads.Asked hcube-read-notice.Reads.Post
-  pub labels-label : Tied labels.label (λ w. labels-label.clauses (w .𝓤) (w .H) (w .𝓖 .A) (w .𝓜 .mem) (w .𝓡 .run)) labels-label.Reads.Asked labels-label.Reads.Post
+  pub hcube-walk :
+      Tied hcube.walk (λ w. hcube-walk.clauses (w .𝓤) (w .H) (w .𝓖 .A) (w .𝓜 .mem) (w .𝓡 .run))
+      hcube-walk.Reads.Asked hcube-walk.Reads.Post
+  pub hcube-read-notice :
+      Tied hcube.read-notice (λ w. hcube-read-notice.clauses (w .𝓤) (w .H) (w .𝓖 .A) (w .𝓜 .mem) (w .𝓡 .run))
+      hcube-read-notice.Reads.Asked hcube-read-notice.Reads.Post
+  pub labels-label :
+      Tied labels.label (λ w. labels-label.clauses (w .𝓤) (w .H) (w .𝓖 .A) (w .𝓜 .mem) (w .𝓡 .run))
+      labels-label.Reads.Asked labels-label.Reads.Post
   pub hop-hop : Tied hop.hop (λ w. hop-hop.clauses (w .𝓤) (w .H) (w .𝓖 .A) (w .𝓜 .mem) (w .𝓡 .run)) hop-hop.Reads.Asked hop-hop.Reads.Post
-  pub hop-place-refusal : Tied hop.place-refusal (λ w. hop-place-refusal.clauses (w .𝓤) (w .H) (w .𝓖 .A) (w .𝓜 .mem) (w .𝓡 .run)) hop-place-refusal.Reads.Asked hop-place-refusal.Reads.Post
-  pub hop-hop-at : Tied hop.hop-at (λ w. hop-hop-at.clauses (w .𝓤) (w .H) (w .𝓖 .A) (w .𝓜 .mem) (w .𝓡 .run)) hop-hop-at.Reads.Asked hop-hop-at.Reads.Post
+  pub hop-place-refusal :
+      Tied hop.place-refusal (λ w. hop-place-refusal.clauses (w .𝓤) (w .H) (w .𝓖 .A) (w .𝓜 .mem) (w .𝓡 .run))
+      hop-place-refusal.Reads.Asked hop-place-refusal.Reads.Post
+  pub hop-hop-at :
+      Tied hop.hop-at (λ w. hop-hop-at.clauses (w .𝓤) (w .H) (w .𝓖 .A) (w .𝓜 .mem) (w .𝓡 .run))
+      hop-hop-at.Reads.Asked hop-hop-at.Reads.Post
   pub walk-walk : Tied walk.walk (λ w. walk-walk.clauses (w .𝓤) (w .H) (w .𝓖 .A) (w .𝓜 .mem) (w .𝓡 .run)) walk-walk.Reads.Asked walk-walk.Reads.Post
-  pub walk-walk-for : Tied walk.walk-for (λ w. walk-walk-for.clauses (w .𝓤) (w .H) (w .𝓖 .A) (w .𝓜 .mem) (w .𝓡 .run)) walk-walk-for.Reads.Asked walk-walk-for.Reads.Post
-  pub notice-read : Tied notice.read (λ w. notice-read.clauses (w .𝓤) (w .H) (w .𝓖 .A) (w .𝓜 .mem) (w .𝓡 .run)) notice-read.Reads.Asked notice-read.Reads.Post
-  pub notice-tail : Tied notice.tail (λ w. notice-tail.clauses (w .𝓤) (w .H) (w .𝓖 .A) (w .𝓜 .mem) (w .𝓡 .run)) notice-tail.Reads.Asked notice-tail.Reads.Post
-  pub groups-number-at : Tied groups.number-at (λ w. groups-number-at.clauses (w .𝓤) (w .H) (w .𝓖 .A) (w .𝓜 .mem) (w .𝓡 .run)) groups-number-at.Reads.Asked groups-number-at.Reads.Post
+  pub walk-walk-for :
+      Tied walk.walk-for (λ w. walk-walk-for.clauses (w .𝓤) (w .H) (w .𝓖 .A) (w .𝓜 .mem) (w .𝓡 .run))
+      walk-walk-for.Reads.Asked walk-walk-for.Reads.Post
+  pub notice-read :
+      Tied notice.read (λ w. notice-read.clauses (w .𝓤) (w .H) (w .𝓖 .A) (w .𝓜 .mem) (w .𝓡 .run))
+      notice-read.Reads.Asked notice-read.Reads.Post
+  pub notice-tail :
+      Tied notice.tail (λ w. notice-tail.clauses (w .𝓤) (w .H) (w .𝓖 .A) (w .𝓜 .mem) (w .𝓡 .run))
+      notice-tail.Reads.Asked notice-tail.Reads.Post
+  pub groups-number-at :
+      Tied groups.number-at (λ w. groups-number-at.clauses (w .𝓤) (w .H) (w .𝓖 .A) (w .𝓜 .mem) (w .𝓡 .run))
+      groups-number-at.Reads.Asked groups-number-at.Reads.Post
   pub reader-new : TiedMethod reader.new (λ w. reader-new.clauses (w .𝓤) (w .H) (w .𝓖 .A) (w .𝓜 .mem) (w .𝓡 .run))
   pub reader-next : TiedMethod reader.next (λ w. reader-next.clauses (w .𝓤) (w .H) (w .𝓖 .A) (w .𝓜 .mem) (w .𝓡 .run))
-  pub reader-next-at : Tied reader.next-at (λ w. reader-next-at.clauses (w .𝓤) (w .H) (w .𝓖 .A) (w .𝓜 .mem) (w .𝓡 .run)) reader-next-at.Reads.Asked reader-next-at.Reads.Post
-  pub cube-distance : Tied cube.distance (λ w. cube-distance.clauses (w .𝓤) (w .H) (w .𝓖 .A) (w .𝓜 .mem) (w .𝓡 .run)) cube-distance.Reads.Asked cube-distance.Reads.Post
-  pub cube-is-dimension : Tied cube.is-dimension (λ w. cube-is-dimension.clauses (w .𝓤) (w .H) (w .𝓖 .A) (w .𝓜 .mem) (w .𝓡 .run)) cube-is-dimension.Reads.Asked cube-is-dimension.Reads.Post
-  pub cube-nodes : Tied cube.nodes (λ w. cube-nodes.clauses (w .𝓤) (w .H) (w .𝓖 .A) (w .𝓜 .mem) (w .𝓡 .run)) cube-nodes.Reads.Asked cube-nodes.Reads.Post
-  pub cube-neighbour : Tied cube.neighbour (λ w. cube-neighbour.clauses (w .𝓤) (w .H) (w .𝓖 .A) (w .𝓜 .mem) (w .𝓡 .run)) cube-neighbour.Reads.Asked cube-neighbour.Reads.Post
-  pub cube-table-len : Tied cube.table-len (λ w. cube-table-len.clauses (w .𝓤) (w .H) (w .𝓖 .A) (w .𝓜 .mem) (w .𝓡 .run)) cube-table-len.Reads.Asked cube-table-len.Reads.Post
-  pub cube-node-bit : Tied cube.node-bit (λ w. cube-node-bit.clauses (w .𝓤) (w .H) (w .𝓖 .A) (w .𝓜 .mem) (w .𝓡 .run)) cube-node-bit.Reads.Asked cube-node-bit.Reads.Post
-  pub cube-unused-set : Tied cube.unused-set (λ w. cube-unused-set.clauses (w .𝓤) (w .H) (w .𝓖 .A) (w .𝓜 .mem) (w .𝓡 .run)) cube-unused-set.Reads.Asked cube-unused-set.Reads.Post
+  pub reader-next-at :
+      Tied reader.next-at (λ w. reader-next-at.clauses (w .𝓤) (w .H) (w .𝓖 .A) (w .𝓜 .mem) (w .𝓡 .run))
+      reader-next-at.Reads.Asked reader-next-at.Reads.Post
+  pub cube-distance :
+      Tied cube.distance (λ w. cube-distance.clauses (w .𝓤) (w .H) (w .𝓖 .A) (w .𝓜 .mem) (w .𝓡 .run))
+      cube-distance.Reads.Asked cube-distance.Reads.Post
+  pub cube-is-dimension :
+      Tied cube.is-dimension (λ w. cube-is-dimension.clauses (w .𝓤) (w .H) (w .𝓖 .A) (w .𝓜 .mem) (w .𝓡 .run))
+      cube-is-dimension.Reads.Asked cube-is-dimension.Reads.Post
+  pub cube-nodes :
+      Tied cube.nodes (λ w. cube-nodes.clauses (w .𝓤) (w .H) (w .𝓖 .A) (w .𝓜 .mem) (w .𝓡 .run))
+      cube-nodes.Reads.Asked cube-nodes.Reads.Post
+  pub cube-neighbour :
+      Tied cube.neighbour (λ w. cube-neighbour.clauses (w .𝓤) (w .H) (w .𝓖 .A) (w .𝓜 .mem) (w .𝓡 .run))
+      cube-neighbour.Reads.Asked cube-neighbour.Reads.Post
+  pub cube-table-len :
+      Tied cube.table-len (λ w. cube-table-len.clauses (w .𝓤) (w .H) (w .𝓖 .A) (w .𝓜 .mem) (w .𝓡 .run))
+      cube-table-len.Reads.Asked cube-table-len.Reads.Post
+  pub cube-node-bit :
+      Tied cube.node-bit (λ w. cube-node-bit.clauses (w .𝓤) (w .H) (w .𝓖 .A) (w .𝓜 .mem) (w .𝓡 .run))
+      cube-node-bit.Reads.Asked cube-node-bit.Reads.Post
+  pub cube-unused-set :
+      Tied cube.unused-set (λ w. cube-unused-set.clauses (w .𝓤) (w .H) (w .𝓖 .A) (w .𝓜 .mem) (w .𝓡 .run))
+      cube-unused-set.Reads.Asked cube-unused-set.Reads.Post
