@@ -16,7 +16,7 @@ use Rattle.groups.specs.declared.Number.{Number}
 use Rattle.groups.specs.declared.Number.the-variants.{Value, Refused}
 
 -- a refusal is no value
-pub no-value : {k v next : ℕ} → Refused k ≡ Value v next → ⊥
+pub no-value : {k at v next : ℕ} → Refused k at ≡ Value v next → ⊥
 no-value e = let z : _≡_ {A = ℕ} 0 1 = cc in omega arith
 
 -- a second group that is neither zero nor has its high bit set
@@ -24,8 +24,8 @@ seven-bits : (b : ℕ) → (eqb b 0 || leb 128 b) ≡ false → (1 ≤ b) × (b 
 seven-bits zero e = let z : _≡_ {A = ℕ} 0 1 = cc in absurd (omega arith)
 seven-bits (suc b) e = (omega arith, leb-false 128 (suc b) (rw (ne-eqb (suc b) 0 (omega arith)) at e))
 
--- a number is 9, 10, or a value with the next place
-pub cases : (s : List ℕ) (at : ℕ) (P : Number → Type 0) → P (Refused 9) → P (Refused 10)
+-- a number is 9 or 10 with its own place, or a value with the next place
+pub cases : (s : List ℕ) (at : ℕ) (P : Number → Type 0) → P (Refused 9 at) → P (Refused 10 at)
     → ((v next : ℕ) → ReadNumber s at v next → P (Value v next)) → P (numberAt s at)
 unfolding numberAt twoGroups
 cases s at P nine ten value =
@@ -54,19 +54,23 @@ read-number s at v next =
     cases s at (λ x. x ≡ Value v next → ReadNumber s at v next) (λ e. absurd (no-value e)) (λ e. absurd (no-value e))
     (λ w after r e. let p : w ≡ v = cc in let q : after ≡ next = cc in rw (← p, ← q) r)
 
-pub refused-number : (s : List ℕ) (at k : ℕ) → numberAt s at ≡ Refused k → (k ≡ 9) ⊎ (k ≡ 10)
-refused-number s at k =
-    cases s at (λ x. x ≡ Refused k → (k ≡ 9) ⊎ (k ≡ 10)) (λ e. let p : k ≡ 9 = cc in inl p) (λ e. let p : k ≡ 10 = cc in inr p)
+pub refused-number : (s : List ℕ) (at k place : ℕ) → numberAt s at ≡ Refused k place → (k ≡ 9) ⊎ (k ≡ 10)
+refused-number s at k place =
+    cases s at (λ x. x ≡ Refused k place → (k ≡ 9) ⊎ (k ≡ 10)) (λ e. let p : k ≡ 9 = cc in inl p) (λ e. let p : k ≡ 10 = cc in inr p)
     (λ v next r e. absurd (no-value (sym e)))
+
+pub refused-place : (s : List ℕ) (at k place : ℕ) → numberAt s at ≡ Refused k place → place ≡ at
+refused-place s at k place =
+    cases s at (λ x. x ≡ Refused k place → place ≡ at) (λ e. cc) (λ e. cc) (λ v next r e. absurd (no-value (sym e)))
 
 -- ---- a first group that has its high bit set, and a byte behind it: there are two groups, and the second decides
 
 module _ (s : List ℕ) (at : ℕ) (more : at + 1 < length s) (high : 128 ≤ getD s at 0) where
-  both : numberAt s at ≡ twoGroups (getD s at 0) (getD s (at + 1) 0) (at + 2)
+  both : numberAt s at ≡ twoGroups (getD s at 0) (getD s (at + 1) 0) at
   unfolding numberAt
   both = rw (lt-leb (length s) at (omega arith), le-ltb (getD s at 0) 128 high, lt-leb (length s) (at + 1) more)
 
-  pub second-refused : (eqb (getD s (at + 1) 0) 0 || leb 128 (getD s (at + 1) 0)) ≡ true → Refused 10 ≡ numberAt s at
+  pub second-refused : (eqb (getD s (at + 1) 0) 0 || leb 128 (getD s (at + 1) 0)) ≡ true → Refused 10 at ≡ numberAt s at
   unfolding twoGroups
   second-refused e = sym (both ∙ rw e)
 

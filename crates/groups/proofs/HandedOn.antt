@@ -1,5 +1,5 @@
 -- A number read in the bytes from place k on is the number of the whole bytes k places further: both ask the same tests of the same bytes, and the
--- next place differs by k.
+-- place answered differs by k.
 use mathlib.Core.Path.{_≡_, refl}
 use mathlib.Core.Bool.{Bool, true, false, cond}
 use mathlib.Core.List.{List}
@@ -23,9 +23,9 @@ module _ (k : ℕ) where
   unfolding further
   further-value v next = refl
 
-  further-refused : (r : ℕ) → further k (Refused r) ≡ Refused r
+  further-refused : (r at : ℕ) → further k (Refused r at) ≡ Refused r (k + at)
   unfolding further
-  further-refused r = refl
+  further-refused r at = refl
 
 module _ (s : List ℕ) (k at : ℕ) where
   ends : leb (length (drop k s)) at ≡ leb (length s) (k + at)

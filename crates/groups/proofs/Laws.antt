@@ -10,7 +10,7 @@ use Rattle.cube.proofs.Bools.{by-cases}
 use Rattle.groups.specs.Number.{groupsOf, numberAt, twoGroups}
 use Rattle.groups.specs.Laws.{NumberLaws}
 use Rattle.groups.specs.declared.Number.the-variants.{Value}
-use Rattle.groups.proofs.Groups.{read-number, refused-number}
+use Rattle.groups.proofs.Groups.{read-number, refused-number, refused-place}
 use Rattle.groups.proofs.HandedOn.{handed-on}
 
 two-back : (v : ℕ) (rest : List ℕ) → v < 16384 → 128 ≤ v → numberAt ((128 + v % 128) ∷ v / 128 ∷ rest) 0 ≡ Value v 2
@@ -36,10 +36,13 @@ unfolding numberAt twoGroups
 number-laws = record {
   value = read-number;
   refused = refused-number;
+  refused-place = refused-place;
   back = back;
   handed-on = handed-on;
   two-groups = refl;
   zero-group = refl;
   high-bit = refl;
   cut-short = refl;
+  second-bad = refl;
+  missing = refl;
 }

@@ -18,6 +18,19 @@ use Rattle.notice.specs.Tests.{tested, addressTests}
 use Rattle.notice.specs.Addresses.{addressesEnd, addressesAt, rising}
 use Rattle.notice.proofs.Cases.{on-number, tested-value}
 
+-- an address that is not refused
+pub read-address : (s : List ℕ) (at base size : ℕ) {v next : ℕ} → tested (addressTests base size) at (numberAt s at) ≡ Value v next
+    → (numberAt s at ≡ Value v next) × (base + v < size)
+read-address s at base size {v} e =
+    let passed = tested-value (addressTests base size) at (numberAt s at) e in
+    (passed .0, leb-false size (base + v) (first-none 12 (addressTests base size v) refl (passed .1) .0))
+
+-- its bytes are no more than its number and one
+pub few-bytes : (s : List ℕ) (at v next : ℕ) → numberAt s at ≡ Value v next → next ≤ at + v + 1
+few-bytes s at v next here =
+    let r = read-number s at v next here in
+    ⊎-elim (λ (h : v ≡ 0). omega (arith, r .shortest (omega arith))) (λ (h : 0 < v). omega (arith, r .near)) (eq-zero-or-pos v)
+
 -- the first of suc m addresses that are not refused, and the others behind it
 pub record FirstAddress (m : ℕ) (s : List ℕ) (at base size last end : ℕ) : Type 0 where
   pub v : ℕ
@@ -30,17 +43,11 @@ pub first-address : (m : ℕ) (s : List ℕ) (at base size last end : ℕ) → a
     → FirstAddress m s at base size last end
 unfolding addressesEnd
 first-address m s at base size last end =
-    on-number (λ y. y ≡ Value last end → FirstAddress m s at base size last end) (tested (addressTests base size) (numberAt s at))
-    (λ _ _ e. absurd (no-value e))
+    on-number (λ y. y ≡ Value last end → FirstAddress m s at base size last end) (tested (addressTests base size) at (numberAt s at))
+    (λ _ _ _ e. absurd (no-value e))
     (λ v next here e.
-    let passed = tested-value (addressTests base size) (numberAt s at) here in
-    record {
-      v = v;
-      next = next;
-      number = passed .0;
-      below = leb-false size (base + v) (first-none 12 (addressTests base size v) refl (passed .1) .0);
-      others = e;
-    })
+    let read = read-address s at base size here in
+    record { v = v; next = next; number = read .0; below = read .1; others = e })
 
 pub record ReadAddresses (m : ℕ) (s : List ℕ) (at base size last end : ℕ) : Type 0 where
   pub counted : length (addressesAt m s at base) ≡ m
@@ -58,12 +65,6 @@ module _ (m : ℕ) (s : List ℕ) (at base size v next last end : ℕ) (here : n
   unfolding addressesAt
   one-more = rw here
 
-  -- its bytes are no more than its number and one
-  bytes : next ≤ at + v + 1
-  bytes =
-      let r = read-number s at v next here in
-      ⊎-elim (λ (h : v ≡ 0). omega (arith, r .shortest (omega arith))) (λ (h : 0 < v). omega (arith, r .near)) (eq-zero-or-pos v)
-
   more : ReadAddresses m s next (base + v + 1) size last end → ReadAddresses (suc m) s at base size last end
   unfolding rising
   more g =
@@ -72,7 +73,7 @@ module _ (m : ℕ) (s : List ℕ) (at base size v next last end : ℕ) (here : n
         counted = ap length one-more ∙ ap suc (g .counted);
         rises = rw one-more (and-both (le-leb base (base + v) (omega arith)) (and-both (lt-ltb (base + v) size below) (g .rises)));
         low = λ _. g .low (omega arith);
-        short = omega (arith, bytes, g .short);
+        short = omega (arith, few-bytes s at v next here, g .short);
         within = λ h. g .within (r .within);
       }
 

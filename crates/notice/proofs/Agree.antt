@@ -4,50 +4,61 @@ use mathlib.Core.Path.{_≡_, refl, sym, ap, _∙_}
 use mathlib.Core.Logic.{_⊎_, inl, inr, ⊎-elim, _≢_}
 use mathlib.Core.Bool.{Bool, true, false, cond, not}
 use mathlib.Core.List.{List, []}
-use Prim.Native.Nat.{ℕ}
+use Prim.Native.Nat.{ℕ, _≤_}
+use native.Mathlib.Omega.{arith}
 use lib.Dec.{eqb}
 use lib.ListN.{length, drop}
 use lib.Seq.{drop-length}
 use Rattle.cube.specs.Refusal.{first}
 use Rattle.cube.specs.Tables.{tableLen}
 use Rattle.cube.proofs.Bools.{clash}
+use Rattle.cube.proofs.Tables.{nodes-few}
 use Rattle.notice.specs.Tests.{lengthTests}
-use Rattle.notice.specs.Notice.{dimensionAt, noticeFrom, noticeOf, noticed, tailAt}
+use Rattle.notice.specs.Notice.{dimensionAt, noticeFrom, noticeOf, noticed, refusalOf, tailAt}
 use Rattle.notice.specs.Laws.{ReadNotice}
 use Rattle.notice.specs.declared.Noticed.{Noticed}
 use Rattle.notice.specs.declared.Noticed.the-variants.{Notice, Refused}
-use Rattle.notice.proofs.Cases.{no-notice, on-tested}
+use Rattle.notice.proofs.Cases.{on-tested}
 use Rattle.notice.proofs.Opened.{read-notice}
 use Rattle.notice.proofs.Outcomes.{tail-refused, tail-good}
 
+pub record Parts (n m taken : ℕ) : Type 0 where
+  pub dimension : n ≤ 12
+  pub count : m ≤ 4096
+  pub short : taken ≤ 4099
+
 module _ (s t : List ℕ) where
   -- with a table of any length the answer is that of the tail question, or 2
-  same-or-two : (noticed s t ≡ noticeOf s) ⊎ (noticed s t ≡ Refused 2)
+  same-or-two : (noticed s t ≡ noticeOf s) ⊎ (noticed s t ≡ Refused 2 0)
   unfolding noticed noticeOf noticeFrom first
   same-or-two =
-      on-tested (lengthTests t) (λ x. (noticeFrom x s ≡ noticeFrom (dimensionAt s) s) ⊎ (noticeFrom x s ≡ Refused 2)) (dimensionAt s)
-      (λ k e. inl (rw e)) (λ n at e z. inr (two (not (eqb (length t) (tableLen n))) z)) (λ n at e _. inl (rw e))
+      on-tested (lengthTests t) 0 (λ x. (noticeFrom x s ≡ noticeFrom (dimensionAt s) s) ⊎ (noticeFrom x s ≡ Refused 2 0)) (dimensionAt s)
+      (λ k at e. inl (rw e)) (λ n at e z. inr (two (not (eqb (length t) (tableLen n))) z)) (λ n at e _. inl (rw e))
     where
-      two : (b : Bool) → eqb (cond b 2 0) 0 ≡ false → Refused (cond b 2 0) ≡ Refused 2
+      two : (b : Bool) → eqb (cond b 2 0) 0 ≡ false → Refused (cond b 2 0) 0 ≡ Refused 2 0
       two true z = refl
       two false z = absurd (clash refl z)
 
-  pub same-notice : (x : Noticed) → noticed s t ≡ x → x ≢ Refused 2 → noticeOf s ≡ x
-  same-notice x e d = ⊎-elim (λ p. sym p ∙ e) (λ p. absurd (d (sym e ∙ p))) same-or-two
+  pub same-notice : (x : Noticed) → noticed s t ≡ x → refusalOf x ≢ 2 → noticeOf s ≡ x
+  same-notice x e d = ⊎-elim (λ p. sym p ∙ e) (λ p. absurd (d (ap refusalOf (sym e ∙ p)))) same-or-two
 
   pub same-accepted : (n m taken : ℕ) → noticed s t ≡ Notice n m taken → noticeOf s ≡ Notice n m taken
-  same-accepted n m taken e = same-notice (Notice n m taken) e (λ p. no-notice (sym p))
+  same-accepted n m taken e = same-notice (Notice n m taken) e (λ p. omega arith)
 
   pub accepted : (n m taken : ℕ) → noticed s t ≡ Notice n m taken → ReadNotice s n m taken
   accepted n m taken e = read-notice s n m taken (same-accepted n m taken e)
 
+  -- its parts are small
+  pub parts : (n m taken : ℕ) → noticed s t ≡ Notice n m taken → Parts n m taken
+  parts n m taken e =
+      let r = accepted n m taken e in
+      let few = nodes-few n (r .dimension .1) in
+      record { dimension = r .dimension .1; count = omega (arith, r .few); short = omega (arith, r .short) }
+
   pub tail-behind : (n m taken : ℕ) → noticed s t ≡ Notice n m taken → tailAt s ≡ taken
   tail-behind n m taken e = sym (tail-good s (sym (same-accepted n m taken e)))
 
-  pub tail-empty : (k : ℕ) → noticed s t ≡ Refused k → k ≢ 2 → (tailAt s ≡ length s) × (drop (tailAt s) s ≡ [])
-  tail-empty k e d =
-      let z : tailAt s ≡ length s = sym (tail-refused s (sym (same-notice (Refused k) e (λ p. d (same-number p))))) in
+  pub tail-empty : (k at : ℕ) → noticed s t ≡ Refused k at → k ≢ 2 → (tailAt s ≡ length s) × (drop (tailAt s) s ≡ [])
+  tail-empty k at e d =
+      let z : tailAt s ≡ length s = sym (tail-refused s (sym (same-notice (Refused k at) e d))) in
       (z, ap (λ (j : ℕ). drop j s) z ∙ drop-length s)
-    where
-      same-number : Refused k ≡ Refused 2 → k ≡ 2
-      same-number p = cc

@@ -15,7 +15,7 @@ use Rattle.cube.proofs.Count.{count-same}
 use Rattle.cube.proofs.Search.{some-none}
 use Rattle.cube.proofs.Refusal.{first-none}
 use Rattle.cube.proofs.Tables.{table-room}
-use Rattle.groups.specs.Number.{numberAt}
+use Rattle.groups.specs.Number.{further, numberAt, twoGroups}
 use Rattle.groups.specs.declared.Number.the-variants.{Value}
 use Rattle.notice.specs.Tests.{tested, lengthTests}
 use Rattle.notice.specs.Addresses.{addressesEnd, addressesAt, among, withBit, withBits}
@@ -29,11 +29,11 @@ use Rattle.notice.proofs.Bits.{length-bits, bits-among}
 use Rattle.notice.proofs.Opened.{addresses-are, opened-notice}
 use Rattle.notice.proofs.Outcomes.{notice-good, sized-value}
 use Rattle.notice.proofs.Agree.{accepted, same-notice, tail-behind, tail-empty}
-use Rattle.notice.proofs.Refusals.{refused-few}
+use Rattle.notice.proofs.Refusals.{refused-notice}
 
-kept : (s t : List ℕ) (k : ℕ) → noticed s t ≡ Refused k → tableAfter s t ≡ t
+kept : (s t : List ℕ) (k at : ℕ) → noticed s t ≡ Refused k at → tableAfter s t ≡ t
 unfolding tableAfter
-kept s t k e = rw e
+kept s t k at e = rw e
 
 module _ (s t : List ℕ) (n m taken : ℕ) (e : noticed s t ≡ Notice n m taken) where
   read : ReadNotice s n m taken
@@ -42,8 +42,8 @@ module _ (s t : List ℕ) (n m taken : ℕ) (e : noticed s t ≡ Notice n m take
   right-length : length t ≡ tableLen n
   unfolding noticed
   right-length =
-      let o = opened-notice (tested (lengthTests t) (dimensionAt s)) s n m taken e in
-      let passed = tested-value (lengthTests t) (dimensionAt s) (o .dimension) in
+      let o = opened-notice (tested (lengthTests t) 0 (dimensionAt s)) s n m taken e in
+      let passed = tested-value (lengthTests t) 0 (dimensionAt s) (o .dimension) in
       eqb-true (length t) (tableLen n) (not-false (eqb (length t) (tableLen n)) (first-none 12 (lengthTests t n) refl (passed .1) .0))
 
   made : tableAfter s t ≡ withBits (replicate (length t) 0) (addressesOf s)
@@ -79,7 +79,7 @@ module _ (s t : List ℕ) (n m taken : ℕ) (e : noticed s t ≡ Notice n m take
 
 module _ (s t : List ℕ) (n at next : ℕ) (dimension : dimensionAt s ≡ Value n at) (sized : length t ≡ tableLen n) (zero : numberAt s at ≡ Value 0 next) where
   no-addresses : restAt n s at ≡ rest.Addresses 0 next next
-  unfolding restAt tested first addressesEnd
+  unfolding restAt tested first addressesEnd further
   no-addresses = let z : next + 0 ≡ next = omega arith in rw (zero, le-ltb (2 ^ n) 0 (omega arith), z)
 
   ends : noticed s t ≡ Notice n 0 next
@@ -95,14 +95,14 @@ module _ (s t : List ℕ) (n at next : ℕ) (dimension : dimensionAt s ≡ Value
   }
 
 pub notice-laws : NoticeLaws
-unfolding first isDimension tableLen numberAt tested addressesEnd addressesAt withBit withBits dimensionAt restAt noticeFrom noticeOf noticed addressesOf
+unfolding first isDimension tableLen numberAt twoGroups further tested addressesEnd addressesAt withBit withBits dimensionAt restAt noticeFrom noticeOf noticed addressesOf
     tableAfter tailAt
 notice-laws = record {
   accepted = accepted;
   written = table;
   none-faulty = none-faulty;
   kept = kept;
-  number = refused-few;
+  refused = refused-notice;
   same-notice = same-notice;
   tail-behind = tail-behind;
   tail-empty = tail-empty;
@@ -112,4 +112,8 @@ notice-laws = record {
   listing-tail = refl;
   two-first = refl;
   nine-then = refl;
+  eleven-place = refl;
+  ten-place = refl;
+  twelve-place = refl;
+  end-place = refl;
 }

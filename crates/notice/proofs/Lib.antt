@@ -4,8 +4,8 @@ pub mod Passes
 pub mod Bits
 pub mod Addresses
 pub mod Opened
+pub mod Refusals
 pub mod Outcomes
 pub mod Agree
-pub mod Refusals
 pub mod Laws
 pub mod Functions

@@ -10,7 +10,7 @@ use borrow.Author.Tests.{ltb-false, not-false}
 use Rattle.cube.specs.Tables.{isDimension}
 use Rattle.cube.proofs.Refusal.{first-none}
 use Rattle.cube.proofs.Tables.{dimension-is}
-use Rattle.groups.specs.Number.{numberAt}
+use Rattle.groups.specs.Number.{numberAt, onNumber}
 use Rattle.groups.specs.declared.Number.{Number}
 use Rattle.groups.specs.declared.Number.the-variants as number
 use Rattle.groups.proofs.Groups.{read-number}
@@ -20,7 +20,7 @@ use Rattle.notice.specs.Notice.{dimensionAt, restAt, noticeFrom, noticeO
 use Rattle.notice.specs.Laws.{ReadNotice}
 use Rattle.notice.specs.declared.Rest.the-variants as rest
 use Rattle.notice.specs.declared.Noticed.the-variants.{Notice}
-use Rattle.notice.proofs.Cases.{no-addresses, no-notice, on-number, on-rest, tested-value}
+use Rattle.notice.proofs.Cases.{no-addresses, no-notice, on-further, on-number, on-rest, tested-value}
 use Rattle.notice.proofs.Addresses.{read-addresses}
 
 -- ---- the dimension
@@ -32,7 +32,7 @@ pub record OpenedDimension (s : List ℕ) (n at : ℕ) : Type 0 where
 pub opened-dimension : (s : List ℕ) (n at : ℕ) → dimensionAt s ≡ number.Value n at → OpenedDimension s n at
 unfolding dimensionAt
 opened-dimension s n at e =
-    let passed = tested-value dimensionTests (numberAt s 0) e in
+    let passed = tested-value dimensionTests 0 (numberAt s 0) e in
     record { number = passed .0; good = dimension-is n (not-false (isDimension n) (first-none 12 (dimensionTests n) refl (passed .1) .0)) }
 
 -- ---- the count and the addresses
@@ -48,15 +48,16 @@ pub record OpenedRest (n : ℕ) (s : List ℕ) (at m start end : ℕ) : Type 0 w
 pub opened-rest : (n : ℕ) (s : List ℕ) (at m start end : ℕ) → restAt n s at ≡ rest.Addresses m start end → OpenedRest n s at m start end
 unfolding restAt
 opened-rest n s at m start end =
-    on-number (λ y. y ≡ rest.Addresses m start end → OpenedRest n s at m start end) (tested (countTests n) (numberAt s at))
-    (λ _ _ e. absurd (no-addresses e))
-    (λ c from here. on-number (λ y. y ≡ rest.Addresses m start end → OpenedRest n s at m start end) (addressesEnd c (drop from s) 0 0 (2 ^ n))
-    (λ _ _ e. absurd (no-addresses e))
+    on-number (λ y. y ≡ rest.Addresses m start end → OpenedRest n s at m start end) (tested (countTests n) at (numberAt s at))
+    (λ _ _ _ e. absurd (no-addresses e))
+    (λ c from here. on-further
+    (λ y. onNumber y rest.Refused (λ base last. rest.Addresses c from last) ≡ rest.Addresses m start end → OpenedRest n s at m start end)
+    from (addressesEnd c (drop from s) 0 0 (2 ^ n)) (λ _ _ _ e. absurd (no-addresses e))
     (λ base taken found e.
     let p : c ≡ m = cc in
     let q : from ≡ start = cc in
     let r : from + taken ≡ end = cc in
-    let passed = tested-value (countTests n) (numberAt s at) here in
+    let passed = tested-value (countTests n) at (numberAt s at) here in
     record {
       base = base;
       taken = taken;
@@ -103,8 +104,8 @@ pub record OpenedNotice (x : Number) (s : List ℕ) (n m taken : ℕ) : Type 0 w
 pub opened-notice : (x : Number) (s : List ℕ) (n m taken : ℕ) → noticeFrom x s ≡ Notice n m taken → OpenedNotice x s n m taken
 unfolding noticeFrom
 opened-notice x s n m taken =
-    on-number (λ y. y ≡ Notice n m taken → OpenedNotice x s n m taken) x (λ _ _ e. absurd (no-notice e))
-    (λ v at here. on-rest (λ y. y ≡ Notice n m taken → OpenedNotice x s n m taken) (restAt v s at) (λ _ _ e. absurd (no-notice e))
+    on-number (λ y. y ≡ Notice n m taken → OpenedNotice x s n m taken) x (λ _ _ _ e. absurd (no-notice e))
+    (λ v at here. on-rest (λ y. y ≡ Notice n m taken → OpenedNotice x s n m taken) (restAt v s at) (λ _ _ _ e. absurd (no-notice e))
     (λ c start end found e.
     let p : v ≡ n = cc in
     let q : c ≡ m = cc in

@@ -11,7 +11,7 @@ use borrow.Author.Tests.{lt-ltb, le-ltb, eq-eqb, ne-eqb}
 use Rattle.cube.specs.Refusal.{first}
 use Rattle.cube.specs.Tables.{tableLen}
 use Rattle.cube.proofs.Tables.{table-few, table-room}
-use Rattle.groups.specs.Number.{numberAt}
+use Rattle.groups.specs.Number.{further, numberAt}
 use Rattle.groups.specs.declared.Number.{Number}
 use Rattle.groups.specs.declared.Number.the-variants as number
 use Rattle.groups.proofs.Groups.{read-number}
@@ -24,6 +24,7 @@ use Rattle.notice.specs.declared.Noticed.the-variants.{Notice, Refused}
 use Rattle.notice.proofs.Cases.{tested-refused, tested-fails, tested-passes}
 use Rattle.notice.proofs.Addresses.{read-addresses}
 use Rattle.notice.proofs.Rising.{rising-wider}
+use Rattle.notice.proofs.Refusals.{rest-within}
 use Rattle.notice.proofs.Opened.{ReadRest, opened-dimension, opened-rest, read-rest, addresses-are}
 
 -- the part of a slice from a place on
@@ -33,35 +34,39 @@ part-drop s k = take-all (length s - k) (drop k s) (omega (arith, length-drop k 
 -- ---- what follows the dimension: the count's refusals, and then those of the addresses, on the bytes behind it
 
 module _ (n : ℕ) (s : List ℕ) (at : ℕ) where
-  count-refused : {k : ℕ} → number.Refused k ≡ tested (countTests n) (numberAt s at) → rest.Refused k ≡ restAt n s at
+  count-refused : {k p : ℕ} → number.Refused k p ≡ tested (countTests n) at (numberAt s at) → rest.Refused k p ≡ restAt n s at
   unfolding restAt
   count-refused e = rw (sym e)
 
-  pub rest-refused : {k : ℕ} → number.Refused k ≡ numberAt s at → rest.Refused k ≡ restAt n s at
-  rest-refused e = count-refused (tested-refused (countTests n) e)
+  pub rest-refused : {k p : ℕ} → number.Refused k p ≡ numberAt s at → rest.Refused k p ≡ restAt n s at
+  rest-refused e = count-refused (tested-refused (countTests n) at e)
 
   module _ {m start size : ℕ} (e : number.Value m start ≡ numberAt s at) (full : size ≡ 2 ^ n) where
-    pub rest-many : size < m → rest.Refused 11 ≡ restAt n s at
+    pub rest-many : size < m → rest.Refused 11 at ≡ restAt n s at
     unfolding first
-    rest-many h = count-refused (tested-fails (countTests n) e (rw (lt-ltb (2 ^ n) m (omega arith))) refl)
+    rest-many h = count-refused (tested-fails (countTests n) at e (rw (lt-ltb (2 ^ n) m (omega arith))) refl)
 
     module _ (few : m ≤ size) where
-      counted : number.Value m start ≡ tested (countTests n) (numberAt s at)
+      counted : number.Value m start ≡ tested (countTests n) at (numberAt s at)
       unfolding first
-      counted = tested-passes (countTests n) e (rw (le-ltb (2 ^ n) m (omega arith)))
+      counted = tested-passes (countTests n) at e (rw (le-ltb (2 ^ n) m (omega arith)))
 
       -- the addresses, as the address reader is handed them
       handed-end : addressesEnd m (take (length s - start) (drop start s)) 0 0 size ≡ addressesEnd m (drop start s) 0 0 (2 ^ n)
       handed-end = rw (part-drop s start, full)
 
-      pub rest-bad : {k : ℕ} → number.Refused k ≡ addressesEnd m (take (length s - start) (drop start s)) 0 0 size
-          → rest.Refused k ≡ restAt n s at
-      unfolding restAt
-      rest-bad f = rw (sym counted) (rw (sym (f ∙ handed-end)))
+      module _ {k p : ℕ} (f : number.Refused k p ≡ addressesEnd m (take (length s - start) (drop start s)) 0 0 size) where
+        pub rest-bad : rest.Refused k (start + p) ≡ restAt n s at
+        unfolding restAt further
+        rest-bad = rw (sym counted) (rw (sym (f ∙ handed-end)))
+
+        -- the place that the address reader answers is among its bytes, or where they end
+        pub rest-place : start + p ≤ length s
+        rest-place = rest-within n s at m start (sym e) k p (sym (f ∙ handed-end))
 
       module _ {base taken : ℕ} (f : number.Value base taken ≡ addressesEnd m (take (length s - start) (drop start s)) 0 0 size) where
         pub rest-good : rest.Addresses m start (start + taken) ≡ restAt n s at
-        unfolding restAt
+        unfolding restAt further
         rest-good = rw (sym counted) (rw (sym (f ∙ handed-end)))
 
         pub rest-fits : start + taken ≤ length s
@@ -72,12 +77,12 @@ module _ (n : ℕ) (s : List ℕ) (at : ℕ) where
 -- ---- the whole notice, where d is the dimension as the question reads it
 
 module _ (s : List ℕ) {d : Number} where
-  pub notice-refused : {k : ℕ} → number.Refused k ≡ d → Refused k ≡ noticeFrom d s
+  pub notice-refused : {k p : ℕ} → number.Refused k p ≡ d → Refused k p ≡ noticeFrom d s
   unfolding noticeFrom
   notice-refused e = rw (sym e)
 
   module _ {n at : ℕ} (e : number.Value n at ≡ d) where
-    pub notice-bad : {k : ℕ} → rest.Refused k ≡ restAt n s at → Refused k ≡ noticeFrom d s
+    pub notice-bad : {k p : ℕ} → rest.Refused k p ≡ restAt n s at → Refused k p ≡ noticeFrom d s
     unfolding noticeFrom
     notice-bad f = rw (sym e) (rw (sym f))
 
@@ -88,7 +93,7 @@ module _ (s : List ℕ) {d : Number} where
 -- ---- the tail
 
 module _ (s : List ℕ) where
-  pub tail-refused : {k : ℕ} → Refused k ≡ noticeOf s → length s ≡ tailAt s
+  pub tail-refused : {k p : ℕ} → Refused k p ≡ noticeOf s → length s ≡ tailAt s
   unfolding tailAt
   tail-refused e = rw (sym e)
 
@@ -109,28 +114,28 @@ module _ (s : List ℕ) where
 abbrev pub Outcome : (s t : List ℕ) → Noticed → List ℕ → Type 0
 Outcome s t answer after = (answer ≡ noticed s t) × (after ≡ tableAfter s t)
 
-outcome-refused : (s t : List ℕ) {k : ℕ} → Refused k ≡ noticed s t → Outcome s t (Refused k) t
+outcome-refused : (s t : List ℕ) {k p : ℕ} → Refused k p ≡ noticed s t → Outcome s t (Refused k p) t
 unfolding tableAfter
 outcome-refused s t e = (e, rw (sym e))
 
 module _ (s : List ℕ) where
-  pub outcome-number : (t : List ℕ) {k : ℕ} → number.Refused k ≡ dimensionAt s → Outcome s t (Refused k) t
+  pub outcome-number : (t : List ℕ) {k p : ℕ} → number.Refused k p ≡ dimensionAt s → Outcome s t (Refused k p) t
   unfolding noticed
-  outcome-number t e = outcome-refused s t (notice-refused s (tested-refused (lengthTests t) e))
+  outcome-number t e = outcome-refused s t (notice-refused s (tested-refused (lengthTests t) 0 e))
 
   module _ {n at : ℕ} (e : number.Value n at ≡ dimensionAt s) where
     pub small : n ≤ 12
     small = opened-dimension s n at (sym e) .good .1
 
-    pub outcome-length : (t : List ℕ) → (length t ≡ tableLen n → ⊥) → Outcome s t (Refused 2) t
+    pub outcome-length : (t : List ℕ) → (length t ≡ tableLen n → ⊥) → Outcome s t (Refused 2 0) t
     unfolding noticed first
-    outcome-length t h = outcome-refused s t (notice-refused s (tested-fails (lengthTests t) e (rw (ne-eqb (length t) (tableLen n) h)) refl))
+    outcome-length t h = outcome-refused s t (notice-refused s (tested-fails (lengthTests t) 0 e (rw (ne-eqb (length t) (tableLen n) h)) refl))
 
-    pub sized-value : (t : List ℕ) → length t ≡ tableLen n → number.Value n at ≡ tested (lengthTests t) (dimensionAt s)
+    pub sized-value : (t : List ℕ) → length t ≡ tableLen n → number.Value n at ≡ tested (lengthTests t) 0 (dimensionAt s)
     unfolding first
-    sized-value t sized = tested-passes (lengthTests t) e (rw (eq-eqb (length t) (tableLen n) sized))
+    sized-value t sized = tested-passes (lengthTests t) 0 e (rw (eq-eqb (length t) (tableLen n) sized))
 
-    pub outcome-rest : (t : List ℕ) → length t ≡ tableLen n → {k : ℕ} → rest.Refused k ≡ restAt n s at → Outcome s t (Refused k) t
+    pub outcome-rest : (t : List ℕ) → length t ≡ tableLen n → {k p : ℕ} → rest.Refused k p ≡ restAt n s at → Outcome s t (Refused k p) t
     unfolding noticed
     outcome-rest t sized f = outcome-refused s t (notice-bad s (sized-value t sized) f)
 

@@ -25,16 +25,17 @@ module _ (left : ℕ) (s : List ℕ) (at base : ℕ) (more : 0 < left) where
   next-left : left ≡ suc (left - 1)
   next-left = omega arith
 
-  end-refused : (size : ℕ) {k : ℕ} → Refused k ≡ tested (addressTests base size) (numberAt s at) → addressesEnd left s at base size ≡ Refused k
+  end-refused : (size : ℕ) {k p : ℕ} → Refused k p ≡ tested (addressTests base size) at (numberAt s at)
+      → addressesEnd left s at base size ≡ Refused k p
   unfolding addressesEnd
   end-refused size e = ap (λ (j : ℕ). addressesEnd j s at base size) next-left ∙ rw (sym e)
 
-  end-value : (size : ℕ) {v next : ℕ} → Value v next ≡ tested (addressTests base size) (numberAt s at)
+  end-value : (size : ℕ) {v next : ℕ} → Value v next ≡ tested (addressTests base size) at (numberAt s at)
       → addressesEnd left s at base size ≡ addressesEnd (left - 1) s next (base + v + 1) size
   unfolding addressesEnd
   end-value size e = ap (λ (j : ℕ). addressesEnd j s at base size) next-left ∙ rw (sym e)
 
-  at-refused : {k : ℕ} → Refused k ≡ numberAt s at → addressesAt left s at base ≡ []
+  at-refused : {k p : ℕ} → Refused k p ≡ numberAt s at → addressesAt left s at base ≡ []
   unfolding addressesAt
   at-refused e = ap (λ (j : ℕ). addressesAt j s at base) next-left ∙ rw (sym e)
 
@@ -54,19 +55,20 @@ module _ {m : ℕ} {s : List ℕ} {size left at base : ℕ} (I : Checking m s si
   checked h = let z : 0 ≡ left = omega arith in ap (λ (j : ℕ). addressesEnd j s at base size) z ∙ sym (I .same)
 
   module _ (more : 0 < left) where
-    pub check-refused : {k : ℕ} → Refused k ≡ numberAt s at → Refused k ≡ addressesEnd m s 0 0 size
-    check-refused e = sym (I .same ∙ end-refused left s at base more size (tested-refused (addressTests base size) e))
+    pub check-refused : {k p : ℕ} → Refused k p ≡ numberAt s at → Refused k p ≡ addressesEnd m s 0 0 size
+    check-refused e = sym (I .same ∙ end-refused left s at base more size (tested-refused (addressTests base size) at e))
 
     module _ {v next : ℕ} (e : Value v next ≡ numberAt s at) where
-      pub check-over : size ≤ base + v → Refused 12 ≡ addressesEnd m s 0 0 size
+      pub check-over : size ≤ base + v → Refused 12 at ≡ addressesEnd m s 0 0 size
       unfolding first
-      check-over h = sym (I .same ∙ end-refused left s at base more size (tested-fails (addressTests base size) e (rw (le-leb size (base + v) h)) refl))
+      check-over h =
+          sym (I .same ∙ end-refused left s at base more size (tested-fails (addressTests base size) at e (rw (le-leb size (base + v) h)) refl))
 
       pub check-on : base + v < size → Checking m s size (left - 1) next (base + v + 1)
       unfolding first
       check-on h = record {
         low = omega arith;
-        same = I .same ∙ end-value left s at base more size (tested-passes (addressTests base size) e (rw (lt-leb size (base + v) h)));
+        same = I .same ∙ end-value left s at base more size (tested-passes (addressTests base size) at e (rw (lt-leb size (base + v) h)));
       }
 
 -- ---- the writing pass, over addresses that rise and have their bits in the table
@@ -82,7 +84,7 @@ module _ {m : ℕ} {s old now : List ℕ} {left at base : ℕ} (I : Writing m s 
   written h = let z : 0 ≡ left = omega arith in ap (λ (j : ℕ). withBits now (addressesAt j s at base)) z ∙ sym (I .same)
 
   module _ (more : 0 < left) where
-    pub write-refused : {k : ℕ} → Refused k ≡ numberAt s at → now ≡ withBits old (addressesAt m s 0 0)
+    pub write-refused : {k p : ℕ} → Refused k p ≡ numberAt s at → now ≡ withBits old (addressesAt m s 0 0)
     unfolding withBits
     write-refused e = sym (I .same ∙ ap (withBits now) (at-refused left s at base more e))
 

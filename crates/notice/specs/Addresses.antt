@@ -11,16 +11,16 @@ use Rattle.groups.specs.declared.Number.{Number}
 use Rattle.groups.specs.declared.Number.the-variants.{Value, Refused}
 use Rattle.notice.specs.Tests.{tested, addressTests}
 
--- m addresses from place `at` on, in a cube of that many nodes: the base and the place behind the last, or the refusal
+-- m addresses from place `at` on, in a cube of that many nodes: the base and the place behind the last, or the refusal with its place
 unfoldable pub addressesEnd : (m : ℕ) → List ℕ → (at base size : ℕ) → Number
 addressesEnd zero s at base size = Value base at
 addressesEnd (suc m) s at base size =
-    onNumber (tested (addressTests base size) (numberAt s at)) Refused (λ v next. addressesEnd m s next (base + v + 1) size)
+    onNumber (tested (addressTests base size) at (numberAt s at)) Refused (λ v next. addressesEnd m s next (base + v + 1) size)
 
 -- the addresses themselves
 unfoldable pub addressesAt : (m : ℕ) → List ℕ → (at base : ℕ) → List ℕ
 addressesAt zero s at base = []
-addressesAt (suc m) s at base = onNumber (numberAt s at) (λ k. []) (λ v next. (base + v) ∷ addressesAt m s next (base + v + 1))
+addressesAt (suc m) s at base = onNumber (numberAt s at) (λ k place. []) (λ v next. (base + v) ∷ addressesAt m s next (base + v + 1))
 
 -- each is more than the one before, from base on, and below size
 unfoldable pub rising : (base size : ℕ) → List ℕ → Bool

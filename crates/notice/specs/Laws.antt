@@ -11,7 +11,7 @@ use Rattle.cube.specs.Tables.{tableLen, nodeBit, unusedSet}
 use Rattle.groups.specs.Number.{numberAt}
 use Rattle.groups.specs.declared.Number.the-variants.{Value}
 use Rattle.notice.specs.Addresses.{rising, among}
-use Rattle.notice.specs.Notice.{dimensionAt, noticeOf, noticed, addressesOf, tableAfter, tailAt}
+use Rattle.notice.specs.Notice.{dimensionAt, noticeOf, noticed, addressesOf, refusalOf, tableAfter, tailAt}
 use Rattle.notice.specs.declared.Noticed.{Noticed}
 use Rattle.notice.specs.declared.Noticed.the-variants.{Notice, Refused}
 
@@ -26,6 +26,14 @@ pub record ReadNotice (s : List ℕ) (n m taken : ℕ) : Type 0 where
   -- as many addresses as the count says, "in rising order", and none "2^n or more"
   pub counted : length (addressesOf s) ≡ m
   pub rises : rising 0 (2 ^ n) (addressesOf s) ≡ true
+
+-- a notice that is refused with k at a place
+pub record RefusedNotice (s : List ℕ) (k at : ℕ) : Type 0 where
+  -- the number is one of the table's
+  pub number : (1 ≤ k) × (k ≤ 12)
+  -- the place is among the bytes, or where they end, and never further in than the longest notice
+  pub within : at ≤ length s
+  pub near : at ≤ 4099
 
 -- the fault table of m addresses l
 pub record TableOf (n m : ℕ) (l after : List ℕ) : Type 0 where
@@ -54,20 +62,25 @@ pub record NoticeLaws : Type 0 where
   pub none-faulty :
       (s t : List ℕ) (n at next : ℕ) → dimensionAt s ≡ Value n at → length t ≡ tableLen n → numberAt s at ≡ Value 0 next
       → NoneFaulty s t n next
-  -- "Refused: lent tables keep every byte", and the number is one of the table's
-  pub kept : (s t : List ℕ) (k : ℕ) → noticed s t ≡ Refused k → tableAfter s t ≡ t
-  pub number : (s t : List ℕ) (k : ℕ) → noticed s t ≡ Refused k → (1 ≤ k) × (k ≤ 12)
+  -- "Refused: lent tables keep every byte"
+  pub kept : (s t : List ℕ) (k at : ℕ) → noticed s t ≡ Refused k at → tableAfter s t ≡ t
+  pub refused : (s t : List ℕ) (k at : ℕ) → noticed s t ≡ Refused k at → RefusedNotice s k at
   -- the tail question "isn't given" the table's length: it takes for a notice, or refuses, what the reader does, unless the reader answers 2
-  pub same-notice : (s t : List ℕ) (x : Noticed) → noticed s t ≡ x → x ≢ Refused 2 → noticeOf s ≡ x
+  pub same-notice : (s t : List ℕ) (x : Noticed) → noticed s t ≡ x → refusalOf x ≢ 2 → noticeOf s ≡ x
   -- "one question gives the bytes after the first notice"
   pub tail-behind : (s t : List ℕ) (n m taken : ℕ) → noticed s t ≡ Notice n m taken → tailAt s ≡ taken
   -- "if the notice is refused for anything but the table's length, it gives the empty part at their end"
-  pub tail-empty : (s t : List ℕ) (k : ℕ) → noticed s t ≡ Refused k → k ≢ 2 → (tailAt s ≡ length s) × (drop (tailAt s) s ≡ [])
+  pub tail-empty : (s t : List ℕ) (k at : ℕ) → noticed s t ≡ Refused k at → k ≢ 2 → (tailAt s ≡ length s) × (drop (tailAt s) s ≡ [])
   -- the listing's notice, read over an old table
   pub listing-answer : noticed listingBytes (0 ∷ 255 ∷ []) ≡ Notice 4 4 6
   pub listing-nodes : addressesOf listingBytes ≡ 2 ∷ 4 ∷ 8 ∷ 15 ∷ []
   pub listing-table : tableAfter listingBytes (0 ∷ 255 ∷ []) ≡ 0x14 ∷ 0x81 ∷ []
   pub listing-tail : tailAt listingBytes ≡ 6
   -- a missing count, behind a table of the wrong length and of the right one: 2 stands before it
-  pub two-first : noticed (0x04 ∷ []) (0 ∷ []) ≡ Refused 2
-  pub nine-then : noticed (0x04 ∷ []) (0 ∷ 0 ∷ []) ≡ Refused 9
+  pub two-first : noticed (0x04 ∷ []) (0 ∷ []) ≡ Refused 2 0
+  pub nine-then : noticed (0x04 ∷ []) (0 ∷ 0 ∷ []) ≡ Refused 9 1
+  -- places: a count of 17, a second address that is ill written, one that is node 16, and one that is missing
+  pub eleven-place : noticed (0x04 ∷ 0x11 ∷ 0x00 ∷ []) (0 ∷ 0 ∷ []) ≡ Refused 11 1
+  pub ten-place : noticed (0x04 ∷ 0x02 ∷ 0x03 ∷ 0x81 ∷ 0x00 ∷ []) (0 ∷ 0 ∷ []) ≡ Refused 10 3
+  pub twelve-place : noticed (0x04 ∷ 0x02 ∷ 0x03 ∷ 0x0C ∷ []) (0 ∷ 0 ∷ []) ≡ Refused 12 3
+  pub end-place : noticed (0x04 ∷ 0x02 ∷ 0x03 ∷ []) (0 ∷ 0 ∷ []) ≡ Refused 9 3

@@ -11,9 +11,9 @@ use Rattle.groups.specs.Number.{onNumber}
 use Rattle.groups.specs.declared.Number.{Number}
 use Rattle.groups.specs.declared.Number.the-variants.{Value, Refused}
 
--- a number with the tests of its value: 9 or 10 stays, and then the first test that holds refuses it
-unfoldable pub tested : (ℕ → List Test) → Number → Number
-tested tests x = onNumber x Refused (λ v next. cond (eqb (first (tests v)) 0) (Value v next) (Refused (first (tests v))))
+-- a number that begins at place `at`, with the tests of its value: 9 or 10 stays, and then the first test that holds refuses it, at that place
+unfoldable pub tested : (ℕ → List Test) → (at : ℕ) → Number → Number
+tested tests at x = onNumber x Refused (λ v next. cond (eqb (first (tests v)) 0) (Value v next) (Refused (first (tests v)) at))
 
 -- the dimension n; then, for the lent fault table t, its length
 abbrev pub dimensionTests : (n : ℕ) → List Test

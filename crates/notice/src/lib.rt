@@ -1,6 +1,6 @@
 // Notices: the reader, which makes a fault table of one, and the tail question, for notices that stand back to back.
 ghost use Prim.Native.Nat.{_+_, _*_, _/_, _<_, _≤_};
-ghost use Rattle.groups.specs.Number.{refusalIn};
+ghost use Rattle.groups.specs.Number.{placeIn, refusalIn};
 ghost use Rattle.notice.specs.Addresses.{addressesAt, addressesEnd, rising, withBit, withBits};
 ghost use Rattle.notice.specs.Notice.{dimensionAt, noticed, restAt, tableAfter, tailAt};
 ghost use lib.ListN.{drop, length, replicate};
@@ -12,16 +12,16 @@ use cube::table_len;
 use groups::Number;
 use groups::number_at;
 
-// A notice: its dimension, its count of faulty nodes and the bytes it took, or the refusal.
+// A notice: its dimension, its count of faulty nodes and the bytes it took; or the refusal, with the place where the number begins that it is about.
 pub enum Noticed {
     Notice(usize, usize, usize),
-    Refused(u32),
+    Refused(u32, usize),
 }
 
-// What follows a dimension: the count, where the addresses begin and where they end, or the refusal.
+// What follows a dimension: the count, where the addresses begin and where they end; or the refusal with its place.
 enum Rest {
     Addresses(usize, usize, usize),
-    Refused(u32),
+    Refused(u32, usize),
 }
 
 // The number of a refusal, and 0 where there is none.
@@ -30,7 +30,17 @@ fn refusal(number: Number) -> u32
 {
     match number {
         Number::Value(_, _) => 0,
-        Number::Refused(k) => k,
+        Number::Refused(k, _) => k,
+    }
+}
+
+// The place of a refusal, and 0 where there is none.
+fn place(number: Number) -> usize
+    ensures { λ r. ⌜ r ≡ placeIn number ⌝ }
+{
+    match number {
+        Number::Value(_, _) => 0,
+        Number::Refused(_, at) => at,
     }
 }
 
@@ -45,7 +55,7 @@ fn dimension(bytes: &[u8]) -> Number
     if is_dimension(n) {
         return Number::Value(n, next);
     }
-    Number::Refused(1)
+    Number::Refused(1, 0)
 }
 
 // The checking pass of the address reader: it is handed the bytes behind the count, and writes nothing. It answers where a next address would be
@@ -64,7 +74,7 @@ fn check_addresses(bytes: &[u8], m: usize, size: usize) -> Number
         };
         let address = base + v;
         if size <= address {
-            return Number::Refused(12);
+            return Number::Refused(12, at);
         }
         base = address + 1;
         at = next;
@@ -81,14 +91,14 @@ fn check_rest(bytes: &[u8], n: usize, at: usize) -> Rest
     let size = nodes(n);
     let count = number_at(bytes, at);
     let Number::Value(m, start) = count else {
-        return Rest::Refused(refusal(count));
+        return Rest::Refused(refusal(count), place(count));
     };
     if size < m {
-        return Rest::Refused(11);
+        return Rest::Refused(11, at);
     }
     let addresses = check_addresses(&bytes[start..], m, size);
     let Number::Value(_, taken) = addresses else {
-        return Rest::Refused(refusal(addresses));
+        return Rest::Refused(refusal(addresses), start + place(addresses));
     };
     Rest::Addresses(m, start, start + taken)
 }
@@ -142,14 +152,14 @@ pub fn read(bytes: &[u8], faults: &mut [u8]) -> Noticed
 {
     let first = dimension(bytes);
     let Number::Value(n, at) = first else {
-        return Noticed::Refused(refusal(first));
+        return Noticed::Refused(refusal(first), place(first));
     };
     if faults.len() != table_len(n) {
-        return Noticed::Refused(2);
+        return Noticed::Refused(2, 0);
     }
     let found = check_rest(bytes, n, at);
     match found {
-        Rest::Refused(k) => Noticed::Refused(k),
+        Rest::Refused(k, at) => Noticed::Refused(k, at),
         Rest::Addresses(m, start, end) => {
             clear(faults);
             write_addresses(&bytes[start..], m, faults);

@@ -1,14 +1,14 @@
 -- `check_rest` opens the count, tests it, and opens what the address reader answers on the bytes behind it. The end fits, for what the addresses take is
 -- among those bytes.
-use mathlib.Core.Path.{_≡_, sym, _∙_}
+use mathlib.Core.Path.{_≡_, refl, sym, _∙_}
 use native.Mathlib.Omega.{arith}
 use borrow.Author.Needs.{needs}
 use lib.Pow.{pow-mono}
 use Rattle.groups.specs.Number.{numberAt}
-use Rattle.groups.specs.declared.Number.the-variants.{Value}
+use Rattle.groups.specs.declared.Number.the-variants.{Value, Refused}
 use Rattle.groups.proofs.Groups.{read-number}
 use Rattle.notice.proofs.Cases.{refused-is}
-use Rattle.notice.proofs.Outcomes.{rest-refused, rest-many, rest-bad, rest-good, rest-fits}
+use Rattle.notice.proofs.Outcomes.{rest-refused, rest-many, rest-bad, rest-good, rest-fits, rest-place}
 use Rattle.notice.proofs.check_rest.Statement.{statement}
 use Rattle.notice.proofs.check_rest.Tie as tie
 
@@ -40,8 +40,13 @@ enum-told c = search needs
 refusal-requires : tie.Need-refusal-requires
 refusal-requires c κs = search needs
 
+place-requires : tie.Need-place-requires
+place-requires c κs = search needs
+
 returns : tie.Need-returns
-returns c = rest-refused _ _ _ (refused-is (c .before .before .before .number-at .ensures) (c .before .enum-told .given .1) (c .refusal .ensures))
+returns c =
+    let r = c .before in
+    rest-refused _ _ _ (refused-is (r .before .before .before .number-at .ensures) (r .before .enum-told .given .1) (r .refusal .ensures) (c .place .ensures))
 
 returns-2 : tie.Need-returns-2
 returns-2 c = let k = c .before .before in rest-many _ _ _ (counted k) (k .before .before .before .nodes .ensures) (c .if1 .taken)
@@ -67,15 +72,27 @@ enum-told-2 c = search needs
 refusal-requires-2 : tie.Need-refusal-requires-2
 refusal-requires-2 c κs = search needs
 
+place-requires-2 : tie.Need-place-requires-2
+place-requires-2 c κs = search needs
+
+-- the refusal of the address reader, as it was taken apart
+bad : (c : tie.After-place2) → Refused (c .before .refusal2 .result) (c .place2 .result) ≡ c .before .before .before .before .check-addresses .result
+bad c = let r = c .before in refused-is refl (r .before .enum-told2 .given .1) (r .refusal2 .ensures) (c .place2 .ensures)
+
+add-t19 : tie.Need-add-t19
+add-t19 c =
+    let a = c .before .before .before .before in
+    let f = few a in
+    omega (arith, rest-place _ _ _ (counted (f .before .before)) (all f .nodes .ensures) (f .if1 .left) (bad c ∙ a .check-addresses .ensures))
+
 returns-3 : tie.Need-returns-3
 returns-3 c =
-    let a = c .before .before .before in
+    let a = c .before .before .before .before in
     let f = few a in
-    rest-bad _ _ _ (counted (f .before .before)) (all f .nodes .ensures) (f .if1 .left)
-    (refused-is (a .check-addresses .ensures) (c .before .enum-told2 .given .1) (c .refusal2 .ensures))
+    rest-bad _ _ _ (counted (f .before .before)) (all f .nodes .ensures) (f .if1 .left) (bad c ∙ a .check-addresses .ensures)
 
-add-t13 : tie.Need-add-t13
-add-t13 c =
+add-t14 : tie.Need-add-t14
+add-t14 c =
     let a = c .before .before .before in
     let f = few a in
     let end = sym (c .before .addresses .given .1) ∙ a .check-addresses .ensures in
@@ -97,6 +114,7 @@ check-rest-spec =
     enum-known-count
     enum-told
     refusal-requires
+    place-requires
     returns
     returns-2
     sub-check-addresses
@@ -106,6 +124,8 @@ check-rest-spec =
     enum-known-addresses
     enum-told-2
     refusal-requires-2
+    place-requires-2
+    add-t19
     returns-3
-    add-t13
+    add-t14
     returns-4)

@@ -28,18 +28,18 @@ returns : tie.Need-returns
 unfolding dimensionAt
 returns c =
     let e = c .enum-told .given .1 in
-    e ∙ tested-refused dimensionTests (sym e ∙ c .before .before .number-at .ensures)
+    e ∙ tested-refused dimensionTests 0 (sym e ∙ c .before .before .number-at .ensures)
 
 is-dimension-requires : tie.Need-is-dimension-requires
 is-dimension-requires c κs = search needs
 
 returns-2 : tie.Need-returns-2
 unfolding dimensionAt first
-returns-2 c = tested-passes dimensionTests (opened (c .before .before .before)) (rw (sym (c .before .is-dimension .ensures) ∙ c .if1 .taken))
+returns-2 c = tested-passes dimensionTests 0 (opened (c .before .before .before)) (rw (sym (c .before .is-dimension .ensures) ∙ c .if1 .taken))
 
 returns-3 : tie.Need-returns-3
 unfolding dimensionAt first
-returns-3 c = tested-fails dimensionTests (opened (c .before .before .before)) (rw (sym (c .before .is-dimension .ensures) ∙ c .if1 .left)) refl
+returns-3 c = tested-fails dimensionTests 0 (opened (c .before .before .before)) (rw (sym (c .before .is-dimension .ensures) ∙ c .if1 .left)) refl
 
 pub dimension-spec : {M : Type 1} → statement M
 dimension-spec =

@@ -51,8 +51,13 @@ enum-told c = search needs
 refusal-requires : tie.Need-refusal-requires
 refusal-requires c κs = search needs
 
+place-requires : tie.Need-place-requires
+place-requires c κs = search needs
+
 returns : tie.Need-returns
-returns c = outcome-number _ _ (refused-is (c .before .before .before .dimension .ensures) (c .before .enum-told .given .1) (c .refusal .ensures))
+returns c =
+    let r = c .before in
+    outcome-number _ _ (refused-is (r .before .before .before .dimension .ensures) (r .before .enum-told .given .1) (r .refusal .ensures) (c .place .ensures))
 
 table-len-requires : tie.Need-table-len-requires
 table-len-requires c κs = omega (arith, small _ (opened (c .before)))
@@ -111,6 +116,7 @@ read-spec =
     enum-known-first
     enum-told
     refusal-requires
+    place-requires
     returns
     table-len-requires
     returns-2
