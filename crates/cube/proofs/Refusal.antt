@@ -4,10 +4,10 @@ use mathlib.Core.Bool.{Bool, true, false, cond, _&&_}
 use mathlib.Core.List.{List, [], _∷_, _++_}
 use Prim.Native.Nat.{ℕ, _≤_}
 use native.Mathlib.Omega.{arith}
-use lib.Dec.{leb}
+use lib.Dec.{eqb, leb}
 use borrow.Author.Tests.{leb-true}
-use Rattle.cube.specs.Refusal.{Test, first}
-use Rattle.cube.proofs.Bools.{and-true, by-cases}
+use Rattle.cube.specs.Refusal.{Test, first, _⇒_}
+use Rattle.cube.proofs.Bools.{and-true, by-cases, clash}
 
 abbrev pub numbered : ℕ → List Test → Bool
 numbered m [] = true
@@ -37,6 +37,12 @@ first-none m (t ∷ ts) n e =
     let a = and-true (leb 1 (t .number) && leb (t .number) m) (numbered m ts) n in
     let z = choice-zero (t .holds) (t .number) (first ts) (leb-true 1 (t .number) (and-true (leb 1 (t .number)) (leb (t .number) m) (a .0) .0)) e in
     (z .0, first-none m ts (a .1) (z .1))
+
+-- a table of one test that refuses: the test holds, and the number is its own
+pub first-only : (b : Bool) (k : ℕ) → eqb (first (b ⇒ k ∷ [])) 0 ≡ false → (b ≡ true) × (first (b ⇒ k ∷ []) ≡ k)
+unfolding first
+first-only true k z = (refl, refl)
+first-only false k z = absurd (clash refl z)
 
 -- a table that goes on after another: the first one's refusal is the whole's; where it has none, the second decides
 stops : (b : Bool) (k r s : ℕ) → (cond b k r ≡ 0 → ⊥) → ((r ≡ 0 → ⊥) → s ≡ r) → cond b k s ≡ cond b k r

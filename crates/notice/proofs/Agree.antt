@@ -1,17 +1,13 @@
 -- The reader and the tail question agree: they share one definition, and only the table's length can part them. So what the reader takes for a notice
 -- is one of the bytes alone, and the tail is what it did not take.
-use mathlib.Core.Path.{_≡_, refl, sym, ap, _∙_}
+use mathlib.Core.Path.{_≡_, sym, ap, _∙_}
 use mathlib.Core.Logic.{_⊎_, inl, inr, ⊎-elim, _≢_}
-use mathlib.Core.Bool.{Bool, true, false, cond, not}
 use mathlib.Core.List.{List, []}
 use Prim.Native.Nat.{ℕ, _≤_}
 use native.Mathlib.Omega.{arith}
-use lib.Dec.{eqb}
 use lib.ListN.{length, drop}
 use lib.Seq.{drop-length}
-use Rattle.cube.specs.Refusal.{first}
-use Rattle.cube.specs.Tables.{tableLen}
-use Rattle.cube.proofs.Bools.{clash}
+use Rattle.cube.proofs.Refusal.{first-only}
 use Rattle.cube.proofs.Tables.{nodes-few}
 use Rattle.notice.specs.Tests.{lengthTests}
 use Rattle.notice.specs.Notice.{dimensionAt, noticeFrom, noticeOf, noticed, refusalOf, tailAt}
@@ -30,14 +26,10 @@ pub record Parts (n m taken : ℕ) : Type 0 where
 module _ (s t : List ℕ) where
   -- with a table of any length the answer is that of the tail question, or 2
   same-or-two : (noticed s t ≡ noticeOf s) ⊎ (noticed s t ≡ Refused 2 0)
-  unfolding noticed noticeOf noticeFrom first
+  unfolding noticed noticeOf noticeFrom
   same-or-two =
       on-tested (lengthTests t) 0 (λ x. (noticeFrom x s ≡ noticeFrom (dimensionAt s) s) ⊎ (noticeFrom x s ≡ Refused 2 0)) (dimensionAt s)
-      (λ k at e. inl (rw e)) (λ n at e z. inr (two (not (eqb (length t) (tableLen n))) z)) (λ n at e _. inl (rw e))
-    where
-      two : (b : Bool) → eqb (cond b 2 0) 0 ≡ false → Refused (cond b 2 0) 0 ≡ Refused 2 0
-      two true z = refl
-      two false z = absurd (clash refl z)
+      (λ k at e. inl (rw e)) (λ n at e z. inr (ap (λ (k : ℕ). Refused k 0) (first-only _ 2 z .1))) (λ n at e _. inl (rw e))
 
   pub same-notice : (x : Noticed) → noticed s t ≡ x → refusalOf x ≢ 2 → noticeOf s ≡ x
   same-notice x e d = ⊎-elim (λ p. sym p ∙ e) (λ p. absurd (d (ap refusalOf (sym e ∙ p)))) same-or-two

@@ -4,6 +4,7 @@ pub mod Passes
 pub mod Bits
 pub mod Addresses
 pub mod Opened
+pub mod Bad
 pub mod Refusals
 pub mod Outcomes
 pub mod Agree

@@ -27,13 +27,15 @@ use Rattle.notice.proofs.Addresses.{read-addresses}
 
 pub record OpenedDimension (s : List ℕ) (n at : ℕ) : Type 0 where
   pub number : numberAt s 0 ≡ number.Value n at
+  pub is : isDimension n ≡ true
   pub good : (1 ≤ n) × (n ≤ 12)
 
 pub opened-dimension : (s : List ℕ) (n at : ℕ) → dimensionAt s ≡ number.Value n at → OpenedDimension s n at
 unfolding dimensionAt
 opened-dimension s n at e =
     let passed = tested-value dimensionTests 0 (numberAt s 0) e in
-    record { number = passed .0; good = dimension-is n (not-false (isDimension n) (first-none 12 (dimensionTests n) refl (passed .1) .0)) }
+    let is = not-false (isDimension n) (first-none 12 (dimensionTests n) refl (passed .1) .0) in
+    record { number = passed .0; is = is; good = dimension-is n is }
 
 -- ---- the count and the addresses
 

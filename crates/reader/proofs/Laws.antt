@@ -18,31 +18,8 @@ use Rattle.notice.proofs.Opened.{opened-dimension, opened-rest, opened-notice, 
 use Rattle.reader.specs.Reader.{placeAfter}
 use Rattle.reader.specs.Reading.{places, answers, values, addressesFrom}
 use Rattle.reader.specs.Laws.{Told, ReadThrough, ReaderLaws}
-
-moves : (s : List ℕ) (at v next : ℕ) → numberAt s at ≡ Value v next → placeAfter s at ≡ next
-unfolding placeAfter
-moves s at v next e = rw e
-
-stays : (s : List ℕ) (at k : ℕ) → numberAt s at ≡ number.Refused k → placeAfter s at ≡ at
-unfolding placeAfter
-stays s at k e = rw e
-
--- ---- one answer, where the reader is at a place that has a number
-
-module _ (s : List ℕ) (k : ℕ) {at v next : ℕ} (here : places s k ≡ at) (e : numberAt s at ≡ Value v next) where
-  answer : answers s k ≡ Value v next
-  unfolding answers
-  answer = ap (numberAt s) here ∙ e
-
-  value : valueIn (answers s k) ≡ v
-  value = ap valueIn answer
-
-  after : places s (suc k) ≡ next
-  unfolding places
-  after = ap (placeAfter s) here ∙ moves s at v next e
-
-  told : Told s k
-  told = answer ∙ sym (ap (λ (x : ℕ). Value x (places s (suc k))) value ∙ ap (Value v) after)
+use Rattle.reader.proofs.Told.{after, keeps, moves, stays, told, value}
+use Rattle.reader.proofs.Refused.{refused-through}
 
 -- ---- addresses, whose numbers follow k others
 
@@ -110,7 +87,9 @@ unfolding addressesFrom values answers places placeAfter numberAt twoGroups
 reader-laws = record {
   moves = moves;
   stays = stays;
+  keeps = keeps;
   whole = λ s t n m taken e. read-through s n m taken (same-accepted s t n m taken e);
+  refused = refused-through;
   listing-values = refl;
   listing-nodes = refl;
 }

@@ -1,11 +1,17 @@
--- What document 01 says of the notice reader that keeps the lent bytes and its place, as laws of its definitions. Proved in proofs/Laws.antt.
+-- What document 01 says of the notice reader that keeps the lent bytes and its place, as laws of its definitions; and where a refused notice is bad:
+-- who reads it number by number comes to the place that the refusal says. Proved in proofs/Laws.antt and proofs/Refused.antt.
 use mathlib.Core.Path.{_≡_}
 use mathlib.Core.List.{List, [], _∷_}
-use Prim.Native.Nat.{ℕ, suc, _+_, _<_}
+use mathlib.Core.Bool.{true, false}
+use mathlib.Core.Logic.{_≢_}
+use Prim.Native.Nat.{ℕ, suc, _+_, _^_, _≤_, _<_}
+use lib.ListN.{getD, length}
+use Rattle.cube.specs.Tables.{isDimension, tableLen}
 use Rattle.groups.specs.Number.{numberAt, valueIn}
 use Rattle.groups.specs.declared.Number.the-variants as number
 use Rattle.notice.specs.Laws.{listingBytes}
 use Rattle.notice.specs.Notice.{noticed, addressesOf}
+use Rattle.notice.specs.declared.Noticed.the-variants as noticed
 use Rattle.notice.specs.declared.Noticed.the-variants.{Notice}
 use Rattle.reader.specs.Reader.{placeAfter}
 use Rattle.reader.specs.Reading.{places, answers, values, addressesFrom}
@@ -25,13 +31,51 @@ pub record ReadThrough (s : List ℕ) (n m taken : ℕ) : Type 0 where
   -- and the reader is then behind the notice
   pub end : places s (2 + m) ≡ taken
 
+-- what the reader's answers say of a notice: its dimension, its count, and the address that follows i others
+abbrev pub dimensionIn : List ℕ → ℕ
+dimensionIn s = valueIn (answers s 0)
+
+abbrev pub countIn : List ℕ → ℕ
+countIn s = valueIn (answers s 1)
+
+abbrev pub addressIn : List ℕ → (i : ℕ) → ℕ
+addressIn s i = getD (addressesFrom 0 (values (suc i) s 2)) i 0
+
+-- the refusal k is about the number that follows j others, where the notice is read over a fault table t
+pub data Names (s t : List ℕ) : (j k : ℕ) → Type 0 where
+  -- 9 and 10: the number is not complete, or ill written
+  ill : {j : ℕ} (k place : ℕ) → answers s j ≡ number.Refused k place → Names s t j k
+  -- 1, and 2 for the lent fault table: the dimension
+  dimension-1 : isDimension (dimensionIn s) ≡ false → Names s t 0 1
+  dimension-2 : isDimension (dimensionIn s) ≡ true → length t ≢ tableLen (dimensionIn s) → Names s t 0 2
+  -- 11: the count
+  count-11 : 2 ^ dimensionIn s < countIn s → Names s t 1 11
+  -- 12: an address
+  address-12 : (i : ℕ) → 2 ^ dimensionIn s ≤ addressIn s i → Names s t (2 + i) 12
+
+-- a notice that is refused with k at a place, read number by number
+pub record RefusedThrough (s t : List ℕ) (k at : ℕ) : Type 0 where
+  -- as many numbers are read, none of them refused,
+  pub before : ℕ
+  pub told : (j : ℕ) → j < before → Told s j
+  -- and the reader is then at that place,
+  pub comes : places s before ≡ at
+  -- where a number of the notice begins: the dimension, the count, or one of as many addresses as the count says,
+  pub due : before < 2 + countIn s
+  -- which is the one that the refusal is about
+  pub names : Names s t before k
+
 pub record ReaderLaws : Type 0 where
   -- "one action: the next number"
   pub moves : (s : List ℕ) (at v next : ℕ) → numberAt s at ≡ number.Value v next → placeAfter s at ≡ next
   -- "a refusal leaves its place as it stood"
-  pub stays : (s : List ℕ) (at k : ℕ) → numberAt s at ≡ number.Refused k → placeAfter s at ≡ at
+  pub stays : (s : List ℕ) (at k place : ℕ) → numberAt s at ≡ number.Refused k place → placeAfter s at ≡ at
+  -- and so the place that it answers is the place that it keeps
+  pub keeps : (s : List ℕ) (at k place : ℕ) → numberAt s at ≡ number.Refused k place → place ≡ placeAfter s at
   -- what the notice reader accepts, on a fault table t, is read through a reader too
   pub whole : (s t : List ℕ) (n m taken : ℕ) → noticed s t ≡ Notice n m taken → ReadThrough s n m taken
+  -- and what it refuses is read up to the place that it answers
+  pub refused : (s t : List ℕ) (k at : ℕ) → noticed s t ≡ noticed.Refused k at → RefusedThrough s t k at
   -- the listing's notice, n = 4 with faulty 2, 4, 8, 15
   pub listing-values : values 6 listingBytes 0 ≡ 4 ∷ 4 ∷ 2 ∷ 1 ∷ 3 ∷ 6 ∷ []
   pub listing-nodes : addressesFrom 0 (values 4 listingBytes 2) ≡ 2 ∷ 4 ∷ 8 ∷ 15 ∷ []

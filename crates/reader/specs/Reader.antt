@@ -6,7 +6,7 @@ use Rattle.groups.specs.declared.Number.{Number}
 
 -- the place after an answer that was had at place `at`
 abbrev pub nextPlace : Number → (at : ℕ) → ℕ
-nextPlace x at = onNumber x (λ k. at) (λ v next. next)
+nextPlace x at = onNumber x (λ k place. at) (λ v next. next)
 
 -- the place after the number at place `at`
 unfoldable pub placeAfter : List ℕ → (at : ℕ) → ℕ

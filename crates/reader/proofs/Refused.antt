@@ -1,0 +1,186 @@
+-- A refused notice, read number by number: each number before the place was read, so the reader comes to that place, and there the notice reader's
+-- own tests say what the refusal is about. The address reader counts its places from the bytes behind the count, as in proofs/Laws.antt.
+use mathlib.Core.Path.{_≡_, refl, sym, ap, _∙_}
+use mathlib.Core.Logic.{_⊎_, inl, inr}
+use mathlib.Core.List.{List}
+use Prim.Native.Nat.{ℕ, zero, suc, _+_, _^_, _≤_, _<_}
+use native.Mathlib.Omega.{arith}
+use lib.Dec.{leb}
+use lib.ListN.{drop, getD}
+use borrow.Author.Tests.{leb-true}
+use Rattle.cube.specs.Tables.{isDimension, tableLen}
+use Rattle.groups.specs.Number.{further, numberAt, valueIn}
+use Rattle.groups.specs.declared.Number.the-variants.{Value, Refused}
+use Rattle.groups.proofs.Groups.{no-value}
+use Rattle.groups.proofs.HandedOn.{handed-on}
+use Rattle.notice.specs.Addresses.{addressesEnd}
+use Rattle.notice.specs.Notice.{dimensionAt, noticed}
+use Rattle.notice.specs.Tests.{addressTests, tested}
+use Rattle.notice.specs.declared.Noticed.the-variants as noticed
+use Rattle.notice.proofs.Addresses.{read-address}
+use Rattle.notice.proofs.Bad.{Bad, bad, bad-address, bad-count, bad-dimension, many, no-dimension, tested-bad, wrong-table}
+use Rattle.notice.proofs.Cases.{on-number}
+use Rattle.notice.proofs.Opened.{opened-dimension}
+use Rattle.reader.specs.Laws.{Names, RefusedThrough, Told, address-12, addressIn, count-11, countIn, dimension-1, dimension-2, dimensionIn, ill}
+use Rattle.reader.specs.Reading.{places, answers, values, addressesFrom}
+use Rattle.reader.proofs.Told.{after, refusal, stands, told, value}
+
+-- ---- addresses from a base on, whose numbers follow j others
+
+abbrev addressFrom : (s : List ℕ) (j base i : ℕ) → ℕ
+addressFrom s j base i = getD (addressesFrom base (values (suc i) s j)) i 0
+
+record BadAddress (left : ℕ) (s : List ℕ) (j base size k at : ℕ) : Type 0 where
+  others : ℕ
+  few : others < left
+  each : (i : ℕ) → i < others → Told s (j + i)
+  comes : places s (j + others) ≡ at
+  names : (answers s (j + others) ≡ Refused k at) ⊎ ((k ≡ 12) × (size ≤ addressFrom s j base others))
+
+-- the first of them
+first-bad : (left : ℕ) (s : List ℕ) (j base size k at : ℕ) → places s j ≡ at
+    → (answers s j ≡ Refused k at) ⊎ ((k ≡ 12) × (size ≤ base + valueIn (answers s j))) → BadAddress (suc left) s j base size k at
+unfolding addressesFrom values
+first-bad left s j base size k at here names =
+    let z : j + 0 ≡ j = omega arith in
+    record { others = 0; few = omega arith; each = λ i h. absurd (omega arith); comes = rw z here; names = rw z names }
+
+-- one of the others, behind a number that was read
+later-address : (s : List ℕ) (j base v i : ℕ) → valueIn (answers s j) ≡ v → addressFrom s j base (suc i) ≡ addressFrom s (suc j) (base + v + 1) i
+unfolding addressesFrom values
+later-address s j base v i e = ap (λ (u : ℕ). getD (addressesFrom (base + u + 1) (values (suc i) s (suc j))) i 0) e
+
+later-bad : (left : ℕ) (s : List ℕ) (j base size v k at : ℕ) → Told s j → valueIn (answers s j) ≡ v
+    → BadAddress left s (suc j) (base + v + 1) size k at → BadAddress (suc left) s j base size k at
+later-bad left s j base size v k at t e g =
+    let z : suc j + g .others ≡ j + suc (g .others) = omega arith in
+    record {
+      others = suc (g .others);
+      few = omega (arith, g .few);
+      each = all;
+      comes = rw z at (g .comes);
+      names = named (g .names);
+    }
+  where
+    all : (i : ℕ) → i < suc (g .others) → Told s (j + i)
+    all zero h = let z : j + 0 ≡ j = omega arith in rw z t
+    all (suc i) h = let z : suc j + i ≡ j + suc i = omega arith in rw z at (g .each i (omega arith))
+
+    named : (answers s (suc j + g .others) ≡ Refused k at) ⊎ ((k ≡ 12) × (size ≤ addressFrom s (suc j) (base + v + 1) (g .others)))
+        → (answers s (j + suc (g .others)) ≡ Refused k at) ⊎ ((k ≡ 12) × (size ≤ addressFrom s j base (suc (g .others))))
+    named (inl p) = let z : suc j + g .others ≡ j + suc (g .others) = omega arith in inl (rw z at p)
+    named (inr p) = inr (p .0, omega (arith, p .1, later-address s j base v (g .others) e))
+
+-- the address reader counts from the bytes behind the count, which begin at `start`
+address-bad : (left : ℕ) (s : List ℕ) (start at base size j k p : ℕ) → addressesEnd left (drop start s) at base size ≡ Refused k p
+    → places s j ≡ start + at → BadAddress left s j base size k (start + p)
+unfolding addressesEnd further
+address-bad zero s start at base size j k p = λ e here. absurd (no-value (sym e))
+address-bad (suc left) s start at base size j k p =
+    on-number (λ y. y ≡ Refused k p → places s j ≡ start + at → BadAddress (suc left) s j base size k (start + p))
+    (tested (addressTests base size) at (numberAt (drop start s) at))
+    (λ r q e f here.
+    let a : r ≡ k = cc in
+    let b : q ≡ p = cc in
+    tested-bad (λ v. leb size (base + v)) 12 at (numberAt (drop start s) at) (BadAddress (suc left) s j base size k (start + p)) (rw (a, b) at e)
+    (λ own.
+    let number : numberAt s (start + at) ≡ Refused k (start + p) = handed-on s start at ∙ ap (further start) own in
+    first-bad left s j base size k (start + p) (stands s j here number) (inl (refusal s j here number)))
+    (λ v next own over c d.
+    let number : numberAt s (start + at) ≡ Value v (start + next) = handed-on s start at ∙ ap (further start) own in
+    first-bad left s j base size k (start + p) (here ∙ ap (λ (i : ℕ). start + i) d)
+    (inr (sym c, rw (value s j here number) (leb-true size (base + v) over)))))
+    (λ v next e f here.
+    let own = read-address (drop start s) at base size e .0 in
+    let number : numberAt s (start + at) ≡ Value v (start + next) = handed-on s start at ∙ ap (further start) own in
+    later-bad left s j base size v k (start + p) (told s j here number) (value s j here number)
+    (address-bad left s start next (base + v + 1) size (suc j) k p f (after s j here number)))
+
+-- ---- the whole notice
+
+module _ (s t : List ℕ) where
+  -- its first number is at the front, and its second where the first ends
+  front : places s 0 ≡ 0
+  unfolding places
+  front = refl
+
+  module _ {n at : ℕ} (d : dimensionAt s ≡ Value n at) where
+    number : numberAt s 0 ≡ Value n at
+    number = opened-dimension s n at d .number
+
+    dimension : dimensionIn s ≡ n
+    dimension = value s 0 front number
+
+    second : places s 1 ≡ at
+    second = after s 0 front number
+
+    only-first : (j : ℕ) → j < 1 → Told s j
+    only-first zero h = told s 0 front number
+    only-first (suc j) h = absurd (omega arith)
+
+    module _ {m start : ℕ} (c : numberAt s at ≡ Value m start) where
+      count : countIn s ≡ m
+      count = value s 1 second c
+
+      third : places s 2 ≡ start + 0
+      third = after s 1 second c ∙ omega arith
+
+      address-through : {k place : ℕ} → BadAddress m s 2 0 (2 ^ n) k place → RefusedThrough s t k place
+      address-through {k} {place} b = record {
+        before = 2 + b .others;
+        told = each;
+        comes = b .comes;
+        due = omega (arith, b .few, count);
+        names = named (b .names);
+      }
+        where
+          each : (j : ℕ) → j < 2 + b .others → Told s j
+          each zero h = told s 0 front number
+          each (suc zero) h = told s 1 second c
+          each (suc (suc i)) h = let z : 2 + i ≡ suc (suc i) = omega arith in rw z at (b .each i (omega arith))
+
+          named : (answers s (2 + b .others) ≡ Refused k place) ⊎ ((k ≡ 12) × (2 ^ n ≤ addressIn s (b .others))) → Names s t (2 + b .others) k
+          named (inl e) = ill k place e
+          named (inr e) = rw (e .0) (address-12 (b .others) (rw dimension (e .1)))
+
+  through : {k at : ℕ} → Bad s t k at → RefusedThrough s t k at
+  through {k} {at} (bad-dimension e) = record {
+    before = 0;
+    told = λ j h. absurd (omega arith);
+    comes = stands s 0 front e;
+    due = omega arith;
+    names = ill k at (refusal s 0 front e);
+  }
+  through (no-dimension e is) = record {
+    before = 0;
+    told = λ j h. absurd (omega arith);
+    comes = front;
+    due = omega arith;
+    names = dimension-1 (ap isDimension (value s 0 front e) ∙ is);
+  }
+  through (wrong-table {n} {next} d w) = record {
+    before = 0;
+    told = λ j h. absurd (omega arith);
+    comes = front;
+    due = omega arith;
+    names = dimension-2 (ap isDimension (dimension d) ∙ opened-dimension s n next d .is) (λ z. w (z ∙ ap tableLen (dimension d)));
+  }
+  through {k} {at} (bad-count d e) = record {
+    before = 1;
+    told = only-first d;
+    comes = stands s 1 (second d) e;
+    due = omega arith;
+    names = ill k at (refusal s 1 (second d) e);
+  }
+  through (many d c over) = record {
+    before = 1;
+    told = only-first d;
+    comes = second d;
+    due = omega arith;
+    names = count-11 (rw (dimension d, count d c) over);
+  }
+  through (bad-address {n} {m = m} {start} {k} {place} d c e) =
+      address-through d c (address-bad m s start 0 0 (2 ^ n) 2 k place e (third d c))
+
+  pub refused-through : (k at : ℕ) → noticed s t ≡ noticed.Refused k at → RefusedThrough s t k at
+  refused-through k at e = through (bad s t e)
