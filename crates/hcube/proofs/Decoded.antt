@@ -3,7 +3,7 @@
 use mathlib.Core.Bool.{true, cond}
 use mathlib.Core.List.{List}
 use mathlib.Core.Path.{_≡_, refl, sym, ap, _∙_}
-use Prim.Native.Nat.{ℕ, _+_, _*_, _/_, _%_, _<_}
+use Prim.Native.Nat.{ℕ, _+_, _*_, _/_, _%_, _≤_, _<_}
 use native.Mathlib.Omega.{arith}
 use lib.Dec.{eqb, leb}
 use lib.ListN.{getD, length}
@@ -28,16 +28,32 @@ use Rattle.walk.proofs.Refusals.{walk-good}
 use Rattle.notice.specs.Notice as N
 use Rattle.notice.specs.declared.Noticed.{Noticed}
 use Rattle.notice.specs.declared.Noticed.the-variants as noticed
-use Rattle.notice.proofs.Refusals.{parts, refused-few}
+use Rattle.notice.proofs.Agree.{parts}
+use Rattle.notice.proofs.Refusals.{refused-notice}
 use Rattle.hcube.specs.Answers.{hasRow, hopNumber, labelNumber, noticeNumber, packed, packedNotice, rowAfter, rowByte, walkNumber, walkedBy}
 use Rattle.hcube.specs.Fits.{WalkFits}
-use Rattle.hcube.specs.Decoded.{Decodes, decisionFrom, endingFrom, hoppedFrom, kindPart, labelledFrom, nodeAt, noticedFrom, refusalPart, valuePart, walkedFrom}
+use Rattle.hcube.specs.Decoded.{
+  Decodes,
+  Shows,
+  countPart,
+  decisionFrom,
+  dimensionPart,
+  endingFrom,
+  hoppedFrom,
+  kindPart,
+  labelledFrom,
+  nodeAt,
+  noticedFrom,
+  refusalPart,
+  valuePart,
+  walkedFrom,
+}
 use Rattle.hcube.proofs.Small.{HopFits, LabelFits, has-row, hop-small, label-small, walk-small, written}
 
 -- ---- the parts of a packed number, and the choice by its refusal
 
-refusal-is : (k kind v : ℕ) → kind < 256 → v < 65536 → refusalPart (packed k kind v) ≡ k
-refusal-is k kind v a b = omega arith
+refusal-is : (k kind v : ℕ) → k < 256 → kind < 256 → v < 65536 → refusalPart (packed k kind v) ≡ k
+refusal-is k kind v c a b = omega arith
 
 kind-is : (k kind v : ℕ) → kind < 256 → v < 65536 → kindPart (packed k kind v) ≡ kind
 kind-is k kind v a b = omega arith
@@ -51,6 +67,16 @@ accepted x y k e = rw e
 refused : {A : Type 0} (x : A) (y : ℕ → A) (k j : ℕ) → k ≡ j → (j ≡ 0 → ⊥) → cond (eqb k 0) x (y k) ≡ y j
 refused x y k j e h = rw (e, ne-eqb j 0 h)
 
+-- what stands above the low 32 bits is in none of the three
+shows : (high low : ℕ) → Shows (high * 4294967296 + low) low
+shows high low =
+    let q : (high * 4294967296 + low) / 16777216 ≡ high * 256 + low / 16777216 = omega arith in
+    let p : (high * 4294967296 + low) / 65536 ≡ high * 65536 + low / 65536 = omega arith in
+    record { refusal = omega arith; kind = omega arith; value = omega arith }
+
+cut : (r : ℕ) → Shows r (r % 4294967296)
+cut r = let e : r / 4294967296 * 4294967296 + r % 4294967296 ≡ r = omega arith in rw e at (shows (r / 4294967296) (r % 4294967296))
+
 -- ---- labelling
 
 module _ (K : Cabinet) (m : ℕ) where
@@ -62,10 +88,10 @@ module _ (K : Cabinet) (m : ℕ) where
   label-decoded =
       by-cases (λ a. LabelFits a → labelledFrom (labelNumber a) ≡ a) (eqb label-k 0)
       (λ _ f. accepted (labelled.Rounds (valuePart (packed 0 0 (roundsOf K)))) labelled.Refused (refusalPart (packed 0 0 (roundsOf K)))
-      (refusal-is 0 0 (roundsOf K) (omega arith) (f .1))
+      (refusal-is 0 0 (roundsOf K) (omega arith) (omega arith) (f .1))
       ∙ ap labelled.Rounds (value-is 0 0 (roundsOf K) (f .1)))
-      (λ e _. refused (labelled.Rounds (valuePart (packed label-k 0 0))) labelled.Refused (refusalPart (packed label-k 0 0)) label-k
-      (refusal-is label-k 0 0 (omega arith) (omega arith)) (eqb-false label-k 0 e))
+      (λ e f. refused (labelled.Rounds (valuePart (packed label-k 0 0))) labelled.Refused (refusalPart (packed label-k 0 0)) label-k
+      (refusal-is label-k 0 0 (f .0) (omega arith) (omega arith)) (eqb-false label-k 0 e))
       (label-small K m)
 
 -- ---- the hop
@@ -96,9 +122,9 @@ module _ (n c d m : ℕ) (lab : ℕ → ℕ) where
   hop-decoded =
       by-cases (λ a. HopFits a → hoppedFrom (hopNumber a) ≡ a) (eqb hop-k 0)
       (λ _ f. accepted (hopped.Decided (decisionFrom (kindPart number) (valuePart number))) hopped.Refused (refusalPart number)
-      (refusal-is 0 (H.decisionKind x) (H.decisionValue x) (kind-small x) (f .1)) ∙ ap hopped.Decided (decision-decoded x (f .1)))
-      (λ e _. refused (hopped.Decided (decisionFrom (kindPart (packed hop-k 0 0)) (valuePart (packed hop-k 0 0)))) hopped.Refused
-      (refusalPart (packed hop-k 0 0)) hop-k (refusal-is hop-k 0 0 (omega arith) (omega arith)) (eqb-false hop-k 0 e))
+      (refusal-is 0 (H.decisionKind x) (H.decisionValue x) (omega arith) (kind-small x) (f .1)) ∙ ap hopped.Decided (decision-decoded x (f .1)))
+      (λ e f. refused (hopped.Decided (decisionFrom (kindPart (packed hop-k 0 0)) (valuePart (packed hop-k 0 0)))) hopped.Refused
+      (refusalPart (packed hop-k 0 0)) hop-k (refusal-is hop-k 0 0 (f .0) (omega arith) (omega arith)) (eqb-false hop-k 0 e))
       (hop-small n c d m lab)
 
 -- ---- the walk
@@ -139,8 +165,8 @@ module _ (w : Walked) (fits : W.refusalOf (w .ending) < 256) (few : w .hops < 65
 
   ended : (e : Ending) → hasRow e ≡ true → w .ending ≡ e
       → (refusalPart walk-number ≡ 0) × (valuePart walk-number ≡ w .hops) × (endingFrom (kindPart walk-number) ≡ e)
-  ended ending.Delivered h e = rw e (refusal-is 0 0 (w .hops) (omega arith) few, value-is 0 0 (w .hops) few, rw (kind-is 0 0 (w .hops) (omega arith) few))
-  ended ending.Halted h e = rw e (refusal-is 0 1 (w .hops) (omega arith) few, value-is 0 1 (w .hops) few, rw (kind-is 0 1 (w .hops) (omega arith) few))
+  ended ending.Delivered h e = rw e (refusal-is 0 0 (w .hops) (omega arith) (omega arith) few, value-is 0 0 (w .hops) few, rw (kind-is 0 0 (w .hops) (omega arith) few))
+  ended ending.Halted h e = rw e (refusal-is 0 1 (w .hops) (omega arith) (omega arith) few, value-is 0 1 (w .hops) few, rw (kind-is 0 1 (w .hops) (omega arith) few))
   ended (ending.Refused k) h e = let z : _≡_ {A = ℕ} 0 1 = cc in absurd (omega arith)
 
   ended-decoded : (before : List ℕ) → hasRow (w .ending) ≡ true → tab 17 (nodeAt (tab W.rowBytes (rowByte (w .row)))) ≡ w .row
@@ -154,12 +180,12 @@ module _ (w : Walked) (fits : W.refusalOf (w .ending) < 256) (few : w .hops < 65
       (refusalPart walk-number) (t .0)
       ∙ rw (r, t .1, t .2)
 
-refused-decoded : (before : List ℕ) (k : ℕ) → (k ≡ 0 → ⊥) → walkedFrom (walkNumber (W.refused k)) (rowAfter (W.refused k) before) ≡ W.refused k
+refused-decoded : (before : List ℕ) (k : ℕ) → k < 256 → (k ≡ 0 → ⊥) → walkedFrom (walkNumber (W.refused k)) (rowAfter (W.refused k) before) ≡ W.refused k
 unfolding walkedFrom W.refused
-refused-decoded before k h =
+refused-decoded before k l h =
     refused (record { row = tab 17 (nodeAt (rowAfter (W.refused k) before)); hops = valuePart (packed k 0 0); ending = endingFrom (kindPart (packed k 0 0)) })
     W.refused
-    (refusalPart (packed k 0 0)) k (refusal-is k 0 0 (omega arith) (omega arith)) h
+    (refusalPart (packed k 0 0)) k (refusal-is k 0 0 l (omega arith) (omega arith)) h
 
 module _ (n s d : ℕ) (labels before : List ℕ) where
   abbrev lab : ℕ → ℕ
@@ -178,15 +204,31 @@ module _ (n s d : ℕ) (labels before : List ℕ) where
       (λ _. omega (arith, spot-lt n lab d s (p .first) k, nodes-few n (p .small))) (λ _. omega arith))
 
   walk-decoded : walkedFrom (walkNumber (walkedBy n s d labels before)) (rowAfter (walkedBy n s d labels before) before) ≡ walkedBy n s d labels before
-  unfolding W.walked W.walkFrom
+  unfolding W.walked W.walkFrom W.refused
   walk-decoded =
       by-cases (λ w. WalkFits w → walkedFrom (walkNumber w) (rowAfter w before) ≡ w) (eqb walk-k 0)
       (λ e f. ended-decoded (W.walkFrom n lab d s) (f .0) (f .1) before
       (has-row n s d (length labels) (length before) lab (eqb-true walk-k 0 e)) (row-back (eqb-true walk-k 0 e)))
-      (λ e _. refused-decoded before walk-k (eqb-false walk-k 0 e))
+      (λ e f. refused-decoded before walk-k (f .0) (eqb-false walk-k 0 e))
       (walk-small n s d (length labels) (length before) lab)
 
 -- ---- the notice
+
+above : (n m low : ℕ) → Shows (packedNotice n m low) low
+above n m low =
+    let e : (n * 65536 + m) * 4294967296 + low ≡ packedNotice n m low = omega arith in
+    rw e at (shows (n * 65536 + m) low)
+
+-- the two parts above, where they are small
+dimension-is : (n m taken : ℕ) → n ≤ 12 → m ≤ 4096 → taken ≤ 4099 → dimensionPart (packedNotice n m (packed 0 0 taken)) ≡ n
+dimension-is n m taken a b c =
+    let q : packedNotice n m (packed 0 0 taken) / 281474976710656 ≡ n = omega arith in
+    omega arith
+
+count-is : (n m taken : ℕ) → m ≤ 4096 → taken ≤ 4099 → countPart (packedNotice n m (packed 0 0 taken)) ≡ m
+count-is n m taken b c =
+    let q : packedNotice n m (packed 0 0 taken) / 4294967296 ≡ n * 65536 + m = omega arith in
+    omega arith
 
 notice-decoded : (bytes before : List ℕ) → noticedFrom (noticeNumber (N.noticed bytes before)) ≡ N.noticed bytes before
 unfolding noticedFrom
@@ -195,15 +237,17 @@ notice-decoded bytes before = go (N.noticed bytes before) refl
     go : (a : Noticed) → N.noticed bytes before ≡ a → noticedFrom (noticeNumber a) ≡ a
     go (noticed.Notice n m taken) e =
         let p = parts bytes before n m taken e in
-        let r : packedNotice 0 n m taken / 281474976710656 ≡ 0 = omega (arith, p .dimension, p .count, p .short) in
-        let a : packedNotice 0 n m taken / 4294967296 % 65536 ≡ n = omega (arith, p .dimension, p .count, p .short) in
-        let b : packedNotice 0 n m taken / 65536 % 65536 ≡ m = omega (arith, p .dimension, p .count, p .short) in
-        let c : packedNotice 0 n m taken % 65536 ≡ taken = omega (arith, p .dimension, p .count, p .short) in
+        let low = above n m (packed 0 0 taken) in
+        let r : refusalPart (packedNotice n m (packed 0 0 taken)) ≡ 0 = low .refusal ∙ refusal-is 0 0 taken (omega arith) (omega arith) (omega (arith, p .short)) in
+        let a = dimension-is n m taken (p .dimension) (p .count) (p .short) in
+        let b = count-is n m taken (p .count) (p .short) in
+        let c : valuePart (packedNotice n m (packed 0 0 taken)) ≡ taken = low .value ∙ value-is 0 0 taken (omega (arith, p .short)) in
         rw (r, a, b, c)
-    go (noticed.Refused k) e =
-        let few = refused-few bytes before k e in
-        let r : packedNotice k 0 0 0 / 281474976710656 ≡ k = omega arith in
-        rw (r, ne-eqb k 0 (λ z. omega (arith, few .0)))
+    go (noticed.Refused k at) e =
+        let p = refused-notice bytes before k at e in
+        let r : refusalPart (packedNotice 0 0 (packed k 0 at)) ≡ k = omega (arith, p .number .1, p .near) in
+        let c : valuePart (packedNotice 0 0 (packed k 0 at)) ≡ at = omega (arith, p .number .1, p .near) in
+        rw (r, c, ne-eqb k 0 (λ z. omega (arith, p .number .0)))
 
 pub decodes : Decodes
-decodes = record { label = label-decoded; hop = hop-decoded; walk = walk-decoded; notice = notice-decoded }
+decodes = record { label = label-decoded; hop = hop-decoded; walk = walk-decoded; notice = notice-decoded; cut = cut }

@@ -16,7 +16,7 @@ use Rattle.walk.specs.declared.Ending.the-variants as ending
 use Rattle.hop.specs.declared.Hopped.{Hopped}
 use Rattle.walk.specs.declared.Walked.{Walked}
 
--- one number for the refusal, the kind and the value. An accepted answer has refusal 0; a refusal has kind 0 and value 0
+-- one number for the refusal, the kind and the value. An accepted answer has refusal 0; a refusal has kind 0, and value 0 but for a notice's place
 abbrev pub packed : (refusal kind value : ℕ) → ℕ
 packed refusal kind value = refusal * 16777216 + kind * 65536 + value
 
@@ -32,12 +32,12 @@ hopNumber a = packed (H.refusalOf a) (H.kindOf a) (H.valueOf a)
 abbrev pub walkNumber : Walked → ℕ
 walkNumber w = packed (W.refusalOf (w .ending)) (W.kindOf (w .ending)) (w .hops)
 
--- a notice: refusal * 2 ^ 48 + dimension * 2 ^ 32 + count * 2 ^ 16 + bytes taken
-abbrev pub packedNotice : (refusal dimension count taken : ℕ) → ℕ
-packedNotice refusal dimension count taken = refusal * 281474976710656 + dimension * 4294967296 + count * 65536 + taken
+-- a notice: dimension * 2 ^ 48 + count * 2 ^ 32, and below them such a number, of kind 0: the value is the bytes taken or, refused, the place
+abbrev pub packedNotice : (dimension count low : ℕ) → ℕ
+packedNotice dimension count low = dimension * 281474976710656 + count * 4294967296 + low
 
 abbrev pub noticeNumber : Noticed → ℕ
-noticeNumber a = packedNotice (N.refusalOf a) (N.dimensionOf a) (N.countOf a) (N.takenOf a)
+noticeNumber a = packedNotice (N.dimensionOf a) (N.countOf a) (packed (N.refusalOf a) 0 (N.valueOf a))
 
 -- the walk with the tables that C lends
 abbrev pub walkedBy : (n s d : ℕ) (labels row : List ℕ) → Walked

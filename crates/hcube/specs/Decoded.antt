@@ -25,9 +25,9 @@ use Rattle.notice.specs.declared.Noticed.{Noticed}
 use Rattle.notice.specs.declared.Noticed.the-variants as noticed
 use Rattle.hcube.specs.Answers.{hopNumber, labelNumber, noticeNumber, rowAfter, walkNumber, walkedBy}
 
--- HCUBE_REFUSAL, HCUBE_KIND and HCUBE_VALUE
+-- HCUBE_REFUSAL, HCUBE_KIND and HCUBE_VALUE: each takes its own bits, so they serve answers of 32 and of 64 bits
 abbrev pub refusalPart : ℕ → ℕ
-refusalPart r = r / 16777216
+refusalPart r = r / 16777216 % 256
 
 abbrev pub kindPart : ℕ → ℕ
 kindPart r = r / 65536 % 256
@@ -35,9 +35,12 @@ kindPart r = r / 65536 % 256
 abbrev pub valuePart : ℕ → ℕ
 valuePart r = r % 65536
 
--- HCUBE_NOTICE_REFUSAL
-abbrev pub noticeRefusalPart : ℕ → ℕ
-noticeRefusalPart r = r / 281474976710656
+-- HCUBE_NOTICE_DIMENSION and HCUBE_NOTICE_COUNT
+abbrev pub dimensionPart : ℕ → ℕ
+dimensionPart r = r / 281474976710656 % 65536
+
+abbrev pub countPart : ℕ → ℕ
+countPart r = r / 4294967296 % 65536
 
 -- the node at place k of a row: two bytes, low byte first
 abbrev pub nodeAt : (row : List ℕ) (k : ℕ) → ℕ
@@ -63,7 +66,13 @@ walkedFrom r row =
 
 unfoldable pub noticedFrom : ℕ → Noticed
 noticedFrom r =
-    cond (eqb (noticeRefusalPart r) 0) (noticed.Notice (r / 4294967296 % 65536) (r / 65536 % 65536) (r % 65536)) (noticed.Refused (noticeRefusalPart r))
+    cond (eqb (refusalPart r) 0) (noticed.Notice (dimensionPart r) (countPart r) (valuePart r)) (noticed.Refused (refusalPart r) (valuePart r))
+
+-- the three parts of r are those of low
+pub record Shows (r low : ℕ) : Type 0 where
+  pub refusal : refusalPart r ≡ refusalPart low
+  pub kind : kindPart r ≡ kindPart low
+  pub value : valuePart r ≡ valuePart low
 
 -- each is the answer that was put into the number
 pub record Decodes : Type 0 where
@@ -73,3 +82,5 @@ pub record Decodes : Type 0 where
       (n s d : ℕ) (labels before : List ℕ)
       → walkedFrom (walkNumber (walkedBy n s d labels before)) (rowAfter (walkedBy n s d labels before) before) ≡ walkedBy n s d labels before
   pub notice : (bytes before : List ℕ) → noticedFrom (noticeNumber (noticed bytes before)) ≡ noticed bytes before
+  -- and an answer that is cut to 32 bits still shows its refusal, its kind and its value
+  pub cut : (r : ℕ) → Shows r (r % 4294967296)

@@ -135,15 +135,15 @@ pub extern "C" fn hcube_walk(n: u32, s: u32, d: u32, labels: &[u8], row: &mut [u
     pack_walk(walked)
 }
 
-// One number for the refusal of a notice, its dimension, its count and the bytes that it took.
-fn pack_notice(refusal: u32, n: usize, m: usize, taken: usize) -> u64
-    requires { ⌜ (refusal ≤ 12) × ((n ≤ 12) × ((m ≤ 4096) × (taken ≤ 4099))) ⌝ }
-    ensures { λ r. ⌜ r ≡ packedNotice refusal n m taken ⌝ }
+// The number of an accepted notice: the bytes that it took are the value, and above stand its dimension and its count.
+fn pack_notice(n: usize, m: usize, taken: usize) -> u64
+    requires { ⌜ (n ≤ 12) × ((m ≤ 4096) × (taken ≤ 4099)) ⌝ }
+    ensures { λ r. ⌜ r ≡ packedNotice n m (packed 0 0 taken) ⌝ }
 {
-    refusal as u64 * 281474976710656 + n as u64 * 4294967296 + m as u64 * 65536 + taken as u64
+    n as u64 * 281474976710656 + m as u64 * 4294967296 + pack(0, 0, taken) as u64
 }
 
-// Reads the notice at the front of the bytes into the fault table, or refuses and leaves the table as it was.
+// Reads the notice at the front of the bytes into the fault table, or refuses, says where, and leaves the table as it was.
 #[no_mangle]
 pub extern "C" fn hcube_read_notice(bytes: &[u8], faults: &mut [u8]) -> u64
     ensures answer { λ r. ⌜ r ≡ noticeNumber (noticed (now (bytes .entry)) (now (faults .entry))) ⌝ }
@@ -151,7 +151,7 @@ pub extern "C" fn hcube_read_notice(bytes: &[u8], faults: &mut [u8]) -> u64
 {
     let answer = notice::read(bytes, faults);
     match answer {
-        Noticed::Notice(n, m, taken) => pack_notice(0, n, m, taken),
-        Noticed::Refused(k) => pack_notice(k, 0, 0, 0),
+        Noticed::Notice(n, m, taken) => pack_notice(n, m, taken),
+        Noticed::Refused(k, at) => pack(k, 0, at) as u64,
     }
 }

@@ -71,5 +71,6 @@ dimensionOf x = onNoticed x (λ k at. 0) (λ n m taken. n)
 abbrev pub countOf : Noticed → ℕ
 countOf x = onNoticed x (λ k at. 0) (λ n m taken. m)
 
-abbrev pub takenOf : Noticed → ℕ
-takenOf x = onNoticed x (λ k at. 0) (λ n m taken. taken)
+-- the bytes taken, or the place of the refusal
+abbrev pub valueOf : Noticed → ℕ
+valueOf x = onNoticed x (λ k at. at) (λ n m taken. taken)
