@@ -40,12 +40,12 @@ endText (ending.Refused k) hops row = field " refused " k
 unfoldable pub pairLine : (s d : ℕ) → Walked → List ℕ
 pairLine s d w = decimal s ++ field " " d ++ endText (w .ending) (w .hops) (w .row) ++ text "\n"
 
--- the refusals
-abbrev pub noticeRefused : ℕ → List ℕ
-noticeRefused k = field "notice refused " k ++ text "\n"
+-- the refusals, with the place of the number that each is about as the last field
+abbrev pub noticeRefused : (k at : ℕ) → List ℕ
+noticeRefused k at = field "notice refused " k ++ field " " at ++ text "\n"
 
-abbrev pub inputRefused : ℕ → List ℕ
-inputRefused k = field "input refused " k ++ text "\n"
+abbrev pub inputRefused : (k at : ℕ) → List ℕ
+inputRefused k at = field "input refused " k ++ field " " at ++ text "\n"
 
 abbrev pub tooLong : List ℕ
 tooLong = text "input too long\n"

@@ -156,14 +156,15 @@ pub fn pair_line(s: usize, d: usize, walked: Walked, out: &mut [u8]) -> usize
 
 // ---- refusals
 
-// A word, a number and the end of the line.
-pub fn refused_line(word: &[u8], k: u32, out: &mut [u8]) -> usize
+// A word, the refusal, its place and the end of the line.
+pub fn refused_line(word: &[u8], k: u32, at: usize, out: &mut [u8]) -> usize
     requires { ⌜ (length (now word) ≤ 20) × (length (now out) ≡ room) ⌝ }
-    ensures line { λ r. ⌜ take r (now (out .exit)) ≡ now (word .entry) ++ decimal k ++ text "\n" ⌝ }
+    ensures line { λ r. ⌜ take r (now (out .exit)) ≡ (now (word .entry) ++ decimal k) ++ (text " " ++ decimal at) ++ text "\n" ⌝ }
     ensures near { λ r. ⌜ r ≤ room ⌝ }
 {
-    let end = put_field(out, 0, word, k as usize);
-    put_text(out, end, b"\n")
+    let refusal = put_field(out, 0, word, k as usize);
+    let place = put_field(out, refusal, b" ", at);
+    put_text(out, place, b"\n")
 }
 
 // The only line of an input that is too long.

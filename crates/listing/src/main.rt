@@ -16,15 +16,15 @@ fn say(out: &[u8], end: usize)
     io::write_all(STDOUT_FILENO, &out[..end]);
 }
 
-// A line for each pair behind the notice. Behind a refused notice no bytes are left, so its line is the only one.
+// A line for each pair behind the notice; places are those of the whole input. Behind a refused notice no bytes are left, so its line is the only one.
 fn list_pairs(n: usize, labels: &[u8], bytes: &[u8], out: &mut [u8])
     requires { ⌜ (n ≡ dimensionOf (noticeOf (now bytes))) × (now labels ≡ labelsIn (now bytes)) ⌝ }
     requires { ⌜ length (now out) ≡ room ⌝ }
 {
     let pairs = notice::tail(bytes);
-    let mut at: usize = 0;
-    while at < pairs.len() {
-        let line = printed::line_at(n, labels, pairs, at, out);
+    let mut at = bytes.len() - pairs.len();
+    while at < bytes.len() {
+        let line = printed::line_at(n, labels, bytes, at, out);
         say(out, line.end);
         at = line.next;
     }

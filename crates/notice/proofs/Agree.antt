@@ -1,6 +1,6 @@
 -- The reader and the tail question agree: they share one definition, and only the table's length can part them. So what the reader takes for a notice
 -- is one of the bytes alone, and the tail is what it did not take.
-use mathlib.Core.Path.{_≡_, sym, ap, _∙_}
+use mathlib.Core.Path.{_≡_, refl, sym, ap, _∙_}
 use mathlib.Core.Logic.{_⊎_, inl, inr, ⊎-elim, _≢_}
 use mathlib.Core.List.{List, []}
 use Prim.Native.Nat.{ℕ, _≤_}
@@ -17,6 +17,14 @@ use Rattle.notice.specs.declared.Noticed.the-variants.{Notice, Refused}
 use Rattle.notice.proofs.Cases.{on-tested}
 use Rattle.notice.proofs.Opened.{read-notice}
 use Rattle.notice.proofs.Outcomes.{tail-refused, tail-good}
+
+-- the tail begins among the bytes, or at their end
+pub tail-within : (s : List ℕ) → tailAt s ≤ length s
+tail-within s = go (noticeOf s) refl
+  where
+    go : (x : Noticed) → noticeOf s ≡ x → tailAt s ≤ length s
+    go (Notice n m taken) e = omega (arith, tail-good s (sym e), read-notice s n m taken e .within)
+    go (Refused k at) e = omega (arith, tail-refused s (sym e))
 
 pub record Parts (n m taken : ℕ) : Type 0 where
   pub dimension : n ≤ 12

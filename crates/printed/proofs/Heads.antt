@@ -29,13 +29,13 @@ use Rattle.lines.specs.Lines.{noticeRefused, room}
 use Rattle.printed.specs.Printed.{Headed, cabinetOf, firstLine, headLine, labelsIn, wantedLen}
 
 -- a number that is no dimension, or one of the table's length, passes the test of the length
-passes : (t : List ℕ) (x : Number) → length t ≡ onNumber x (λ k. 1) (λ n at. tableLen n) → tested (lengthTests t) x ≡ x
+passes : (t : List ℕ) (x : Number) → length t ≡ onNumber x (λ k at. 1) (λ n at. tableLen n) → tested (lengthTests t) 0 x ≡ x
 unfolding first
-passes t (number.Value n at) e = sym (tested-passes (lengthTests t) refl (rw (eq-eqb (length t) (tableLen n) e)))
-passes t (number.Refused k) e = sym (tested-refused (lengthTests t) refl)
+passes t (number.Value n at) e = sym (tested-passes (lengthTests t) 0 refl (rw (eq-eqb (length t) (tableLen n) e)))
+passes t (number.Refused k at) e = sym (tested-refused (lengthTests t) 0 refl)
 
 module _ (s : List ℕ) where
-  pub none-wanted : {k : ℕ} → number.Refused k ≡ dimensionAt s → 1 ≡ wantedLen s
+  pub none-wanted : {k at : ℕ} → number.Refused k at ≡ dimensionAt s → 1 ≡ wantedLen s
   unfolding wantedLen
   none-wanted e = rw (sym e)
 
@@ -46,7 +46,7 @@ module _ (s : List ℕ) where
   -- never more than the 512 bytes of the largest table
   pub wanted-few : wantedLen s ≤ 512
   unfolding wantedLen
-  wanted-few = on-number (λ (k : ℕ). k ≤ 512) (dimensionAt s) (λ _ _. omega arith) (λ n at e. table-few n (opened-dimension s n at e .good .1))
+  wanted-few = on-number (λ (k : ℕ). k ≤ 512) (dimensionAt s) (λ _ _ _. omega arith) (λ n at e. table-few n (opened-dimension s n at e .good .1))
 
 -- a cube's dimension and its nodes, as the tables have room for them
 abbrev pub Few : ℕ → Type 0
@@ -57,11 +57,11 @@ module _ (s t : List ℕ) (sized : length t ≡ wantedLen s) where
   unfolding noticed noticeOf wantedLen
   same = ap (λ (x : Number). noticeFrom x s) (passes t (dimensionAt s) sized)
 
-  pub refused-head : {k end : ℕ} (labels out : List ℕ) → noticed s t ≡ Refused k → (take end out ≡ noticeRefused k) × (end ≤ room)
+  pub refused-head : {k at end : ℕ} (labels out : List ℕ) → noticed s t ≡ Refused k at → (take end out ≡ noticeRefused k at) × (end ≤ room)
       → Headed s (record { n = 0; nodes = 0; end = end }) labels out
   unfolding headLine labelsIn
-  refused-head {k} labels out e made =
-      let q : noticeOf s ≡ Refused k = sym same ∙ e in
+  refused-head {k} {at} labels out e made =
+      let q : noticeOf s ≡ Refused k at = sym same ∙ e in
       record { line = rw q (made .0); near = made .1; dimension = rw q; labelled = rw q; few = omega arith }
 
   module _ {n m taken : ℕ} (e : noticed s t ≡ Notice n m taken) where

@@ -7,8 +7,7 @@ use mathlib.Core.List.{List, [], _∷_, _++_, append-nil}
 use Prim.Native.Nat.{ℕ, zero, suc, _+_, _≤_, _<_}
 use lib.Count.{ones}
 use lib.Dec.{ltb}
-use lib.ListN.{drop, length}
-use lib.Seq.{drop-length}
+use lib.ListN.{length}
 use borrow.Author.Tests.{le-ltb, lt-ltb, ltb-true}
 use native.Mathlib.Omega.{arith}
 use Rattle.cube.specs.Count.{count, least, some}
@@ -16,8 +15,9 @@ use Rattle.cube.specs.Cube.{apart, bit, dist, flip}
 use Rattle.cube.specs.Refusal.{first}
 use Rattle.cube.proofs.Bools.{either}
 use Rattle.cube.specs.Tables.{isDimension, labelIn, nodeBit, tab, tableLen}
-use Rattle.groups.specs.Number.{numberAt}
+use Rattle.groups.specs.Number.{further, numberAt, twoGroups}
 use Rattle.groups.specs.declared.Number.the-variants as number
+use Rattle.groups.proofs.Laws.{number-laws}
 use Rattle.hop.specs.Hop.{answer, decide, hop}
 use Rattle.notice.specs.Addresses.{addressesAt, addressesEnd, withBit, withBits}
 use Rattle.notice.specs.Notice.{addressesOf, dimensionAt, noticeFrom, noticeOf, restAt, tailAt}
@@ -29,7 +29,7 @@ use Rattle.rule.specs.Rule.{label, labelOf, marked, meets, newly, quiet, rounds
 use Rattle.scans.specs.Scans.{firstScan, lowest, suits, takes}
 use Rattle.walk.specs.Walk.{hops, last, onto, refused, row, spot, stops, turn, walkFrom, walkRefusal, walked}
 use Rattle.lines.specs.Lines.{cubeLine, inputRefused, noticeRefused, pairLine, rowText, tooLong}
-use Rattle.printed.specs.Printed.{cabinetOf, headLine, labelsIn, lineAt, lineFrom, listing, nextAt, nextFrom, pairLines, pairsOf}
+use Rattle.printed.specs.Printed.{cabinetOf, firstLine, headLine, labelsIn, lineAt, lineFrom, listing, nextAt, nextFrom, pairLines, pairsOf}
 use Rattle.lines.specs.Text.{decimal, text, width}
 use Rattle.printed.proofs.Pairs.{first-read, first-refused, next-beyond, second-refused}
 use Rattle.printed.specs.Laws.{ListingLaws, sampleBytes, sampleLines}
@@ -40,11 +40,11 @@ abbrev k4 : List ℕ
 k4 = 1 ∷ 0 ∷ 3 ∷ 0 ∷ 3 ∷ 0 ∷ 1 ∷ 0 ∷ 3 ∷ 0 ∷ 1 ∷ 0 ∷ 1 ∷ 0 ∷ 2 ∷ 3 ∷ []
 
 is-notice : noticeOf sampleBytes ≡ Notice 4 4 6
-unfolding noticeOf noticeFrom dimensionAt restAt tested first isDimension numberAt addressesEnd
+unfolding noticeOf noticeFrom dimensionAt restAt tested first isDimension numberAt addressesEnd further
 is-notice = refl
 
 table : cabinetOf sampleBytes 4 ≡ cabinet 4 (0x14 ∷ 0x81 ∷ [])
-unfolding addressesOf dimensionAt restAt tested first isDimension numberAt addressesEnd addressesAt withBits withBit tableLen
+unfolding addressesOf dimensionAt restAt tested first isDimension numberAt addressesEnd further addressesAt withBits withBit tableLen
 table = refl
 
 labels-are : labelsOf (cabinet 4 (0x14 ∷ 0x81 ∷ [])) ≡ k4
@@ -67,11 +67,11 @@ labels : labelsIn sampleBytes ≡ k4
 unfolding labelsIn
 labels = rw is-notice (rw table labels-are)
 
-tail : drop (tailAt sampleBytes) sampleBytes ≡ 0x0D ∷ 0x00 ∷ 0x06 ∷ 0x00 ∷ 0x02 ∷ 0x00 ∷ []
+tail : tailAt sampleBytes ≡ 6
 unfolding tailAt
 tail = rw is-notice
 
-pairs : pairsOf 4 k4 (0x0D ∷ 0x00 ∷ 0x06 ∷ 0x00 ∷ 0x02 ∷ 0x00 ∷ [])
+pairs : pairLines 12 4 k4 sampleBytes 6
     ≡ text "13 0 delivered 3 13 9 1 0\n6 0 delivered 4 6 7 5 1 0\n2 0 refused 6\n"
 unfolding pairLines lineAt lineFrom nextAt nextFrom numberAt pairLine rowText decimal width least walked walkRefusal walkFrom refused first row last hops
     turn spot stops onto hop decide answer firstScan lowest takes suits apart dist ones labelIn tab isDimension some count bit flip
@@ -87,11 +87,6 @@ too-long : (s : List ℕ) → 16384 < length s → listing s ≡ tooLong
 unfolding listing
 too-long s h = rw (lt-ltb 16384 (length s) h)
 
-refused-only : (s : List ℕ) (k : ℕ) → length s ≤ 16384 → noticeOf s ≡ Refused k → listing s ≡ noticeRefused k
-unfolding listing headLine pairLines
-refused-only s k h e =
-    let behind : drop (tailAt s) s ≡ [] = ap (λ (j : ℕ). drop j s) (sym (tail-refused s (sym e))) ∙ drop-length s in
-    rw (le-ltb 16384 (length s) h, e, behind) (append-nil (noticeRefused k))
 
 module _ (n : ℕ) (labels s : List ℕ) where
   none-left : (left at : ℕ) → length s ≤ at → pairLines left n labels s at ≡ []
@@ -111,26 +106,63 @@ module _ (n : ℕ) (labels s : List ℕ) where
       rw t (ap (λ (l : List ℕ). lineAt n labels s at ++ l) (enough left more (nextAt s at) (omega arith) (omega arith))))
       (λ (t : ltb at (length s) ≡ false). rw t) (either (ltb at (length s)))
 
-  to-end : (steps : ℕ) → length s ≤ steps → pairLines steps n labels s 0 ≡ pairsOf n labels s
-  to-end steps h = enough (length s) steps 0 (omega arith) (omega arith)
+  to-end : (steps : ℕ) → length s ≤ steps → pairLines steps n labels s (tailAt s) ≡ pairsOf n labels s
+  to-end steps h = enough (length s) steps (tailAt s) (omega arith) (omega arith)
+
+-- behind a refused notice no bytes are left
+refused-only : (s : List ℕ) (k at : ℕ) → length s ≤ 16384 → noticeOf s ≡ Refused k at → listing s ≡ noticeRefused k at
+unfolding listing headLine
+refused-only s k at h e =
+    rw (le-ltb 16384 (length s) h, e) (ap (λ (l : List ℕ). noticeRefused k at ++ l) (none-left 0 (labelsIn s) s (length s) (tailAt s) (omega (arith, tail-refused s (sym e)))) ∙ append-nil (noticeRefused k at))
 
 module _ (left n : ℕ) (labels s : List ℕ) where
-  last-line : (at k : ℕ) → at < length s → (inputRefused k ≡ lineAt n labels s at) × (length s ≡ nextAt s at)
-      → pairLines (suc left) n labels s at ≡ inputRefused k
+  last-line : (at k place : ℕ) → at < length s → (inputRefused k place ≡ lineAt n labels s at) × (length s ≡ nextAt s at)
+      → pairLines (suc left) n labels s at ≡ inputRefused k place
   unfolding pairLines
-  last-line at k h p =
+  last-line at k place h p =
       rw (lt-ltb at (length s) h)
-      (ap₂ (λ (x y : List ℕ). x ++ y) (sym (p .0)) (none-left n labels s left (nextAt s at) (omega (arith, p .1))) ∙ append-nil (inputRefused k))
+      (ap₂ (λ (x y : List ℕ). x ++ y) (sym (p .0)) (none-left n labels s left (nextAt s at) (omega (arith, p .1))) ∙ append-nil (inputRefused k place))
 
-  source-refused : (at k : ℕ) → at < length s → numberAt s at ≡ number.Refused k → pairLines (suc left) n labels s at ≡ inputRefused k
-  source-refused at k h e = last-line at k h (first-refused n labels s at e)
+  source-refused : (at k place : ℕ) → at < length s → numberAt s at ≡ number.Refused k place → pairLines (suc left) n labels s at ≡ inputRefused k at
+  source-refused at k place h e = last-line at k place h (first-refused n labels s at e) ∙ ap (inputRefused k) (number-laws .refused-place s at k place e)
 
-  destination-refused : (at a next k : ℕ) → at < length s → numberAt s at ≡ number.Value a next → numberAt s next ≡ number.Refused k
-      → pairLines (suc left) n labels s at ≡ inputRefused k
-  destination-refused at a next k h e f =
+  destination-refused : (at a next k place : ℕ) → at < length s → numberAt s at ≡ number.Value a next → numberAt s next ≡ number.Refused k place
+      → pairLines (suc left) n labels s at ≡ inputRefused k next
+  destination-refused at a next k place h e f =
       let p = first-read n labels s at e in
       let q = second-refused n labels s next a f in
-      last-line at k h (q .0 ∙ p .0, q .1 ∙ p .1)
+      last-line at k place h (q .0 ∙ p .0, q .1 ∙ p .1) ∙ ap (inputRefused k) (number-laws .refused-place s next k place f)
+
+-- ---- the samples that are refused
+
+notice-bad : noticeOf (0x04 ∷ 0x02 ∷ 0x03 ∷ 0x81 ∷ 0x00 ∷ []) ≡ Refused 10 3
+unfolding noticeOf noticeFrom dimensionAt restAt tested first isDimension numberAt twoGroups addressesEnd further
+notice-bad = refl
+
+sample-notice : listing (0x04 ∷ 0x02 ∷ 0x03 ∷ 0x81 ∷ 0x00 ∷ []) ≡ text "notice refused 10 3\n"
+unfolding decimal width least
+sample-notice = refused-only _ 10 3 (omega arith) notice-bad
+
+none-faulty : noticeOf (0x01 ∷ 0x00 ∷ 0x00 ∷ 0x81 ∷ []) ≡ Notice 1 0 2
+unfolding noticeOf noticeFrom dimensionAt restAt tested first isDimension numberAt twoGroups addressesEnd further
+none-faulty = refl
+
+none-table : cabinetOf (0x01 ∷ 0x00 ∷ 0x00 ∷ 0x81 ∷ []) 1 ≡ cabinet 1 (0 ∷ [])
+unfolding addressesOf dimensionAt restAt tested first isDimension numberAt addressesEnd further addressesAt withBits withBit tableLen
+none-table = refl
+
+none-line : firstLine 0 (cabinet 1 (0 ∷ [])) ≡ text "cube 1 faulty 0 safe 2 ordinary 0 strong 0 rounds 0\n"
+unfolding cubeLine decimal width labelsOf roundsOf label labelOf safe rounds working quiet newly meets marked labelIn count least some flip tab nodeBit bit
+none-line = refl
+
+none-pair : (labels : List ℕ) → pairLines 4 1 labels (0x01 ∷ 0x00 ∷ 0x00 ∷ 0x81 ∷ []) 2 ≡ text "input refused 9 3\n"
+unfolding pairLines lineAt lineFrom nextAt nextFrom numberAt decimal width least
+none-pair labels = refl
+
+sample-input : listing (0x01 ∷ 0x00 ∷ 0x00 ∷ 0x81 ∷ [])
+    ≡ text "cube 1 faulty 0 safe 2 ordinary 0 strong 0 rounds 0\n" ++ text "input refused 9 3\n"
+unfolding listing headLine tailAt
+sample-input = rw none-faulty (rw none-table (ap₂ (λ (x y : List ℕ). x ++ y) none-line (none-pair _)))
 
 pub listing-laws : ListingLaws
 listing-laws = record {
@@ -140,4 +172,6 @@ listing-laws = record {
   source-refused = source-refused;
   destination-refused = destination-refused;
   sample = sample;
+  sample-notice = sample-notice;
+  sample-input = sample-input;
 }

@@ -13,7 +13,7 @@ use Rattle.lines.specs.Lines.{inputRefused, pairLine}
 use Rattle.printed.specs.Printed.{lineAt, lineFrom, nextAt, nextFrom, walkedIn}
 
 module _ (n : ℕ) (labels s : List ℕ) (at : ℕ) where
-  pub first-refused : {k : ℕ} → numberAt s at ≡ Refused k → (inputRefused k ≡ lineAt n labels s at) × (length s ≡ nextAt s at)
+  pub first-refused : {k place : ℕ} → numberAt s at ≡ Refused k place → (inputRefused k place ≡ lineAt n labels s at) × (length s ≡ nextAt s at)
   unfolding lineAt nextAt
   first-refused e = rw e (refl, refl)
 
@@ -22,7 +22,7 @@ module _ (n : ℕ) (labels s : List ℕ) (at : ℕ) where
   first-read e = rw e (refl, refl)
 
   module _ (a : ℕ) where
-    pub second-refused : {k : ℕ} → numberAt s at ≡ Refused k → (inputRefused k ≡ lineFrom n labels a s at) × (length s ≡ nextFrom s at)
+    pub second-refused : {k place : ℕ} → numberAt s at ≡ Refused k place → (inputRefused k place ≡ lineFrom n labels a s at) × (length s ≡ nextFrom s at)
     unfolding lineFrom nextFrom
     second-refused e = rw e (refl, refl)
 
@@ -34,6 +34,6 @@ module _ (n : ℕ) (labels s : List ℕ) (at : ℕ) where
 pub next-beyond : (s : List ℕ) (at : ℕ) → at < length s → at < nextAt s at
 unfolding nextAt nextFrom
 next-beyond s at h =
-    on-number (λ (p : ℕ). at < p) (numberAt s at) (λ _ _. h)
-    (λ a next e. on-number (λ (p : ℕ). at < p) (numberAt s next) (λ _ _. h)
+    on-number (λ (p : ℕ). at < p) (numberAt s at) (λ _ _ _. h)
+    (λ a next e. on-number (λ (p : ℕ). at < p) (numberAt s next) (λ _ _ _. h)
     (λ b after f. omega (arith, read-number s at a next e .beyond, read-number s next b after f .beyond)))

@@ -5,7 +5,7 @@ use Prim.Native.Nat.{ℕ, suc, _≤_, _<_}
 use lib.ListN.{length}
 use Rattle.groups.specs.Number.{numberAt}
 use Rattle.groups.specs.declared.Number.the-variants as number
-use Rattle.notice.specs.Notice.{noticeOf}
+use Rattle.notice.specs.Notice.{noticeOf, tailAt}
 use Rattle.notice.specs.declared.Noticed.the-variants.{Refused}
 use Rattle.lines.specs.Lines.{inputRefused, noticeRefused, tooLong}
 use Rattle.printed.specs.Printed.{listing, pairLines, pairsOf}
@@ -25,14 +25,18 @@ sampleLines =
 pub record ListingLaws : Type 0 where
   -- "Input over 16,384 bytes prints only `input too long`"
   pub too-long : (s : List ℕ) → 16384 < length s → listing s ≡ tooLong
-  -- "A refused notice prints only `notice refused K`"
-  pub refused : (s : List ℕ) (k : ℕ) → length s ≤ 16384 → noticeOf s ≡ Refused k → listing s ≡ noticeRefused k
+  -- "A refused notice prints only `notice refused K`", and the place of the refusal
+  pub refused : (s : List ℕ) (k at : ℕ) → length s ≤ 16384 → noticeOf s ≡ Refused k at → listing s ≡ noticeRefused k at
   -- "pairs of numbers .. to the end": with more steps no more is printed, so no pair is left out
-  pub to-end : (n : ℕ) (labels s : List ℕ) (steps : ℕ) → length s ≤ steps → pairLines steps n labels s 0 ≡ pairsOf n labels s
-  -- "A pair cut short or ill written prints `input refused 9` or `input refused 10` as the last line"
-  pub source-refused : (left n : ℕ) (labels s : List ℕ) (at k : ℕ) → at < length s → numberAt s at ≡ number.Refused k
-      → pairLines (suc left) n labels s at ≡ inputRefused k
-  pub destination-refused : (left n : ℕ) (labels s : List ℕ) (at a next k : ℕ) → at < length s → numberAt s at ≡ number.Value a next
-      → numberAt s next ≡ number.Refused k → pairLines (suc left) n labels s at ≡ inputRefused k
+  pub to-end : (n : ℕ) (labels s : List ℕ) (steps : ℕ) → length s ≤ steps → pairLines steps n labels s (tailAt s) ≡ pairsOf n labels s
+  -- "A pair cut short or ill written prints `input refused 9` or `input refused 10` as the last line", and the place where that number begins, "counted
+  -- there from the first byte of the whole input"
+  pub source-refused : (left n : ℕ) (labels s : List ℕ) (at k place : ℕ) → at < length s → numberAt s at ≡ number.Refused k place
+      → pairLines (suc left) n labels s at ≡ inputRefused k at
+  pub destination-refused : (left n : ℕ) (labels s : List ℕ) (at a next k place : ℕ) → at < length s → numberAt s at ≡ number.Value a next
+      → numberAt s next ≡ number.Refused k place → pairLines (suc left) n labels s at ≡ inputRefused k next
   -- "it prints exactly:"
   pub sample : listing sampleBytes ≡ sampleLines
+  -- a notice whose second address is ill written; and a destination that is cut short, behind a notice of two bytes
+  pub sample-notice : listing (0x04 ∷ 0x02 ∷ 0x03 ∷ 0x81 ∷ 0x00 ∷ []) ≡ text "notice refused 10 3\n"
+  pub sample-input : listing (0x01 ∷ 0x00 ∷ 0x00 ∷ 0x81 ∷ []) ≡ text "cube 1 faulty 0 safe 2 ordinary 0 strong 0 rounds 0\n" ++ text "input refused 9 3\n"

@@ -4,7 +4,7 @@ use mathlib.Core.Bool.{cond}
 use mathlib.Core.List.{List, [], _++_}
 use Prim.Native.Nat.{ℕ, zero, suc, _≤_}
 use lib.Dec.{ltb}
-use lib.ListN.{drop, length, replicate, take}
+use lib.ListN.{length, replicate, take}
 use Rattle.cube.specs.Tables.{labelIn, tableLen}
 use Rattle.groups.specs.Number.{numberAt, onNumber}
 use Rattle.lines.specs.Lines.{cubeLine, inputRefused, noticeRefused, pairLine, room, tooLong}
@@ -19,7 +19,7 @@ use Rattle.printed.specs.declared.Head.{Head}
 
 -- the bytes of the fault table that it asks for: where it has no dimension, any length will do
 unfoldable pub wantedLen : List ℕ → ℕ
-wantedLen s = onNumber (dimensionAt s) (λ k. 1) (λ n at. tableLen n)
+wantedLen s = onNumber (dimensionAt s) (λ k at. 1) (λ n at. tableLen n)
 
 -- the cabinet of an accepted notice of dimension n
 abbrev pub cabinetOf : (s : List ℕ) (n : ℕ) → Cabinet
@@ -27,12 +27,12 @@ cabinetOf s n = cabinet n (withBits (replicate (tableLen n) 0) (addressesOf s))
 
 -- its labels; a refused notice has none
 unfoldable pub labelsIn : List ℕ → List ℕ
-labelsIn s = onNoticed (noticeOf s) (λ k. []) (λ n m taken. labelsOf (cabinetOf s n))
+labelsIn s = onNoticed (noticeOf s) (λ k at. []) (λ n m taken. labelsOf (cabinetOf s n))
 
 abbrev pub firstLine : (faulty : ℕ) → Cabinet → List ℕ
 firstLine faulty K = cubeLine (K .n) faulty (labelsOf K) (roundsOf K)
 
--- "A refused notice prints only `notice refused K`"
+-- "A refused notice prints only `notice refused K`", with the place as a last field
 unfoldable pub headLine : List ℕ → List ℕ
 headLine s = onNoticed (noticeOf s) noticeRefused (λ n m taken. firstLine m (cabinetOf s n))
 
@@ -44,7 +44,7 @@ pub record Headed (s : List ℕ) (h : Head) (labels out : List ℕ) : Type 0 whe
   pub labelled : take (h .nodes) labels ≡ labelsIn s
   pub few : h .nodes ≤ 4096
 
--- ---- for the pair at place `at` of the bytes behind the notice, in a cube of dimension n with these labels
+-- ---- for the pair at place `at` of the input, in a cube of dimension n with these labels
 
 -- the walk with the labels that the program keeps
 abbrev pub walkedIn : (n : ℕ) (labels : List ℕ) (s d : ℕ) → Walked
@@ -54,16 +54,16 @@ walkedIn n labels s d = walked n s d (length labels) rowBytes (labelIn labels)
 unfoldable pub lineFrom : (n : ℕ) (labels : List ℕ) (a : ℕ) (s : List ℕ) (at : ℕ) → List ℕ
 lineFrom n labels a s at = onNumber (numberAt s at) inputRefused (λ b after. pairLine a b (walkedIn n labels a b))
 
--- "A pair cut short or ill written prints `input refused 9` or `input refused 10` as the last line"
+-- "A pair cut short or ill written prints `input refused 9` or `input refused 10` as the last line", with the place of that number as a last field
 unfoldable pub lineAt : (n : ℕ) (labels s : List ℕ) (at : ℕ) → List ℕ
 lineAt n labels s at = onNumber (numberAt s at) inputRefused (λ a next. lineFrom n labels a s next)
 
 -- where the next pair begins: after such a last line at the end of the bytes
 unfoldable pub nextFrom : List ℕ → ℕ → ℕ
-nextFrom s at = onNumber (numberAt s at) (λ k. length s) (λ b after. after)
+nextFrom s at = onNumber (numberAt s at) (λ k place. length s) (λ b after. after)
 
 unfoldable pub nextAt : List ℕ → ℕ → ℕ
-nextAt s at = onNumber (numberAt s at) (λ k. length s) (λ a next. nextFrom s next)
+nextAt s at = onNumber (numberAt s at) (λ k place. length s) (λ a next. nextFrom s next)
 
 -- ---- all of it
 
@@ -72,12 +72,12 @@ unfoldable pub pairLines : (left n : ℕ) (labels s : List ℕ) (at : ℕ) → L
 pairLines zero n labels s at = []
 pairLines (suc left) n labels s at = cond (ltb at (length s)) (lineAt n labels s at ++ pairLines left n labels s (nextAt s at)) []
 
--- those of the bytes behind the notice: each pair takes a byte at least
+-- those of all pairs, from the end of the notice on: each takes a byte at least. Places are counted from the first byte of the whole input
 abbrev pub pairsOf : (n : ℕ) (labels s : List ℕ) → List ℕ
-pairsOf n labels s = pairLines (length s) n labels s 0
+pairsOf n labels s = pairLines (length s) n labels s (tailAt s)
 
 -- "It reads standard input: one notice, then pairs .. to the end. Input over 16,384 bytes prints only `input too long`"
 unfoldable pub listing : List ℕ → List ℕ
 listing s =
     cond (ltb 16384 (length s)) tooLong
-    (headLine s ++ pairsOf (dimensionOf (noticeOf s)) (labelsIn s) (drop (tailAt s) s))
+    (headLine s ++ pairsOf (dimensionOf (noticeOf s)) (labelsIn s) s)

@@ -1,9 +1,10 @@
 // What the listing program prints: a line for the notice at the front of the input, and a line for each pair behind it. `listing` of specs/Printed.antt is
 // all of it; the program writes it line by line.
 ghost use Prim.Native.Nat.{_≤_};
+ghost use Rattle.notice.specs.Notice.{dimensionOf, noticeOf, tailAt};
 ghost use Rattle.labels.specs.Labelling.{labelRefusal};
 ghost use Rattle.lines.specs.Lines.{inputRefused, room};
-ghost use Rattle.printed.specs.Printed.{Headed, firstLine, lineAt, lineFrom, nextAt, nextFrom, wantedLen};
+ghost use Rattle.printed.specs.Printed.{Headed, firstLine, labelsIn, lineAt, lineFrom, nextAt, nextFrom, wantedLen};
 ghost use Rattle.rule.specs.Cabinet.{cabinet, labelsOf};
 ghost use lib.ListN.{length, take};
 ghost use mathlib.Core.Path.{_≡_};
@@ -70,8 +71,8 @@ fn notice_line(bytes: &[u8], faults: &mut [u8], labels: &mut [u8], out: &mut [u8
     ensures { λ r. ⌜ Headed (now (bytes .entry)) r (now (labels .exit)) (now (out .exit)) ⌝ }
 {
     match notice::read(bytes, faults) {
-        Noticed::Refused(k) => {
-            let end = refused_line(b"notice refused ", k, out);
+        Noticed::Refused(k, at) => {
+            let end = refused_line(b"notice refused ", k, at, out);
             Head {
                 n: 0,
                 nodes: 0,
@@ -99,13 +100,13 @@ pub fn head_line(bytes: &[u8], faults: &mut [u8], labels: &mut [u8], out: &mut [
 // ---- for a pair
 
 // The line of a number that is refused: no pair is left behind it.
-fn last_line(k: u32, bytes: &[u8], out: &mut [u8]) -> Line
+fn last_line(k: u32, at: usize, bytes: &[u8], out: &mut [u8]) -> Line
     requires { ⌜ length (now out) ≡ room ⌝ }
-    ensures line { λ r. ⌜ take (r .end) (now (out .exit)) ≡ inputRefused k ⌝ }
+    ensures line { λ r. ⌜ take (r .end) (now (out .exit)) ≡ inputRefused k at ⌝ }
     ensures next { λ r. ⌜ r .next ≡ length (now (bytes .entry)) ⌝ }
     ensures near { λ r. ⌜ r .end ≤ room ⌝ }
 {
-    let end = refused_line(b"input refused ", k, out);
+    let end = refused_line(b"input refused ", k, at, out);
     Line {
         end,
         next: bytes.len(),
@@ -120,7 +121,7 @@ fn line_from(n: usize, labels: &[u8], s: usize, bytes: &[u8], at: usize, out: &m
     ensures near { λ r. ⌜ r .end ≤ room ⌝ }
 {
     match number_at(bytes, at) {
-        Number::Refused(k) => last_line(k, bytes, out),
+        Number::Refused(k, place) => last_line(k, place, bytes, out),
         Number::Value(d, next) => {
             let end = pair_line(s, d, walk(n, s, d, labels), out);
             Line { end, next }
@@ -128,15 +129,16 @@ fn line_from(n: usize, labels: &[u8], s: usize, bytes: &[u8], at: usize, out: &m
     }
 }
 
-// The line of the pair at a place.
+// The line of the pair at a place of the input, behind its notice, whose dimension and labels these are.
 pub fn line_at(n: usize, labels: &[u8], bytes: &[u8], at: usize, out: &mut [u8]) -> Line
-    requires { ⌜ length (now out) ≡ room ⌝ }
+    requires { ⌜ (n ≡ dimensionOf (noticeOf (now bytes))) × (now labels ≡ labelsIn (now bytes)) ⌝ }
+    requires { ⌜ (tailAt (now bytes) ≤ at) × (length (now out) ≡ room) ⌝ }
     ensures line { λ r. ⌜ take (r .end) (now (out .exit)) ≡ lineAt n (now (labels .entry)) (now (bytes .entry)) at ⌝ }
     ensures next { λ r. ⌜ r .next ≡ nextAt (now (bytes .entry)) at ⌝ }
     ensures near { λ r. ⌜ r .end ≤ room ⌝ }
 {
     match number_at(bytes, at) {
-        Number::Refused(k) => last_line(k, bytes, out),
+        Number::Refused(k, place) => last_line(k, place, bytes, out),
         Number::Value(s, next) => line_from(n, labels, s, bytes, next, out),
     }
 }

@@ -1,5 +1,6 @@
 // Two notices back to back, and then a number that is ill written, read number by number through the reader.
-// Each line has the place that the reader had, and the value there or the refusal. The last refusal is asked for twice: its place stays.
+// Each line has the place that the reader had, and the value there, or the refusal and the place that it answers. The last refusal is asked for twice:
+// its place stays.
 use groups::Number;
 use libc::STDOUT_FILENO;
 use reader::next_at;
@@ -18,9 +19,11 @@ fn put_number(number: Number) {
             say(b" value ");
             put(v);
         }
-        Number::Refused(k) => {
+        Number::Refused(k, at) => {
             say(b" refused ");
             put(k as usize);
+            say(b" ");
+            put(at);
         }
     }
 }

@@ -29,7 +29,7 @@ enum-told c = search needs
 
 returns : tie.Need-returns
 unfolding dimensionAt
-returns c = none-wanted _ (tested-refused dimensionTests (sym (c .enum-told .given .1) ∙ c .before .before .number-at .ensures))
+returns c = none-wanted _ (tested-refused dimensionTests 0 (sym (c .enum-told .given .1) ∙ c .before .before .number-at .ensures))
 
 is-dimension-requires : tie.Need-is-dimension-requires
 is-dimension-requires c κs = search needs
@@ -42,13 +42,13 @@ unfolding dimensionAt first
 returns-2 c =
     let t = c .before in
     let good = sym (t .before .is-dimension .ensures) ∙ t .if1 .taken in
-    c .table-len .ensures ∙ table-wanted _ (tested-passes dimensionTests (opened (t .before .before .before)) (rw good))
+    c .table-len .ensures ∙ table-wanted _ (tested-passes dimensionTests 0 (opened (t .before .before .before)) (rw good))
 
 returns-3 : tie.Need-returns-3
 unfolding dimensionAt first
 returns-3 c =
     let bad = sym (c .before .is-dimension .ensures) ∙ c .if1 .left in
-    none-wanted _ {k = 1} (tested-fails dimensionTests (opened (c .before .before .before)) (rw bad) refl)
+    none-wanted _ {k = 1} {at = 0} (tested-fails dimensionTests 0 (opened (c .before .before .before)) (rw bad) refl)
 
 pub wanted-len-spec : {M : Type 1} → statement M
 wanted-len-spec =
