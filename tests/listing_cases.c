@@ -19,6 +19,7 @@
 
 static uint8_t bytes[ROOM];
 static size_t len;
+static size_t places[MOST_PLACES];
 static const char *folder;
 static unsigned made;
 
@@ -64,7 +65,7 @@ static void start_notice(uint32_t n, unsigned per_mille)
 {
     uint8_t faults[MOST_FAULT_BYTES];
     random_faults(n, per_mille, faults);
-    len = put_notice(n, faults, bytes);
+    len = put_notice(n, faults, bytes, places);
 }
 
 /* Starts with the notice of a cube in which these nodes are faulty. */
@@ -73,7 +74,7 @@ static void start_faulty(uint32_t n, const uint16_t *nodes, size_t count)
     uint8_t faults[MOST_FAULT_BYTES] = {0};
     while (count--)
         faults[nodes[count] / 8] |= (uint8_t)(1u << (nodes[count] % 8));
-    len = put_notice(n, faults, bytes);
+    len = put_notice(n, faults, bytes, places);
 }
 
 static void add_pair(uint32_t s, uint32_t d)

@@ -11,12 +11,14 @@
 #include "reference.h"
 
 static uint8_t bytes[MOST_LENT], faults[MOST_LENT], read[MOST_LENT];
+static size_t places[MOST_PLACES];
 
-/* A notice of a random table, which is left in `faults`; its length. */
+/* A notice of a random table, which is left in `faults`; its length. Where its
+ * numbers begin is left in `places`. */
 static size_t random_notice(uint32_t n)
 {
     random_faults(n, random_density(n), faults);
-    return put_notice(n, faults, bytes);
+    return put_notice(n, faults, bytes, places);
 }
 
 /* ---- good ones, alone and with more bytes behind them */
