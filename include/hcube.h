@@ -165,7 +165,7 @@ uint32_t hcube_walk(uint32_t n, uint32_t s, uint32_t d,
  * bytes from the first of `bytes`: for 9 and 10 that of the number itself (len,
  * if nothing of it is there), for 1 and 2 that of the dimension, which is 0,
  * for 11 that of the count, for 12 that of the address. The bytes 04 02 81 00
- * give refusal 10 and value 2.
+ * and a fault table of 2 bytes give refusal 10 and value 2.
  * Accepted: dimension and count, kind 0, and as value how many bytes the notice
  * took. All of `faults` is overwritten.
  */
