@@ -16,7 +16,8 @@
  *   Nothing of them is kept after the call.
  * - A const buffer never changes, and no byte outside a buffer is written.
  * - Refusals are tested in the order in which they are listed; the first that
- *   applies is the answer, with zero in every other field. On a refusal no
+ *   applies is the answer, with zero in every other field; only a refused
+ *   notice has a value, the place of the number concerned. On a refusal no
  *   byte of any buffer changes.
  * - Every input has one answer. There is no state, no allocation, no lock.
  */
@@ -69,18 +70,16 @@ extern "C" {
 #define HCUBE_WALK_DELIVERED 0
 #define HCUBE_WALK_HALTED 1
 
-/* Parts of the answer of hcube_label, hcube_hop and hcube_walk:
+/* Parts of every answer, in its low 32 bits:
  * refusal * 16777216 + kind * 65536 + value. */
-#define HCUBE_REFUSAL(answer) ((answer) >> 24)
+#define HCUBE_REFUSAL(answer) (((answer) >> 24) & 0xff)
 #define HCUBE_KIND(answer) (((answer) >> 16) & 0xff)
 #define HCUBE_VALUE(answer) ((answer) & 0xffff)
 
-/* Parts of the answer of hcube_read_notice:
- * refusal * 2^48 + dimension * 2^32 + count * 2^16 + bytes taken. */
-#define HCUBE_NOTICE_REFUSAL(answer) ((answer) >> 48)
-#define HCUBE_NOTICE_DIMENSION(answer) (((answer) >> 32) & 0xffff)
-#define HCUBE_NOTICE_COUNT(answer) (((answer) >> 16) & 0xffff)
-#define HCUBE_NOTICE_TAKEN(answer) ((answer) & 0xffff)
+/* Parts of the answer of hcube_read_notice above these, zero if it refuses:
+ * dimension * 2^48 + count * 2^32. */
+#define HCUBE_NOTICE_DIMENSION(answer) (((answer) >> 48) & 0xffff)
+#define HCUBE_NOTICE_COUNT(answer) (((answer) >> 32) & 0xffff)
 
 /*
  * Labels every node of the cube whose faulty nodes `faults` gives.
@@ -162,8 +161,13 @@ uint32_t hcube_walk(uint32_t n, uint32_t s, uint32_t d,
  *   2   after the dimension: faults_len is not HCUBE_FAULT_BYTES(dimension)
  *   11  the count is above 2^dimension
  *   12  an address is 2^dimension or more
- * Accepted: dimension, count, and how many bytes the notice took. All of
- * `faults` is overwritten.
+ * The value of a refusal is the place where the number concerned begins, in
+ * bytes from the first of `bytes`: for 9 and 10 that of the number itself (len,
+ * if nothing of it is there), for 1 and 2 that of the dimension, which is 0,
+ * for 11 that of the count, for 12 that of the address. The bytes 04 02 81 00
+ * and a fault table of 2 bytes give refusal 10 and value 2.
+ * Accepted: dimension and count, kind 0, and as value how many bytes the notice
+ * took. All of `faults` is overwritten.
  */
 uint64_t hcube_read_notice(const uint8_t *bytes, size_t len,
                            uint8_t *faults, size_t faults_len);

@@ -66,18 +66,23 @@ size_t put_number(uint32_t value, uint8_t *bytes)
     return 2;
 }
 
-size_t put_notice(uint32_t n, const uint8_t *faults, uint8_t *bytes)
+size_t put_notice(uint32_t n, const uint8_t *faults, uint8_t *bytes,
+                  size_t *places)
 {
     uint32_t count = 0, due = 0;
     size_t at;
     for (uint32_t k = 0; k < 1u << n; k++)
         count += faults[k / 8] >> (k % 8) & 1;
+    *places++ = 0;
     at = put_number(n, bytes);
+    *places++ = at;
     at += put_number(count, bytes + at);
     for (uint32_t k = 0; k < 1u << n; k++)
         if (faults[k / 8] >> (k % 8) & 1) {
+            *places++ = at;
             at += put_number(k - due, bytes + at);
             due = k + 1;
         }
+    *places = at;
     return at;
 }

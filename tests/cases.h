@@ -27,7 +27,10 @@ void random_labels(uint32_t n, unsigned most, uint8_t *labels);
 
 /* Writes a number in groups; how many bytes it took. */
 size_t put_number(uint32_t value, uint8_t *bytes);
-/* Writes the notice of a good fault table; at most 4099 bytes. */
-size_t put_notice(uint32_t n, const uint8_t *faults, uint8_t *bytes);
+/* Writes the notice of a good fault table; its length, at most 4099 bytes. The
+ * places are where its numbers begin, in order, and then its length. */
+size_t put_notice(uint32_t n, const uint8_t *faults, uint8_t *bytes,
+                  size_t *places);
+#define MOST_PLACES (2 + 4096 + 1)
 
 #endif

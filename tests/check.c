@@ -203,8 +203,8 @@ uint64_t check_notice(const uint8_t *bytes, size_t len,
     same = lent_is(&read_only, bytes) && lent_is(&writable, wanted);
     expect(same, "notice of %lu bytes (%016llx): wrong bytes",
            (unsigned long)len, (unsigned long long)want);
-    SEEN(refusal[NOTICE], HCUBE_NOTICE_REFUSAL(want));
-    if (HCUBE_NOTICE_REFUSAL(want) == 0)
+    SEEN(refusal[NOTICE], HCUBE_REFUSAL(want));
+    if (HCUBE_REFUSAL(want) == 0)
         SEEN(cube[NOTICE], HCUBE_NOTICE_DIMENSION(want));
     memcpy(faults, writable.bytes, faults_len);
     return answer;

@@ -18,5 +18,7 @@ void check_notices(void);         /* notices.c */
 void check_notice_orders(void);
 void check_cut_notices(void);
 void check_notice_bounds(void);
+void check_places(void);          /* places.c */
+void check_long_notices(void);    /* long_notices.c */
 
 #endif

@@ -11,6 +11,34 @@
 HOLDS(answer_refusal, HCUBE_REFUSAL(0x08000000u) == HCUBE_TOO_MANY_HOPS);
 HOLDS(answer_kind, HCUBE_KIND(0x0002000bu) == HCUBE_HALTED);
 HOLDS(answer_value, HCUBE_VALUE(0x0001000bu) == 11);
+
+/* Answers of 64 bits: a notice that is read, one that is refused, every bit. */
+#define NOTICE(dimension, count, low)                                          \
+    ((uint64_t)(dimension) << 48 | (uint64_t)(count) << 32 | (uint64_t)(low))
+#define READ NOTICE(12, 4096, 4099)
+#define REFUSED NOTICE(0, 0, 0x0a000002u)
+#define ALL_BITS NOTICE(0xffff, 0xffff, 0xffffffffu)
+
+HOLDS(notice_parts, HCUBE_NOTICE_DIMENSION(READ) == 12 &&
+                        HCUBE_NOTICE_COUNT(READ) == 4096);
+HOLDS(notice_read, HCUBE_REFUSAL(READ) == HCUBE_ACCEPTED &&
+                       HCUBE_KIND(READ) == 0 && HCUBE_VALUE(READ) == 4099);
+HOLDS(notice_refused, HCUBE_REFUSAL(REFUSED) == HCUBE_BAD_GROUP &&
+                          HCUBE_KIND(REFUSED) == 0 &&
+                          HCUBE_VALUE(REFUSED) == 2);
+HOLDS(notice_cut, HCUBE_REFUSAL((uint32_t)REFUSED) == HCUBE_BAD_GROUP &&
+                      HCUBE_VALUE((uint32_t)REFUSED) == 2 &&
+                      HCUBE_REFUSAL((uint32_t)READ) == HCUBE_ACCEPTED &&
+                      HCUBE_VALUE((uint32_t)READ) == 4099);
+HOLDS(bits_of_64, HCUBE_REFUSAL(ALL_BITS) == 0xff &&
+                      HCUBE_KIND(ALL_BITS) == 0xff &&
+                      HCUBE_VALUE(ALL_BITS) == 0xffff);
+HOLDS(bits_of_32, HCUBE_REFUSAL((uint32_t)ALL_BITS) == 0xff &&
+                      HCUBE_KIND((uint32_t)ALL_BITS) == 0xff &&
+                      HCUBE_VALUE((uint32_t)ALL_BITS) == 0xffff);
+HOLDS(bits_of_notice, HCUBE_NOTICE_DIMENSION(ALL_BITS) == 0xffff &&
+                          HCUBE_NOTICE_COUNT(ALL_BITS) == 0xffff);
+
 HOLDS(table_bytes_1, HCUBE_NODES(1) == 2 && HCUBE_FAULT_BYTES(1) == 1);
 HOLDS(table_bytes_3, HCUBE_NODES(3) == 8 && HCUBE_FAULT_BYTES(3) == 1);
 HOLDS(table_bytes_4, HCUBE_NODES(4) == 16 && HCUBE_FAULT_BYTES(4) == 2);
@@ -39,6 +67,6 @@ uint64_t use_all(const uint8_t *bytes, uint8_t *faults, uint8_t *labels,
                                HCUBE_NODES(n));
     all += hcube_hop(n, 0, 1, labels, HCUBE_NODES(n));
     all += hcube_walk(n, 0, 1, labels, HCUBE_NODES(n), row, HCUBE_ROW_BYTES);
-    return all + HCUBE_NOTICE_REFUSAL(notice) + HCUBE_NOTICE_COUNT(notice) +
-           HCUBE_NOTICE_TAKEN(notice);
+    return all + HCUBE_REFUSAL(notice) + HCUBE_NOTICE_COUNT(notice) +
+           HCUBE_VALUE(notice);
 }

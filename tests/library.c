@@ -85,6 +85,8 @@ int main(void)
     check_notices();
     check_cut_notices();
     check_notice_bounds();
+    check_places();
+    check_long_notices();
     check_coverage();
     return failed_groups() != 0;
 }

@@ -2,7 +2,9 @@
  * listing_cases.c: inputs for the listing program.
  *
  *   listing_cases make DIR   writes DIR/NAME.in and, by the reference,
- *                            DIR/NAME.want for each input
+ *                            DIR/NAME.want for each input; where a number is
+ *                            refused, DIR/NAME.last has the last line that is
+ *                            due, its place counted when the input was made
  *   listing_cases slow FILE  writes the file's bytes to standard output with
  *                            pauses, as a slow pipe does
  */
@@ -12,13 +14,11 @@
 #include <string.h>
 #include <unistd.h>
 
-#include "cases.h"
-#include "reference.h"
+#include "listing_cases.h"
 
-#define ROOM 80000
-
-static uint8_t bytes[ROOM];
-static size_t len;
+uint8_t bytes[ROOM];
+size_t len;
+size_t places[MOST_PLACES];
 static const char *folder;
 static unsigned made;
 
@@ -35,8 +35,7 @@ static FILE *open_case(const char *name, const char *ending)
     return file;
 }
 
-/* Writes the bytes at hand as a case. */
-static void make(const char *name)
+void make(const char *name)
 {
     FILE *in = open_case(name, "in"), *want = open_case(name, "want");
     fwrite(bytes, 1, len, in);
@@ -46,25 +45,32 @@ static void make(const char *name)
     made++;
 }
 
-static void make_text(const char *name, const char *text, size_t text_len)
+void make_refused(const char *name, const char *what, unsigned refusal,
+                  size_t place)
+{
+    FILE *last = open_case(name, "last");
+    fprintf(last, "%s refused %u %u\n", what, refusal, (unsigned)place);
+    if (fclose(last))
+        exit(2);
+    make(name);
+}
+
+void start_text(const char *text, size_t text_len)
 {
     memcpy(bytes, text, text_len);
     len = text_len;
-    make(name);
 }
-#define MAKE(name, text) make_text(name, text, sizeof text - 1)
 
-static void add_number(uint32_t value)
+void add_number(uint32_t value)
 {
     len += put_number(value, bytes + len);
 }
 
-/* Starts with the notice of a random table, each node faulty with this chance. */
-static void start_notice(uint32_t n, unsigned per_mille)
+void start_notice(uint32_t n, unsigned per_mille)
 {
     uint8_t faults[MOST_FAULT_BYTES];
     random_faults(n, per_mille, faults);
-    len = put_notice(n, faults, bytes);
+    len = put_notice(n, faults, bytes, places);
 }
 
 /* Starts with the notice of a cube in which these nodes are faulty. */
@@ -73,7 +79,7 @@ static void start_faulty(uint32_t n, const uint16_t *nodes, size_t count)
     uint8_t faults[MOST_FAULT_BYTES] = {0};
     while (count--)
         faults[nodes[count] / 8] |= (uint8_t)(1u << (nodes[count] % 8));
-    len = put_notice(n, faults, bytes);
+    len = put_notice(n, faults, bytes, places);
 }
 
 static void add_pair(uint32_t s, uint32_t d)
@@ -82,7 +88,7 @@ static void add_pair(uint32_t s, uint32_t d)
     add_number(d);
 }
 
-static void add_pairs(uint32_t n, unsigned count)
+void add_pairs(uint32_t n, unsigned count)
 {
     while (count--)
         add_pair(random_below(1u << n), random_below(1u << n));
@@ -92,7 +98,8 @@ static void add_pairs(uint32_t n, unsigned count)
 
 static void good_inputs(void)
 {
-    MAKE("sample", "\x04\x04\x02\x01\x03\x06\x0d\x00\x06\x00\x02\x00");
+    START("\x04\x04\x02\x01\x03\x06\x0d\x00\x06\x00\x02\x00");
+    make("sample");
     for (uint32_t n = 1; n <= 12; n++) {
         start_notice(n, 0);
         make("no-pairs");
@@ -177,59 +184,6 @@ static void many_rounds(void)
     make("many-rounds");
 }
 
-static void refused_notices(void)
-{
-    MAKE("empty", "");
-    MAKE("notice", "\x00");
-    MAKE("notice", "\x0d\x00");
-    MAKE("notice", "\x84");
-    MAKE("notice", "\x84\x00");
-    MAKE("notice", "\x84\x02\x00");
-    MAKE("notice", "\x81\x81");
-    MAKE("notice", "\x8d\x80");
-    MAKE("notice", "\x04");
-    MAKE("notice", "\x04\x91");
-    MAKE("notice", "\x04\x91\x00");
-    MAKE("notice", "\x04\x11");
-    MAKE("notice", "\x04\xff\x7f\x00");
-    MAKE("notice", "\x04\x01");
-    MAKE("notice", "\x04\x01\x90");
-    MAKE("notice", "\x04\x01\x10\x00\x01");
-    MAKE("notice", "\x04\x02\x0f\x00\x00\x01");
-    MAKE("notice", "\x04\x02\x01\xff\x7f");
-    MAKE("notice", "\x04\x02\x01\x81\x80\x01");
-    MAKE("notice", "\x0c\x80\x20");
-    MAKE("notice", "\x0c\x81\x20\x00");
-    for (unsigned k = 0; k < 12; k++) {
-        start_notice(1 + k, 500);
-        len = random_below((uint32_t)len);
-        make("cut-notice");
-    }
-}
-
-static void bad_pairs(void)
-{
-    for (unsigned k = 0; k < 24; k++) {
-        uint32_t n = 1 + k % 12;
-        start_notice(n, 100);
-        add_pairs(n, k / 2);
-        if (k % 2)
-            add_number(random_below(1u << n));
-        switch (k % 8) {
-        case 0: case 1: bytes[len++] = 0x81; break;
-        case 2: case 3: bytes[len++] = 0x81; bytes[len++] = 0; break;
-        case 4: case 5: bytes[len++] = 0x80; bytes[len++] = 0xff; break;
-        case 6: bytes[len++] = 1; break;
-        default: break;
-        }
-        if (k >= 16 && k % 8 != 1) {
-            bytes[len++] = 0;
-            bytes[len++] = 1;
-        }
-        make("bad-pair");
-    }
-}
-
 /* Nodes of 2^n and more, up to the greatest number that two groups hold. */
 static void far_pairs(void)
 {
@@ -290,8 +244,7 @@ static int make_all(const char *where)
     worked_cubes();
     long_walks();
     many_rounds();
-    refused_notices();
-    bad_pairs();
+    refused_inputs();
     far_pairs();
     long_inputs();
     random_inputs();

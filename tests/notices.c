@@ -1,6 +1,6 @@
 /*
  * notices.c: the notice reader against the reference: good notices, each order
- * of two refusals, cut and damaged ones, and the bounds of count and address.
+ * of two refusals, cut and damaged ones, and the bounds of each number.
  */
 #include <string.h>
 
@@ -11,12 +11,14 @@
 #include "reference.h"
 
 static uint8_t bytes[MOST_LENT], faults[MOST_LENT], read[MOST_LENT];
+static size_t places[MOST_PLACES];
 
-/* A notice of a random table, which is left in `faults`; its length. */
+/* A notice of a random table, which is left in `faults`; its length. Where its
+ * numbers begin is left in `places`. */
 static size_t random_notice(uint32_t n)
 {
     random_faults(n, random_density(n), faults);
-    return put_notice(n, faults, bytes);
+    return put_notice(n, faults, bytes, places);
 }
 
 /* ---- good ones, alone and with more bytes behind them */
@@ -30,7 +32,7 @@ static void good_notice(uint32_t n)
     random_bytes(read, table);
     answer = check_notice(bytes, len + after, read, table);
     expect(answer == NOTICE_READ(n, HCUBE_NOTICE_COUNT(answer), len),
-           "n = %u: taken %u of %u", n, (unsigned)HCUBE_NOTICE_TAKEN(answer),
+           "n = %u: taken %u of %u", n, (unsigned)HCUBE_VALUE(answer),
            (unsigned)len);
     expect(!memcmp(read, faults, table), "n = %u: another table", n);
 }
@@ -72,46 +74,54 @@ void check_notices(void)
 
 #define BYTES(text) .bytes = text, .len = sizeof text - 1
 
-/* An input with both refusals, the first to be tested first. */
+/* An input with both refusals, the first to be tested first; the place is that
+ * of the number which the first is about. */
 static const struct {
     unsigned first, second;
+    size_t place;
     size_t table; /* length of the fault table: 2 fits n = 4 */
     const char *bytes;
     size_t len;
 } notice_orders[] = {
-    {.first = 9, .second = 1, .table = 2, BYTES("\x8d")},
-    {.first = 9, .second = 1, .table = 2, BYTES("\x80")},
-    {.first = 9, .second = 2, .table = 3, BYTES("\x84")},
-    {.first = 9, .second = 2, .table = 0, BYTES("")},
-    {.first = 10, .second = 1, .table = 2, BYTES("\x8d\x00")},
-    {.first = 10, .second = 1, .table = 2, BYTES("\x80\x81")},
-    {.first = 10, .second = 2, .table = 3, BYTES("\x84\x00")},
-    {.first = 1, .second = 2, .table = 0, BYTES("\x00\x00")},
-    {.first = 1, .second = 2, .table = 3, BYTES("\x0d\x00")},
-    {.first = 1, .second = 9, .table = 1, BYTES("\x00")},
-    {.first = 1, .second = 9, .table = 512, BYTES("\x0d")},
-    {.first = 1, .second = 10, .table = 1, BYTES("\x0d\x81\x00")},
-    {.first = 1, .second = 11, .table = 1, BYTES("\x00\x02")},
-    {.first = 1, .second = 12, .table = 1, BYTES("\x00\x01\x01")},
-    {.first = 2, .second = 9, .table = 1, BYTES("\x04")},
-    {.first = 2, .second = 9, .table = 3, BYTES("\x04")},
-    {.first = 2, .second = 9, .table = 0, BYTES("\x01")},
-    {.first = 2, .second = 10, .table = 1, BYTES("\x04\x81\x00")},
-    {.first = 2, .second = 11, .table = 3, BYTES("\x04\x11")},
-    {.first = 2, .second = 12, .table = 1, BYTES("\x04\x01\x10")},
-    {.first = 9, .second = 11, .table = 2, BYTES("\x04\x91")},
-    {.first = 10, .second = 11, .table = 2, BYTES("\x04\x91\x00")},
-    {.first = 10, .second = 11, .table = 2, BYTES("\x04\xff\xff")},
-    {.first = 11, .second = 9, .table = 2, BYTES("\x04\x11")},
-    {.first = 11, .second = 10, .table = 2, BYTES("\x04\x11\x81\x00")},
-    {.first = 11, .second = 12, .table = 2, BYTES("\x04\x11\x10")},
-    {.first = 9, .second = 12, .table = 2, BYTES("\x04\x01\x90")},
-    {.first = 10, .second = 12, .table = 2, BYTES("\x04\x01\x90\x00")},
-    {.first = 12, .second = 9, .table = 2, BYTES("\x04\x02\x10")},
-    {.first = 12, .second = 10, .table = 2, BYTES("\x04\x02\x10\x81\x00")},
-    {.first = 10, .second = 9, .table = 2, BYTES("\x04\x02\x81\x00")},
-    {.first = 12, .second = 9, .table = 2, BYTES("\x04\x03\x0f\x00")},
-    {.first = 10, .second = 12, .table = 2, BYTES("\x04\x02\x01\x81\x80\x10")},
+    {.first = 9, .second = 1, .place = 0, .table = 2, BYTES("\x8d")},
+    {.first = 9, .second = 1, .place = 0, .table = 2, BYTES("\x80")},
+    {.first = 9, .second = 2, .place = 0, .table = 3, BYTES("\x84")},
+    {.first = 9, .second = 2, .place = 0, .table = 0, BYTES("")},
+    {.first = 10, .second = 1, .place = 0, .table = 2, BYTES("\x8d\x00")},
+    {.first = 10, .second = 1, .place = 0, .table = 2, BYTES("\x80\x81")},
+    {.first = 10, .second = 2, .place = 0, .table = 3, BYTES("\x84\x00")},
+    {.first = 1, .second = 2, .place = 0, .table = 0, BYTES("\x00\x00")},
+    {.first = 1, .second = 2, .place = 0, .table = 3, BYTES("\x0d\x00")},
+    {.first = 1, .second = 9, .place = 0, .table = 1, BYTES("\x00")},
+    {.first = 1, .second = 9, .place = 0, .table = 512, BYTES("\x0d")},
+    {.first = 1, .second = 10, .place = 0, .table = 1, BYTES("\x0d\x81\x00")},
+    {.first = 1, .second = 11, .place = 0, .table = 1, BYTES("\x00\x02")},
+    {.first = 1, .second = 12, .place = 0, .table = 1, BYTES("\x00\x01\x01")},
+    {.first = 2, .second = 9, .place = 0, .table = 1, BYTES("\x04")},
+    {.first = 2, .second = 9, .place = 0, .table = 3, BYTES("\x04")},
+    {.first = 2, .second = 9, .place = 0, .table = 0, BYTES("\x01")},
+    {.first = 2, .second = 10, .place = 0, .table = 1, BYTES("\x04\x81\x00")},
+    {.first = 2, .second = 11, .place = 0, .table = 3, BYTES("\x04\x11")},
+    {.first = 2, .second = 12, .place = 0, .table = 1, BYTES("\x04\x01\x10")},
+    {.first = 9, .second = 11, .place = 1, .table = 2, BYTES("\x04\x91")},
+    {.first = 10, .second = 11, .place = 1, .table = 2, BYTES("\x04\x91\x00")},
+    {.first = 10, .second = 11, .place = 1, .table = 2, BYTES("\x04\xff\xff")},
+    {.first = 11, .second = 9, .place = 1, .table = 2, BYTES("\x04\x11")},
+    {.first = 11, .second = 10, .place = 1, .table = 2,
+     BYTES("\x04\x11\x81\x00")},
+    {.first = 11, .second = 12, .place = 1, .table = 2, BYTES("\x04\x11\x10")},
+    {.first = 9, .second = 12, .place = 2, .table = 2, BYTES("\x04\x01\x90")},
+    {.first = 10, .second = 12, .place = 2, .table = 2,
+     BYTES("\x04\x01\x90\x00")},
+    {.first = 12, .second = 9, .place = 2, .table = 2, BYTES("\x04\x02\x10")},
+    {.first = 12, .second = 10, .place = 2, .table = 2,
+     BYTES("\x04\x02\x10\x81\x00")},
+    {.first = 10, .second = 9, .place = 2, .table = 2,
+     BYTES("\x04\x02\x81\x00")},
+    {.first = 12, .second = 9, .place = 3, .table = 2,
+     BYTES("\x04\x03\x0f\x00")},
+    {.first = 10, .second = 12, .place = 3, .table = 2,
+     BYTES("\x04\x02\x01\x81\x80\x10")},
 };
 
 void check_notice_orders(void)
@@ -123,26 +133,36 @@ void check_notice_orders(void)
         random_bytes(read, 512);
         answer = check_notice(bytes, notice_orders[k].len, read,
                               notice_orders[k].table);
-        expect(answer == NOTICE_REFUSED(notice_orders[k].first),
-               "row %u: %016llx, where %u is before %u", (unsigned)k,
+        expect(answer == NOTICE_REFUSED(notice_orders[k].first,
+                                        notice_orders[k].place),
+               "row %u: %016llx, where %u at %u is before %u", (unsigned)k,
                (unsigned long long)answer, notice_orders[k].first,
-               notice_orders[k].second);
+               (unsigned)notice_orders[k].place, notice_orders[k].second);
     }
     end_group();
 }
 
 /* ---- cut at each byte */
 
+/* These bytes alone, where number k is the first that is not whole. */
+static void cut_at(size_t cut, size_t k, size_t table)
+{
+    uint64_t answer = check_notice(bytes, cut, read, table);
+    expect(answer == NOTICE_REFUSED(9, places[k]),
+           "%u bytes: %016llx, where number %u begins at %u", (unsigned)cut,
+           (unsigned long long)answer, (unsigned)k, (unsigned)places[k]);
+}
+
 void check_cut_notices(void)
 {
     begin_group("notices cut at each byte");
-    for (unsigned k = 0; k < 120; k++) {
-        uint32_t n = 1 + k % 12;
+    for (unsigned round = 0; round < 120; round++) {
+        uint32_t n = 1 + round % 12;
         size_t len = random_notice(n), table = ref_fault_bytes(n);
-        for (size_t cut = 0; cut < len; cut++)
-            expect(check_notice(bytes, cut, read, table) == NOTICE_REFUSED(9),
-                   "n = %u: %u bytes of %u", n, (unsigned)cut, (unsigned)len);
-        expect(!HCUBE_NOTICE_REFUSAL(check_notice(bytes, len, read, table)),
+        for (size_t k = 0; places[k] < len; k++)
+            for (size_t cut = places[k]; cut < places[k + 1]; cut++)
+                cut_at(cut, k, table);
+        expect(!HCUBE_REFUSAL(check_notice(bytes, len, read, table)),
                "n = %u: all of it", n);
     }
     end_group();
@@ -150,16 +170,40 @@ void check_cut_notices(void)
 
 /* ---- bounds */
 
-/* A notice of these numbers; the reader's refusal. */
-static uint64_t refusal_of(uint32_t n, uint32_t count, uint32_t first,
-                           const uint8_t *rest, size_t rest_len)
+/* A notice of these numbers; the reader's answer. */
+static uint64_t answer_to(uint32_t n, uint32_t count, uint32_t first,
+                          const uint8_t *rest, size_t rest_len)
 {
     size_t at = put_number(n, bytes);
     at += put_number(count, bytes + at);
     at += put_number(first, bytes + at);
     memcpy(bytes + at, rest, rest_len);
-    return HCUBE_NOTICE_REFUSAL(
-        check_notice(bytes, at + rest_len, read, ref_fault_bytes(n)));
+    return check_notice(bytes, at + rest_len, read, ref_fault_bytes(n));
+}
+
+static void counts_and_addresses(uint32_t n)
+{
+    static const uint8_t zero[1] = {0}, most[2] = {0xff, 0x7f};
+    uint32_t nodes = 1u << n;
+    /* the second address stands behind node 2^n - 1 in one or two bytes */
+    size_t second = n <= 7 ? 3 : 4;
+    random_bytes(read, 512);
+    expect(answer_to(n, nodes + 1, 0, zero, 0) == NOTICE_REFUSED(11, 1),
+           "count 2^n + 1");
+    expect(answer_to(n, 16383, 0, zero, 0) == NOTICE_REFUSED(11, 1),
+           "count 16383");
+    expect(answer_to(n, 1, nodes - 1, zero, 0) == NOTICE_READ(n, 1, second),
+           "address 2^n - 1");
+    expect(answer_to(n, 1, nodes, zero, 0) == NOTICE_REFUSED(12, 2),
+           "address 2^n");
+    expect(answer_to(n, 1, 16383, zero, 0) == NOTICE_REFUSED(12, 2),
+           "address 16383");
+    expect(HCUBE_REFUSAL(answer_to(n, 2, nodes - 2, zero, 1)) == 0,
+           "second 2^n - 1");
+    expect(answer_to(n, 2, nodes - 1, zero, 1) == NOTICE_REFUSED(12, second),
+           "second 2^n");
+    expect(answer_to(n, 2, nodes - 1, most, 2) == NOTICE_REFUSED(12, second),
+           "second far away");
 }
 
 /* Every node faulty: the first address 0 and then nothing but zeros. */
@@ -176,31 +220,31 @@ static void every_node(uint32_t n)
            "n = %u: every node", n);
     expect(read[table - 1] == (n < 3 ? (1u << nodes) - 1 : 255), "last byte");
     bytes[at + nodes - 1] = 1;
-    expect(check_notice(bytes, at + nodes, read, table) == NOTICE_REFUSED(12),
+    expect(check_notice(bytes, at + nodes, read, table) ==
+               NOTICE_REFUSED(12, at + nodes - 1),
            "n = %u: the last address is one too far", n);
+}
+
+/* Every dimension of one group, and some of two, with no faulty node. */
+static void dimensions(void)
+{
+    for (uint32_t n = 0; n < 16384; n += n < 300 ? 1 : 128) {
+        int good = n >= 1 && n <= 12;
+        size_t at = put_number(n, bytes), table = good ? ref_fault_bytes(n) : 1;
+        bytes[at] = 0;
+        expect(check_notice(bytes, at + 1, read, table) ==
+                   (good ? NOTICE_READ(n, 0, 2) : NOTICE_REFUSED(1, 0)),
+               "dimension %u", n);
+    }
 }
 
 void check_notice_bounds(void)
 {
-    static const uint8_t zero[1] = {0}, most[2] = {0xff, 0x7f};
-    begin_group("bounds of count and address");
+    begin_group("bounds of dimension, count and address");
     for (uint32_t n = 1; n <= 12; n++) {
-        uint32_t nodes = 1u << n;
         every_node(n);
-        random_bytes(read, 512);
-        expect(refusal_of(n, nodes + 1, 0, zero, 0) == 11, "count 2^n + 1");
-        expect(refusal_of(n, 16383, 0, zero, 0) == 11, "count 16383");
-        expect(refusal_of(n, 1, nodes - 1, zero, 0) == 0, "address 2^n - 1");
-        expect(refusal_of(n, 1, nodes, zero, 0) == 12, "address 2^n");
-        expect(refusal_of(n, 1, 16383, zero, 0) == 12, "address 16383");
-        expect(refusal_of(n, 2, nodes - 2, zero, 1) == 0, "second 2^n - 1");
-        expect(refusal_of(n, 2, nodes - 1, zero, 1) == 12, "second 2^n");
-        expect(refusal_of(n, 2, nodes - 1, most, 2) == 12, "second far away");
+        counts_and_addresses(n);
     }
-    for (uint32_t n = 0; n < 16384; n += n < 300 ? 1 : 128) {
-        size_t at = put_number(n, bytes);
-        bytes[at] = 0;
-        check_notice(bytes, at + 1, read, n <= 12 ? ref_fault_bytes(n) : 1);
-    }
+    dimensions();
     end_group();
 }

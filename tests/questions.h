@@ -63,10 +63,12 @@ uint32_t ask_label(struct label_question asked);
 uint32_t ask_hop(struct hop_question asked);
 uint32_t ask_walk(struct walk_question asked);
 
-/* Whole answers. A refusal has zero in every other field. */
+/* Whole answers. A refusal has zero in every other field; that of a notice has
+ * the place of the number concerned as its value. */
 #define REFUSED(refusal) ((uint32_t)(refusal) << 24)
-#define NOTICE_REFUSED(refusal) ((uint64_t)(refusal) << 48)
+#define NOTICE_REFUSED(refusal, place)                                         \
+    (((uint64_t)(refusal) << 24) + (uint64_t)(place))
 #define NOTICE_READ(n, count, taken)                                           \
-    (((uint64_t)(n) << 32) + ((uint64_t)(count) << 16) + (uint64_t)(taken))
+    (((uint64_t)(n) << 48) + ((uint64_t)(count) << 32) + (uint64_t)(taken))
 
 #endif

@@ -29,8 +29,8 @@ uint32_t ref_walk(uint32_t n, uint32_t s, uint32_t d,
 uint64_t ref_read_notice(const uint8_t *bytes, size_t len,
                          uint8_t *faults, size_t faults_len);
 
-/* Reads the number at *place and moves the place behind it. 0, or the refusal
- * with the place as it stood. */
+/* Reads the number at *place and moves the place behind it. 0, or the refusal,
+ * and then the place still is where that number begins. */
 unsigned ref_number(const uint8_t *bytes, size_t len, size_t *place,
                     uint32_t *value);
 

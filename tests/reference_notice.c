@@ -1,6 +1,6 @@
 /*
- * reference_notice.c: the notice and the listing program's output, by document
- * 01, in the most direct C.
+ * reference_notice.c: the notice and the listing program's output, by documents
+ * 01 and 02, in the most direct C.
  */
 #include "reference.h"
 
@@ -26,54 +26,59 @@ unsigned ref_number(const uint8_t *bytes, size_t len, size_t *place,
     return 0;
 }
 
-/* Reads the addresses into a table of 2^n bytes, 1 for each faulty node. */
+/* Reads the addresses into a table of 2^n bytes, 1 for each faulty node. If it
+ * refuses, the place is where the number of that address begins. */
 static unsigned read_addresses(const uint8_t *bytes, size_t len, size_t *place,
                                uint32_t n, uint32_t count, uint8_t *faulty)
 {
     uint32_t address = 0, value, refusal;
     for (uint32_t k = 0; k < count; k++) {
+        size_t begins = *place;
         refusal = ref_number(bytes, len, place, &value);
         if (refusal)
             return refusal;
         address = k == 0 ? value : address + value + 1;
-        if (address >= (uint32_t)1 << n)
+        if (address >= (uint32_t)1 << n) {
+            *place = begins;
             return 12;
+        }
         faulty[address] = 1;
     }
     return 0;
 }
 
-static uint64_t refused(uint64_t refusal)
+static uint64_t refused(uint64_t refusal, uint64_t place)
 {
-    return refusal << 48;
+    return refusal * 16777216u + place;
 }
 
 uint64_t ref_read_notice(const uint8_t *bytes, size_t len,
                          uint8_t *faults, size_t faults_len)
 {
     uint8_t faulty[MOST_NODES] = {0};
-    size_t place = 0;
+    size_t place = 0, count_begins;
     uint32_t n = 0, count = 0;
     unsigned refusal = ref_number(bytes, len, &place, &n);
     if (refusal)
-        return refused(refusal);
+        return refused(refusal, 0);
     if (n < 1 || n > 12)
-        return refused(1);
+        return refused(1, 0);
     if (faults_len != ref_fault_bytes(n))
-        return refused(2);
+        return refused(2, 0);
+    count_begins = place;
     refusal = ref_number(bytes, len, &place, &count);
     if (refusal)
-        return refused(refusal);
+        return refused(refusal, count_begins);
     if (count > (uint32_t)1 << n)
-        return refused(11);
+        return refused(11, count_begins);
     refusal = read_addresses(bytes, len, &place, n, count, faulty);
     if (refusal)
-        return refused(refusal);
+        return refused(refusal, place);
     memset(faults, 0, faults_len);
     for (uint32_t k = 0; k < (uint32_t)1 << n; k++)
         if (faulty[k])
             faults[k / 8] |= (uint8_t)(1u << (k % 8));
-    return ((uint64_t)n << 32) + ((uint64_t)count << 16) + place;
+    return ((uint64_t)n << 48) + ((uint64_t)count << 32) + place;
 }
 
 /* ---- the listing program */
@@ -122,7 +127,7 @@ static void print_pairs(const uint8_t *bytes, size_t len, size_t place,
         if (!refusal)
             refusal = ref_number(bytes, len, &place, &d);
         if (refusal) {
-            fprintf(out, "input refused %u\n", refusal);
+            fprintf(out, "input refused %u %u\n", refusal, (unsigned)place);
             return;
         }
         print_pair(n, s, d, labels, out);
@@ -135,6 +140,7 @@ void ref_listing(const uint8_t *bytes, size_t len, FILE *out)
     uint32_t n = 0;
     size_t place = 0;
     uint64_t notice;
+    unsigned refusal;
     if (len > MOST_INPUT) {
         fprintf(out, "input too long\n");
         return;
@@ -143,10 +149,12 @@ void ref_listing(const uint8_t *bytes, size_t len, FILE *out)
     if (ref_number(bytes, len, &place, &n) || n < 1 || n > 12)
         n = 1;
     notice = ref_read_notice(bytes, len, faults, ref_fault_bytes(n));
-    if (notice >> 48) {
-        fprintf(out, "notice refused %u\n", (unsigned)(notice >> 48));
+    refusal = (unsigned)(notice >> 24 & 255);
+    place = notice & 0xffff; /* of the number refused, or behind the notice */
+    if (refusal) {
+        fprintf(out, "notice refused %u %u\n", refusal, (unsigned)place);
         return;
     }
     print_first_line(n, labels, ref_rounds(n, faults, labels), out);
-    print_pairs(bytes, len, notice & 0xffff, n, labels, out);
+    print_pairs(bytes, len, place, n, labels, out);
 }

@@ -157,7 +157,8 @@ static void lengths_with(uint8_t *big, size_t beyond)
     big[0] = 3;
     expect(hcube_read_notice(big, beyond, small, 1) == NOTICE_READ(3, 0, 2),
            "notice");
-    expect(hcube_read_notice(big, 2, big + 8, beyond + 1) == NOTICE_REFUSED(2),
+    expect(hcube_read_notice(big, 2, big + 8, beyond + 1) ==
+               NOTICE_REFUSED(2, 0),
            "notice's table");
 }
 
