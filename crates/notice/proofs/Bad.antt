@@ -3,7 +3,7 @@ use mathlib.Core.Path.{_≡_, sym, _∙_}
 use mathlib.Core.Logic.{_≢_}
 use mathlib.Core.Bool.{Bool, true, false, not}
 use mathlib.Core.List.{List, [], _∷_}
-use Prim.Native.Nat.{ℕ, _+_, _^_, _<_}
+use Prim.Native.Nat.{ℕ, _+_, _^_, _≤_, _<_}
 use lib.Dec.{eqb, ltb}
 use lib.ListN.{drop, length}
 use borrow.Author.Tests.{eq-eqb, ltb-true, not-true}
@@ -20,16 +20,20 @@ use Rattle.notice.specs.Notice.{dimensionAt, noticeFrom, noticed, restAt
 use Rattle.notice.specs.Tests.{countTests, lengthTests, tested}
 use Rattle.notice.specs.declared.Noticed.the-variants as noticed
 use Rattle.notice.specs.declared.Rest.the-variants as rest
-use Rattle.notice.proofs.Cases.{no-addresses, no-notice, on-further, on-number, on-rest, on-tested, tested-value}
+use Rattle.notice.proofs.Cases.{no-addresses, no-notice, on-further, on-number, on-rest, on-tested}
+use Rattle.notice.proofs.Opened.{opened-count, opened-sized}
 
 pub data Bad (s t : List ℕ) : (k at : ℕ) → Type 0 where
   bad-dimension : {k at : ℕ} → numberAt s 0 ≡ number.Refused k at → Bad s t k at
   no-dimension : {n next : ℕ} → numberAt s 0 ≡ number.Value n next → isDimension n ≡ false → Bad s t 1 0
   wrong-table : {n next : ℕ} → dimensionAt s ≡ number.Value n next → length t ≢ tableLen n → Bad s t 2 0
-  bad-count : {n at k place : ℕ} → dimensionAt s ≡ number.Value n at → numberAt s at ≡ number.Refused k place → Bad s t k place
-  many : {n at m start : ℕ} → dimensionAt s ≡ number.Value n at → numberAt s at ≡ number.Value m start → 2 ^ n < m → Bad s t 11 at
+  bad-count :
+      {n at k place : ℕ} → dimensionAt s ≡ number.Value n at → length t ≡ tableLen n → numberAt s at ≡ number.Refused k place → Bad s t k place
+  many :
+      {n at m start : ℕ} → dimensionAt s ≡ number.Value n at → length t ≡ tableLen n → numberAt s at ≡ number.Value m start → 2 ^ n < m
+      → Bad s t 11 at
   bad-address :
-      {n at m start k place : ℕ} → dimensionAt s ≡ number.Value n at → numberAt s at ≡ number.Value m start
+      {n at m start k place : ℕ} → dimensionAt s ≡ number.Value n at → length t ≡ tableLen n → numberAt s at ≡ number.Value m start → m ≤ 2 ^ n
       → addressesEnd m (drop start s) 0 0 (2 ^ n) ≡ number.Refused k place → Bad s t k (start + place)
 
 -- a number and the one test of its value: which of the two refused it
@@ -54,22 +58,23 @@ module _ (s t : List ℕ) {k place : ℕ} where
       (λ n next here bad a b. rw (← a, ← b)
       (wrong-table here (λ z. clash (eq-eqb (length t) (tableLen n) z) (not-true (eqb (length t) (tableLen n)) bad))))
 
-  in-rest : (n at : ℕ) → dimensionAt s ≡ number.Value n at → restAt n s at ≡ rest.Refused k place → Bad s t k place
+  in-rest : (n at : ℕ) → dimensionAt s ≡ number.Value n at → length t ≡ tableLen n → restAt n s at ≡ rest.Refused k place → Bad s t k place
   unfolding restAt
-  in-rest n at dimension =
+  in-rest n at dimension sized =
       on-number (λ y. y ≡ rest.Refused k place → Bad s t k place) (tested (countTests n) at (numberAt s at))
       (λ r p e f.
       let a : r ≡ k = cc in
       let b : p ≡ place = cc in
-      tested-bad (ltb (2 ^ n)) 11 at (numberAt s at) (Bad s t k place) (rw (a, b) at e) (bad-count dimension)
-      (λ m start count over c d. rw (← c, ← d) (many dimension count (ltb-true (2 ^ n) m over))))
+      tested-bad (ltb (2 ^ n)) 11 at (numberAt s at) (Bad s t k place) (rw (a, b) at e) (bad-count dimension sized)
+      (λ m start count over c d. rw (← c, ← d) (many dimension sized count (ltb-true (2 ^ n) m over))))
       (λ m start counted. on-further
       (λ y. onNumber y rest.Refused (λ base end. rest.Addresses m start end) ≡ rest.Refused k place → Bad s t k place) start
       (addressesEnd m (drop start s) 0 0 (2 ^ n))
       (λ r p e f.
       let a : r ≡ k = cc in
       let b : start + p ≡ place = cc in
-      rw (← a, ← b) (bad-address dimension (tested-value (countTests n) at (numberAt s at) counted .0) e))
+      let c = opened-count n s at m start counted in
+      rw (← a, ← b) (bad-address dimension sized (c .0) (c .1) e))
       (λ _ _ _ f. absurd (no-addresses (sym f))))
 
   pub bad : noticed s t ≡ noticed.Refused k place → Bad s t k place
@@ -84,5 +89,6 @@ module _ (s t : List ℕ) {k place : ℕ} where
       (λ r p g f.
       let a : r ≡ k = cc in
       let b : p ≡ place = cc in
-      in-rest n at (tested-value (lengthTests t) 0 (dimensionAt s) e .0) (rw (a, b) at g))
+      let d = opened-sized s t n at e in
+      in-rest n at (d .0) (d .1) (rw (a, b) at g))
       (λ _ _ _ _ f. absurd (no-notice (sym f))))

@@ -6,14 +6,13 @@ use mathlib.Core.Bool.{Bool, true, false, _&&_}
 use mathlib.Core.List.{List}
 use Prim.Native.Nat.{ℕ, _+_, _*_, _^_}
 use native.Mathlib.Omega.{arith}
-use lib.Dec.{eqb, leb}
+use lib.Dec.{leb}
 use lib.ListN.{length, replicate, length-replicate}
-use borrow.Author.Tests.{eqb-true, le-ltb, leb-true, not-false}
+use borrow.Author.Tests.{le-ltb, leb-true}
 use Rattle.cube.specs.Refusal.{first}
 use Rattle.cube.specs.Tables.{isDimension, tableLen, nodeBit, unusedSet}
 use Rattle.cube.proofs.Count.{count-same}
 use Rattle.cube.proofs.Search.{some-none}
-use Rattle.cube.proofs.Refusal.{first-none}
 use Rattle.cube.proofs.Tables.{table-room}
 use Rattle.groups.specs.Number.{further, numberAt, twoGroups}
 use Rattle.groups.specs.declared.Number.the-variants.{Value}
@@ -23,10 +22,9 @@ use Rattle.notice.specs.Notice.{dimensionAt, restAt, noticeFrom, noticeO
 use Rattle.notice.specs.Laws.{NoneFaulty, NoticeLaws, ReadNotice, TableOf}
 use Rattle.notice.specs.declared.Rest.the-variants as rest
 use Rattle.notice.specs.declared.Noticed.the-variants.{Notice, Refused}
-use Rattle.notice.proofs.Cases.{tested-value}
 use Rattle.notice.proofs.Rising.{rising-wider, not-among, count-among}
 use Rattle.notice.proofs.Bits.{length-bits, bits-among}
-use Rattle.notice.proofs.Opened.{addresses-are, opened-notice}
+use Rattle.notice.proofs.Opened.{addresses-are, opened-notice, opened-sized}
 use Rattle.notice.proofs.Outcomes.{notice-good, sized-value}
 use Rattle.notice.proofs.Agree.{accepted, same-notice, tail-behind, tail-empty}
 use Rattle.notice.proofs.Refusals.{refused-notice}
@@ -43,8 +41,7 @@ module _ (s t : List ℕ) (n m taken : ℕ) (e : noticed s t ≡ Notice n m take
   unfolding noticed
   right-length =
       let o = opened-notice (tested (lengthTests t) 0 (dimensionAt s)) s n m taken e in
-      let passed = tested-value (lengthTests t) 0 (dimensionAt s) (o .dimension) in
-      eqb-true (length t) (tableLen n) (not-false (eqb (length t) (tableLen n)) (first-none 12 (lengthTests t n) refl (passed .1) .0))
+      opened-sized s t n (o .at) (o .dimension) .1
 
   made : tableAfter s t ≡ withBits (replicate (length t) 0) (addressesOf s)
   unfolding tableAfter

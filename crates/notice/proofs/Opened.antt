@@ -6,15 +6,16 @@ use mathlib.Core.List.{List}
 use Prim.Native.Nat.{ℕ, _+_, _^_, _≤_}
 use native.Mathlib.Omega.{arith}
 use lib.ListN.{length, drop, length-drop}
-use borrow.Author.Tests.{ltb-false, not-false}
-use Rattle.cube.specs.Tables.{isDimension}
+use lib.Dec.{eqb}
+use borrow.Author.Tests.{eqb-true, ltb-false, not-false}
+use Rattle.cube.specs.Tables.{isDimension, tableLen}
 use Rattle.cube.proofs.Refusal.{first-none}
 use Rattle.cube.proofs.Tables.{dimension-is}
 use Rattle.groups.specs.Number.{numberAt, onNumber}
 use Rattle.groups.specs.declared.Number.{Number}
 use Rattle.groups.specs.declared.Number.the-variants as number
 use Rattle.groups.proofs.Groups.{read-number}
-use Rattle.notice.specs.Tests.{tested, dimensionTests, countTests}
+use Rattle.notice.specs.Tests.{tested, dimensionTests, lengthTests, countTests}
 use Rattle.notice.specs.Addresses.{addressesEnd, addressesAt, rising}
 use Rattle.notice.specs.Notice.{dimensionAt, restAt, noticeFrom, noticeOf, addressesOf}
 use Rattle.notice.specs.Laws.{ReadNotice}
@@ -37,7 +38,20 @@ opened-dimension s n at e =
     let is = not-false (isDimension n) (first-none 12 (dimensionTests n) refl (passed .1) .0) in
     record { number = passed .0; is = is; good = dimension-is n is }
 
+-- a dimension with the length of the lent fault table
+pub opened-sized : (s t : List ℕ) (n at : ℕ) → tested (lengthTests t) 0 (dimensionAt s) ≡ number.Value n at
+    → (dimensionAt s ≡ number.Value n at) × (length t ≡ tableLen n)
+opened-sized s t n at e =
+    let passed = tested-value (lengthTests t) 0 (dimensionAt s) e in
+    (passed .0, eqb-true (length t) (tableLen n) (not-false (eqb (length t) (tableLen n)) (first-none 12 (lengthTests t n) refl (passed .1) .0)))
+
 -- ---- the count and the addresses
+
+pub opened-count : (n : ℕ) (s : List ℕ) (at m start : ℕ) → tested (countTests n) at (numberAt s at) ≡ number.Value m start
+    → (numberAt s at ≡ number.Value m start) × (m ≤ 2 ^ n)
+opened-count n s at m start e =
+    let passed = tested-value (countTests n) at (numberAt s at) e in
+    (passed .0, ltb-false (2 ^ n) m (first-none 12 (countTests n m) refl (passed .1) .0))
 
 pub record OpenedRest (n : ℕ) (s : List ℕ) (at m start end : ℕ) : Type 0 where
   pub base : ℕ
@@ -59,12 +73,12 @@ opened-rest n s at m start end =
     let p : c ≡ m = cc in
     let q : from ≡ start = cc in
     let r : from + taken ≡ end = cc in
-    let passed = tested-value (countTests n) at (numberAt s at) here in
+    let read = opened-count n s at c from here in
     record {
       base = base;
       taken = taken;
-      count = rw (p, q) at (passed .0);
-      few = omega (arith, ltb-false (2 ^ n) c (first-none 12 (countTests n c) refl (passed .1) .0));
+      count = rw (p, q) at (read .0);
+      few = omega (arith, read .1);
       addresses = rw (p, q) at found;
       ends = rw q at r;
     }))

@@ -77,13 +77,13 @@ notice-near : (s t : List ℕ) (k at : ℕ) → Bad s t k at → Near (length s)
 notice-near s t k at (bad-dimension e) = number-near s 0 (length s) 4099 k at (omega arith) (omega arith) e
 notice-near s t k at (no-dimension _ _) = record { number = (omega arith, omega arith); within = omega arith; near = omega arith }
 notice-near s t k at (wrong-table _ _) = record { number = (omega arith, omega arith); within = omega arith; near = omega arith }
-notice-near s t k at (bad-count {n} {at = c} dimension e) =
+notice-near s t k at (bad-count {n} {at = c} dimension _ e) =
     let p = count-place s n c dimension in
     number-near s c (length s) 4099 k at (p .1) (omega (arith, p .0)) e
-notice-near s t k at (many {n} {at = c} dimension _ _) =
+notice-near s t k at (many {n} {at = c} dimension _ _ _) =
     let p = count-place s n c dimension in
     record { number = (omega arith, omega arith); within = p .1; near = omega (arith, p .0) }
-notice-near s t k at (bad-address {n} {at = c} {m} {start} {place} dimension count e) =
+notice-near s t k at (bad-address {n} {at = c} {m} {start} {place} dimension _ count _ e) =
     let p = count-place s n c dimension in
     let b = behind n s c m start count k place e in
     record {

@@ -13,6 +13,7 @@ use Rattle.cube.proofs.Bools.{by-cases}
 use Rattle.cube.proofs.Contracts.{told}
 use Rattle.cube.proofs.Front.{getD-tab, length-tab}
 use Rattle.notice.proofs.Functions as notice
+use Rattle.notice.proofs.Laws.{notice-laws}
 use Rattle.labels.proofs.Functions as labels
 use Rattle.hop.proofs.Functions as hop
 use Rattle.labels.specs.declared.Labelled.{Labelled}
@@ -134,7 +135,8 @@ in-c =
       walk-halts = λ {n} {s} {d} {r} m v e. let f = walk-same m v .0 in let g = ap W.refusalOf e in let h = ap W.kindOf e in omega arith;
       walk-refuses = walk-refuses;
       notice-reads = λ {r} m v. let e = notice-same m v in omega arith;
-      notice-refuses = λ {r} m v. let e = notice-same m v in omega arith;
+      notice-refuses = λ {r} {k} {at} {bytes} {before} m v. let e = notice-same m v in
+          let p = notice-laws .refused bytes before k at (sym (told notice.read-says v .0)) in (omega arith, omega (arith, p .near));
       row-nodes = λ m h v. row-nodes m h v;
       row-bytes = row-bytes;
       row-whole = λ m m′ h h′. (

@@ -1,25 +1,32 @@
--- The refusals of a number and of a notice, in words. A number is one of the outcomes of its definition, each with its case; a notice's answer goes along
--- with its numbers, so at each of them it is the number's own refusal, its value's, or what is given behind it.
+-- The refusals of a number and of a notice, in words. A number is one of the outcomes of its definition, each with its case. A notice is accepted, and
+-- then no case holds at any of its numbers, or it is bad at one of them, and then a case holds there, at its place, and none at those before.
 use mathlib.Core.Path.{_≡_, refl, sym, ap, _∙_}
 use mathlib.Core.Logic.{_⊎_, ⊎-elim, _≢_, _↔_}
-use mathlib.Core.Bool.{Bool, true, false, not, _||_}
+use mathlib.Core.Bool.{true, false, not, _||_}
 use mathlib.Core.List.{List, [], _∷_}
 use Prim.Native.Nat.{ℕ, zero, suc, _+_, _^_, _≤_, _<_}
 use native.Mathlib.Omega.{arith}
 use lib.Dec.{eqb, leb, ltb}
 use lib.ListN.{drop, getD, length}
-use borrow.Author.Tests.{eqb-false, leb-false, leb-true, ltb-false, ltb-true}
+use borrow.Author.Tests.{eq-eqb, leb-false, leb-true, ltb-false, ltb-true, ne-eqb}
 use Rattle.cube.specs.Refusal.{Test, first, _⇒_}
 use Rattle.cube.specs.Tables.{isDimension, tableLen}
 use Rattle.cube.proofs.Bools.{by-cases, clash}
-use Rattle.groups.specs.Number.{further, numberAt, onNumber, refusalIn, twoGroups}
+use Rattle.groups.specs.Number.{further, numberAt, refusalIn, twoGroups}
 use Rattle.groups.specs.declared.Number.{Number}
 use Rattle.groups.specs.declared.Number.the-variants.{Value, Refused}
+use Rattle.groups.proofs.Groups.{no-value}
 use Rattle.groups.proofs.Laws.{number-laws}
 use Rattle.notice.specs.Addresses.{addressesEnd}
-use Rattle.notice.specs.Notice.{dimensionAt, noticeFrom, noticed, refusalOf, restAt}
-use Rattle.notice.specs.Tests.{addressTests, countTests, dimensionTests, lengthTests, tested}
-use Rattle.notice.proofs.Cases.{on-tested}
+use Rattle.notice.specs.Notice.{dimensionAt, noticed, placeOf, refusalOf}
+use Rattle.notice.specs.Tests.{addressTests, lengthTests, tested}
+use Rattle.notice.specs.declared.Noticed.{Noticed}
+use Rattle.notice.specs.declared.Noticed.the-variants as noticed
+use Rattle.notice.specs.declared.Noticed.the-variants.{Notice}
+use Rattle.notice.proofs.Addresses.{first-address, read-address}
+use Rattle.notice.proofs.Bad.{Bad, bad, bad-address, bad-count, bad-dimension, many, no-dimension, tested-bad, wrong-table}
+use Rattle.notice.proofs.Cases.{on-number}
+use Rattle.notice.proofs.Opened.{opened-dimension, opened-notice, opened-rest, opened-sized}
 use Rattle.promises.specs.Refusals.{
   Addresses,
   AddressWhen,
@@ -44,7 +51,8 @@ use Rattle.promises.specs.Refusals.{
   number-9-second,
   wrong,
 }
-use Rattle.promises.proofs.Given.{eqb-says, given-one, leb-says, ltb-says, one-test, or-says, wrong-dimension, wrong-table}
+use Rattle.promises.proofs.Given.{eqb-says, given-one, leb-says, one-test, or-says, wrong-dimension}
+use Rattle.promises.proofs.Given as given
 
 -- ---- a number
 
@@ -76,7 +84,7 @@ module _ (s : List ℕ) (at : ℕ) where
           ten : ¬ (NumberWhen s at 10)
           ten (number-10 b _) = omega arith
 
-      double : at + 1 < length s → 128 ≤ low → P (twoGroups low high (at + 2))
+      double : at + 1 < length s → 128 ≤ low → P (twoGroups low high at)
       double h l =
           by-cases P (eqb high 0 || leb 128 high) (λ e. later nine (here (number-10 l (says .0 e)))) (λ e. later nine (later (ten e) none))
         where
@@ -93,79 +101,77 @@ module _ (s : List ℕ) (at : ℕ) where
   value-given : {v next : ℕ} → numberAt s at ≡ Value v next → NumberGiven s at 0
   value-given e = rw e at number-given
 
-  refused-given : {k : ℕ} → numberAt s at ≡ Refused k → NumberGiven s at k
+  refused-given : {k place : ℕ} → numberAt s at ≡ Refused k place → NumberGiven s at k
   refused-given e = rw e at number-given
 
-  refused-is : {k : ℕ} → numberAt s at ≡ Refused k → k ≢ 0
-  refused-is {k} e z = ⊎-elim (λ (p : k ≡ 9). omega arith) (λ (p : k ≡ 10). omega arith) (number-laws .refused s at k e)
+  refused-is : {k place : ℕ} → numberAt s at ≡ Refused k place → k ≢ 0
+  refused-is {k} {place} e z = ⊎-elim (λ (p : k ≡ 9). omega arith) (λ (p : k ≡ 10). omega arith) (number-laws .refused s at k place e)
 
--- ---- a number that is due, its tests, and what follows it
+-- ---- a number that is due, and what follows it
 
-module _ {s : List ℕ} {at : ℕ} {When : ℕ → ℕ → Type 0} {order : List ℕ} {Behind : ℕ → ℕ → ℕ → Type 0} where
-  -- x is the number as the definition reads it: its next place may be counted from another
-  due : (tests : ℕ → List Test) → ((v : ℕ) → Given (When v) order (first (tests v))) → (x : Number) (shift : ℕ → ℕ) (good : ℕ → ℕ → Number)
-      → ((k : ℕ) → x ≡ Refused k → numberAt s at ≡ Refused k) → ((v next : ℕ) → x ≡ Value v next → numberAt s at ≡ Value v (shift next))
-      → ((v next : ℕ) → x ≡ Value v next → Behind v (shift next) (refusalIn (good v next)))
-      → Due s at When order Behind (refusalIn (onNumber (tested tests x) Refused good))
-  due tests given x shift good refused value follows =
-      on-tested tests (λ y. Due s at When order Behind (refusalIn (onNumber y Refused good))) x
-      (λ k e. ill (refused-given s at (refused k e)) (refused-is s at (refused k e)))
-      (λ v next e z. wrong (value v next e) (given v) (eqb-false (first (tests v)) 0 z))
-      (λ v next e z. behind (value v next e) (rw z at (given v)) (follows v next e))
+module _ {s : List ℕ} {at : ℕ} {When : ℕ → ℕ → Type 0} {order : List ℕ} {Behind : ℕ → ℕ → ℕ → ℕ → Type 0} where
+  -- a number that is refused is so at its own place
+  ill-at : {k place : ℕ} → numberAt s at ≡ Refused k place → Due s at When order Behind k place
+  ill-at {k} {place} e = rw (number-laws .refused-place s at k place e) (ill (refused-given s at e) (refused-is s at e))
 
-  due-one : ((v next j k : ℕ) → Behind v next j → Behind v next k → j ≡ k) → {j k : ℕ} → Due s at When order Behind j
-      → Due s at When order Behind k → j ≡ k
-  due-one f (ill p _) (ill q _) = given-one p q
+  due-one : ((v next j p k q : ℕ) → Behind v next j p → Behind v next k q → (j ≡ k) × (p ≡ q)) → {j p k q : ℕ} → Due s at When order Behind j p
+      → Due s at When order Behind k q → (j ≡ k) × (p ≡ q)
+  due-one f (ill p _) (ill q _) = (given-one p q, refl)
   due-one f (ill p a) (wrong e _ _) = absurd (a (given-one p (value-given s at e)))
   due-one f (ill p a) (behind e _ _) = absurd (a (given-one p (value-given s at e)))
   due-one f (wrong e _ _) (ill q b) = absurd (b (given-one q (value-given s at e)))
-  due-one f (wrong {v} {next} e p _) (wrong {v = v′} {next = next′} e′ q _) = let z : v ≡ v′ = cc in given-one p (rw z q)
+  due-one f (wrong {v} {next} e p _) (wrong {v = v′} {next = next′} e′ q _) = let z : v ≡ v′ = cc in (given-one p (rw z q), refl)
   due-one f (wrong {v} {next} e p a) (behind {v = v′} {next = next′} e′ q _) = let z : v ≡ v′ = cc in absurd (a (given-one p (rw z q)))
   due-one f (behind e _ _) (ill q b) = absurd (b (given-one q (value-given s at e)))
   due-one f (behind {v} {next} e p _) (wrong {v = v′} {next = next′} e′ q b) = let z : v ≡ v′ = cc in absurd (b (given-one q (rw (← z) p)))
   due-one f (behind {v} {next} e _ p) (behind {v = v′} {next = next′} e′ _ q) =
       let z : v ≡ v′ = cc in
       let y : next ≡ next′ = cc in
-      f v next _ _ p (rw (z, y) q)
+      f v next _ _ _ _ p (rw (z, y) q)
 
 -- ---- the addresses
 
-address-given : (n base v : ℕ) → Given (AddressWhen n base v) (12 ∷ []) (first (addressTests base (2 ^ n) v))
-unfolding first
-address-given n base v = one-test _ (λ e. address-12 (leb-says (2 ^ n) (base + v) .0 e)) said none
-  where
-    said : AddressWhen n base v 12 → leb (2 ^ n) (base + v) ≡ true
-    said (address-12 h) = leb-says (2 ^ n) (base + v) .1 h
+few : {n base v : ℕ} → base + v < 2 ^ n → ¬ (AddressWhen n base v 12)
+few h (address-12 l) = omega arith
 
 -- the definition reads them from the bytes behind the count, which begin at `start`
 module _ (n : ℕ) (s : List ℕ) (start : ℕ) where
   handed : (at : ℕ) (x : Number) → numberAt (drop start s) at ≡ x → numberAt s (start + at) ≡ further start x
   handed at x e = number-laws .handed-on s start at ∙ ap (further start) e
 
-  addresses-given : (left at base : ℕ) → Addresses left n s (start + at) base (refusalIn (addressesEnd left (drop start s) at base (2 ^ n)))
+  addresses-bad : (left at base k p : ℕ) → addressesEnd left (drop start s) at base (2 ^ n) ≡ Refused k p
+      → Addresses left n s (start + at) base k (start + p)
   unfolding Addresses addressesEnd further
-  addresses-given zero at base = refl
-  addresses-given (suc left) at base =
-      due (addressTests base (2 ^ n)) (address-given n base) (numberAt (drop start s) at) (λ next. start + next)
-      (λ v next. addressesEnd left (drop start s) next (base + v + 1) (2 ^ n)) (λ k e. handed at (Refused k) e)
-      (λ v next e. handed at (Value v next) e) (λ v next e. addresses-given left next (base + v + 1))
+  addresses-bad zero at base k p = λ e. absurd (no-value (sym e))
+  addresses-bad (suc left) at base k p =
+      on-number (λ y. y ≡ Refused k p → Addresses (suc left) n s (start + at) base k (start + p))
+      (tested (addressTests base (2 ^ n)) at (numberAt (drop start s) at))
+      (λ r q e f.
+      let a : r ≡ k = cc in
+      let b : q ≡ p = cc in
+      tested-bad (λ v. leb (2 ^ n) (base + v)) 12 at (numberAt (drop start s) at) (Addresses (suc left) n s (start + at) base k (start + p))
+      (rw (a, b) at e) (λ own. ill-at (handed at (Refused k p) own))
+      (λ v next own over c d. rw (← c, ← d)
+      (wrong (handed at (Value v next) own) (here (address-12 (leb-says (2 ^ n) (base + v) .0 over))) (λ z. omega arith))))
+      (λ v next e f.
+      let a = read-address (drop start s) at base (2 ^ n) e in
+      behind (handed at (Value v next) (a .0)) (later (few (a .1)) none) (addresses-bad left next (base + v + 1) k p f))
 
-addresses-all : (n : ℕ) (s : List ℕ) (m start : ℕ) → Addresses m n s start 0 (refusalIn (addressesEnd m (drop start s) 0 0 (2 ^ n)))
-addresses-all n s m start = let z : start + 0 ≡ start = omega arith in rw z at (addresses-given n s start m 0 0)
+  addresses-good : (left at base last end : ℕ) → addressesEnd left (drop start s) at base (2 ^ n) ≡ Value last end
+      → Addresses left n s (start + at) base 0 0
+  unfolding Addresses further
+  addresses-good zero at base last end e = (refl, refl)
+  addresses-good (suc left) at base last end e =
+      let f = first-address left (drop start s) at base (2 ^ n) last end e in
+      behind (handed at (Value (f .v) (f .next)) (f .number)) (later (few (f .below)) none)
+      (addresses-good left (f .next) (base + f .v + 1) last end (f .others))
 
-addresses-one : (left n : ℕ) (s : List ℕ) (at base j k : ℕ) → Addresses left n s at base j → Addresses left n s at base k → j ≡ k
+addresses-one : (left n : ℕ) (s : List ℕ) (at base j p k q : ℕ) → Addresses left n s at base j p → Addresses left n s at base k q → (j ≡ k) × (p ≡ q)
 unfolding Addresses
-addresses-one zero n s at base j k p q = p ∙ sym q
-addresses-one (suc left) n s at base j k p q = due-one (λ v next. addresses-one left n s next (base + v + 1)) p q
+addresses-one zero n s at base j p k q a b = (a .0 ∙ sym (b .0), a .1 ∙ sym (b .1))
+addresses-one (suc left) n s at base j p k q a b = due-one (λ v next. addresses-one left n s next (base + v + 1)) a b
 
--- ---- the dimension and the count
-
-count-given : (n m : ℕ) → Given (CountWhen n m) (11 ∷ []) (first (countTests n m))
-unfolding first
-count-given n m = one-test _ (λ e. count-11 (ltb-says (2 ^ n) m .0 e)) said none
-  where
-    said : CountWhen n m 11 → ltb (2 ^ n) m ≡ true
-    said (count-11 h) = ltb-says (2 ^ n) m .1 h
+-- ---- the dimension
 
 -- the two tests of a dimension, in a row
 abbrev frontTests : (t : List ℕ) (n : ℕ) → List Test
@@ -174,56 +180,60 @@ frontTests t n = not (isDimension n) ⇒ 1 ∷ lengthTests t n
 front-given : (t : List ℕ) (n : ℕ) → Given (DimensionWhen t n) (1 ∷ 2 ∷ []) (first (frontTests t n))
 unfolding first
 front-given t n =
-    one-test _ (λ e. dimension-1 (wrong-dimension n .0 e)) said-1 (one-test _ (λ e. dimension-2 (wrong-table n (length t) .0 e)) said-2 none)
+    one-test _ (λ e. dimension-1 (wrong-dimension n .0 e)) said-1 (one-test _ (λ e. dimension-2 (given.wrong-table n (length t) .0 e)) said-2 none)
   where
     said-1 : DimensionWhen t n 1 → not (isDimension n) ≡ true
     said-1 (dimension-1 w) = wrong-dimension n .1 w
 
     said-2 : DimensionWhen t n 2 → not (eqb (length t) (tableLen n)) ≡ true
-    said-2 (dimension-2 w) = wrong-table n (length t) .1 w
-
-front-same : (t : List ℕ) (x : Number) → tested (lengthTests t) (tested dimensionTests x) ≡ tested (frontTests t) x
-unfolding tested first
-front-same t (Refused k) = refl
-front-same t (Value n next) = go (isDimension n)
-  where
-    go : (b : Bool) → tested (lengthTests t) (tested (λ _. not b ⇒ 1 ∷ []) (Value n next)) ≡ tested (λ v. not b ⇒ 1 ∷ lengthTests t v) (Value n next)
-    go true = refl
-    go false = refl
+    said-2 (dimension-2 w) = given.wrong-table n (length t) .1 w
 
 -- ---- the whole
 
 module _ (s t : List ℕ) where
-  -- the notice as a row of numbers
-  abbrev counted : (n at : ℕ) → Number
-  counted n at = onNumber (tested (countTests n) (numberAt s at)) Refused (λ m start. addressesEnd m (drop start s) 0 0 (2 ^ n))
+  -- a dimension with a table of its length: neither of its cases holds
+  front-none : (n : ℕ) → isDimension n ≡ true → length t ≡ tableLen n → Given (DimensionWhen t n) (1 ∷ 2 ∷ []) 0
+  unfolding first
+  front-none n is sized = rw (is, eq-eqb (length t) (tableLen n) sized) at (front-given t n)
 
-  counted-refusal : (n at : ℕ) → refusalIn (counted n at) ≡ refusalOf (noticeFrom (Value n at) s)
-  unfolding noticeFrom restAt
-  counted-refusal n at = go (tested (countTests n) (numberAt s at)) refl
+  module _ {n at : ℕ} (d : dimensionAt s ≡ Value n at) (sized : length t ≡ tableLen n) where
+    -- so what is given is given behind it, and behind a count that is not too large
+    behind-front : {k place : ℕ} → Due s at (CountWhen n) (11 ∷ []) (λ m start. Addresses m n s start 0) k place → NoticeGiven s t k place
+    behind-front g = let o = opened-dimension s n at d in behind (o .number) (front-none n (o .is) sized) g
+
+    behind-count : {m start k place : ℕ} → numberAt s at ≡ Value m start → m ≤ 2 ^ n → Addresses m n s (start + 0) 0 k place → NoticeGiven s t k place
+    behind-count {m} {start} c h g =
+        let z : start + 0 ≡ start = omega arith in
+        behind-front (behind c (later not-many none) (rw z at g))
+      where
+        not-many : ¬ (CountWhen n m 11)
+        not-many (count-11 over) = omega arith
+
+  given-bad : {k at : ℕ} → Bad s t k at → NoticeGiven s t k at
+  unfolding first
+  given-bad (bad-dimension e) = ill-at e
+  given-bad (no-dimension {n} e is) = wrong e (rw is at (front-given t n)) (λ z. omega arith)
+  given-bad (wrong-table {n} {next} d w) =
+      let o = opened-dimension s n next d in
+      wrong (o .number) (rw (o .is, ne-eqb (length t) (tableLen n) w) at (front-given t n)) (λ z. omega arith)
+  given-bad (bad-count d sized e) = behind-front d sized (ill-at e)
+  given-bad (many d sized c over) = behind-front d sized (wrong c (here (count-11 over)) (λ z. omega arith))
+  given-bad (bad-address {n} {m = m} {start} {k} {place} d sized c few e) = behind-count d sized c few (addresses-bad n s start m 0 0 k place e)
+
+  given-good : (n m taken : ℕ) → noticed s t ≡ Notice n m taken → NoticeGiven s t 0 0
+  unfolding noticed
+  given-good n m taken e =
+      let o = opened-notice (tested (lengthTests t) 0 (dimensionAt s)) s n m taken e in
+      let d = opened-sized s t n (o .at) (o .dimension) in
+      let p = opened-rest n s (o .at) m (o .start) taken (o .rest) in
+      behind-count (d .0) (d .1) (p .count) (p .few) (addresses-good n s (o .start) m 0 0 (p .base) (p .taken) (p .addresses))
+
+  pub notice-given : NoticeGiven s t (refusalOf (noticed s t)) (placeOf (noticed s t))
+  notice-given = go (noticed s t) refl
     where
-      go : (y : Number) → tested (countTests n) (numberAt s at) ≡ y → refusalIn (counted n at) ≡ refusalOf (noticeFrom (Value n at) s)
-      go (Refused k) e = rw e
-      go (Value m start) e = last (addressesEnd m (drop start s) 0 0 (2 ^ n)) refl
-        where
-          last : (z : Number) → addressesEnd m (drop start s) 0 0 (2 ^ n) ≡ z → refusalIn (counted n at) ≡ refusalOf (noticeFrom (Value n at) s)
-          last (Refused k) f = rw (e, f)
-          last (Value base taken) f = rw (e, f)
+      go : (x : Noticed) → noticed s t ≡ x → NoticeGiven s t (refusalOf x) (placeOf x)
+      go (Notice n m taken) e = given-good n m taken e
+      go (noticed.Refused k at) e = given-bad (bad s t e)
 
-  whole-refusal : refusalIn (onNumber (tested (frontTests t) (numberAt s 0)) Refused counted) ≡ refusalOf (noticed s t)
-  unfolding noticed dimensionAt noticeFrom
-  whole-refusal = rw (front-same t (numberAt s 0)) (go (tested (frontTests t) (numberAt s 0)))
-    where
-      go : (y : Number) → refusalIn (onNumber y Refused counted) ≡ refusalOf (noticeFrom y s)
-      go (Refused k) = refl
-      go (Value n at) = counted-refusal n at
-
-  pub notice-given : NoticeGiven s t (refusalOf (noticed s t))
-  notice-given =
-      rw (← whole-refusal)
-      (due (frontTests t) (front-given t) (numberAt s 0) (λ at. at) counted (λ k e. e) (λ n at e. e)
-      (λ n at _. due (countTests n) (count-given n) (numberAt s at) (λ start. start) (λ m start. addressesEnd m (drop start s) 0 0 (2 ^ n)) (λ k e. e)
-      (λ m start e. e) (λ m start _. addresses-all n s m start)))
-
-  pub notice-one : (j k : ℕ) → NoticeGiven s t j → NoticeGiven s t k → j ≡ k
-  notice-one j k = due-one (λ n at j′ k′. due-one (λ m start. addresses-one m n s start 0))
+  pub notice-one : (j p k q : ℕ) → NoticeGiven s t j p → NoticeGiven s t k q → (j ≡ k) × (p ≡ q)
+  notice-one j p k q = due-one (λ n at j′ p′ k′ q′. due-one (λ m start. addresses-one m n s start 0))

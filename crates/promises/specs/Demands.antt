@@ -40,10 +40,12 @@ pub record Demands (lib : Library) : Type 0 where
   pub walk-refusal :
       {n s d room : ℕ} {table : List ℕ} {w : Walked} → lib .walks n s d table room w
       → WalkGiven n s d (length table) room (labelIn table) (W.refusalOf (w .ending))
-  pub notice-refusal : {bytes before after : List ℕ} {x : Noticed} → lib .reads bytes before x after → NoticeGiven bytes before (N.refusalOf x)
+  -- and with a notice's refusal the place of the number that it is about
+  pub notice-refusal :
+      {bytes before after : List ℕ} {x : Noticed} → lib .reads bytes before x after → NoticeGiven bytes before (N.refusalOf x) (N.placeOf x)
   -- a refusal writes nothing into any buffer it was lent
   pub labels-kept : {K : Cabinet} {before after : List ℕ} {k : ℕ} → lib .labels K before (labelled.Refused k) after → after ≡ before
-  pub table-kept : {bytes before after : List ℕ} {k : ℕ} → lib .reads bytes before (noticed.Refused k) after → after ≡ before
+  pub table-kept : {bytes before after : List ℕ} {k at : ℕ} → lib .reads bytes before (noticed.Refused k at) after → after ≡ before
   -- a refused walk has hop count 0 and a row of zeros
   pub walk-blank :
       {n s d room k : ℕ} {table : List ℕ} {w : Walked} → lib .walks n s d table room w → w .ending ≡ ending.Refused k

@@ -45,13 +45,13 @@ pub record InC : Type 0 where
   pub walk-refuses :
       {n s d r k : ℕ} {table before after : List ℕ} {w : Walked} → May hcube.walk (n, s, d, table, before) r after
       → May walk.walk-for (n, s, d, table, length before) w tt → w .ending ≡ ending.Refused k → (r ≡ k * 16777216) × (after ≡ before)
-  -- a notice: refusal × 2^48 + dimension × 2^32 + count × 2^16 + bytes taken
+  -- a notice: dimension × 2^48 + count × 2^32 + bytes taken, or refusal × 16,777,216 + place, which fits its 16 bits
   pub notice-reads :
       {r n m taken : ℕ} {bytes before after after′ : List ℕ} → May hcube.read-notice (bytes, before) r after
-      → May notice.read (bytes, before) (noticed.Notice n m taken) after′ → r ≡ n * 4294967296 + m * 65536 + taken
+      → May notice.read (bytes, before) (noticed.Notice n m taken) after′ → r ≡ n * 281474976710656 + m * 4294967296 + taken
   pub notice-refuses :
-      {r k : ℕ} {bytes before after after′ : List ℕ} → May hcube.read-notice (bytes, before) r after
-      → May notice.read (bytes, before) (noticed.Refused k) after′ → r ≡ k * 281474976710656
+      {r k at : ℕ} {bytes before after after′ : List ℕ} → May hcube.read-notice (bytes, before) r after
+      → May notice.read (bytes, before) (noticed.Refused k at) after′ → (r ≡ k * 16777216 + at) × (at < 65536)
   -- "a lent buffer of exactly 34 bytes, two a node, low byte first": the node is the one that the walk has at that place
   pub row-nodes :
       {n s d r : ℕ} {table before after : List ℕ} {w : Walked} → May hcube.walk (n, s, d, table, before) r after → refusalPart r ≡ 0

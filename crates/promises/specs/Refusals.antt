@@ -111,18 +111,22 @@ pub data CountWhen (n m : ℕ) : ℕ → Type 0 where
 pub data AddressWhen (n base v : ℕ) : ℕ → Type 0 where
   address-12 : 2 ^ n ≤ base + v → AddressWhen n base v 12
 
--- what is given at a number that is due at a place, by the cases of its value in their order, and by what is due behind it
-pub data Due (bytes : List ℕ) (at : ℕ) (When : (v : ℕ) → ℕ → Type 0) (order : List ℕ) (Behind : (v next : ℕ) → ℕ → Type 0) : ℕ → Type 0 where
-  ill : {k : ℕ} → NumberGiven bytes at k → k ≢ 0 → Due bytes at When order Behind k
-  wrong : {v next k : ℕ} → numberAt bytes at ≡ Value v next → Given (When v) order k → k ≢ 0 → Due bytes at When order Behind k
-  behind : {v next k : ℕ} → numberAt bytes at ≡ Value v next → Given (When v) order 0 → Behind v next k → Due bytes at When order Behind k
+-- what is given at a number that is due at a place, by the cases of its value in their order, and by what is due behind it. "On refusal, the byte place
+-- where that number begins .. that of the number whose value was tested": the refusal k is given with the place of the number that it is about
+pub data Due
+    (bytes : List ℕ) (at : ℕ) (When : (v : ℕ) → ℕ → Type 0) (order : List ℕ) (Behind : (v next : ℕ) → (k place : ℕ) → Type 0)
+    : (k place : ℕ) → Type 0 where
+  ill : {k : ℕ} → NumberGiven bytes at k → k ≢ 0 → Due bytes at When order Behind k at
+  wrong : {v next k : ℕ} → numberAt bytes at ≡ Value v next → Given (When v) order k → k ≢ 0 → Due bytes at When order Behind k at
+  behind : {v next k place : ℕ} → numberAt bytes at ≡ Value v next → Given (When v) order 0 → Behind v next k place → Due bytes at When order Behind k place
 
--- so many addresses of an n-cube, from a place and a base on
-unfoldable pub Addresses : (left n : ℕ) (bytes : List ℕ) (at base : ℕ) → ℕ → Type 0
-Addresses zero n bytes at base k = k ≡ 0
-Addresses (suc left) n bytes at base k = Due bytes at (AddressWhen n base) (12 ∷ []) (λ v next. Addresses left n bytes next (base + v + 1)) k
+-- so many addresses of an n-cube, from a place and a base on; behind the last, nothing is refused, and there is no place
+unfoldable pub Addresses : (left n : ℕ) (bytes : List ℕ) (at base : ℕ) → (k place : ℕ) → Type 0
+Addresses zero n bytes at base k place = (k ≡ 0) × (place ≡ 0)
+Addresses (suc left) n bytes at base k place =
+    Due bytes at (AddressWhen n base) (12 ∷ []) (λ v next. Addresses left n bytes next (base + v + 1)) k place
 
-abbrev pub NoticeGiven : (bytes table : List ℕ) → ℕ → Type 0
+abbrev pub NoticeGiven : (bytes table : List ℕ) → (k place : ℕ) → Type 0
 NoticeGiven bytes table =
     Due bytes 0 (DimensionWhen table) (1 ∷ 2 ∷ [])
     (λ n at. Due bytes at (CountWhen n) (11 ∷ []) (λ m start. Addresses m n bytes start 0))
@@ -130,12 +134,12 @@ NoticeGiven bytes table =
 -- ---- each is given then and not otherwise
 
 pub record Refusals : Type 1 where
-  -- no two numbers are given by one order, or for one notice
+  -- no two numbers are given by one order, and no two, or two places, for one notice
   pub one : (When : ℕ → Type 0) (order : List ℕ) (j k : ℕ) → Given When order j → Given When order k → j ≡ k
-  pub one-notice : (bytes table : List ℕ) (j k : ℕ) → NoticeGiven bytes table j → NoticeGiven bytes table k → j ≡ k
-  -- each question's refusal, 0 for none, is the number given
+  pub one-notice : (bytes table : List ℕ) (j p k q : ℕ) → NoticeGiven bytes table j p → NoticeGiven bytes table k q → (j ≡ k) × (p ≡ q)
+  -- each question's refusal, 0 for none, is the number given, and a notice's place the one given with it
   pub labelling : (K : Cabinet) (m : ℕ) → LabelGiven K m (L.refusalOf (L.labelled K m))
   pub hop : (n c d m : ℕ) (lab : ℕ → ℕ) → HopGiven n c d m lab (H.refusalOf (H.hopped n c d m lab))
   pub walk : (n s d m room : ℕ) (lab : ℕ → ℕ) → WalkGiven n s d m room lab (W.refusalOf (W.walked n s d m room lab .ending))
   pub number : (bytes : List ℕ) (at : ℕ) → NumberGiven bytes at (refusalIn (numberAt bytes at))
-  pub notice : (bytes table : List ℕ) → NoticeGiven bytes table (N.refusalOf (N.noticed bytes table))
+  pub notice : (bytes table : List ℕ) → NoticeGiven bytes table (N.refusalOf (N.noticed bytes table)) (N.placeOf (N.noticed bytes table))

@@ -165,21 +165,21 @@ module _ (s t : List ℕ) where
     due = omega arith;
     names = dimension-2 (ap isDimension (dimension d) ∙ opened-dimension s n next d .is) (λ z. w (z ∙ ap tableLen (dimension d)));
   }
-  through {k} {at} (bad-count d e) = record {
+  through {k} {at} (bad-count d _ e) = record {
     before = 1;
     told = only-first d;
     comes = stands s 1 (second d) e;
     due = omega arith;
     names = ill k at (refusal s 1 (second d) e);
   }
-  through (many d c over) = record {
+  through (many d _ c over) = record {
     before = 1;
     told = only-first d;
     comes = second d;
     due = omega arith;
     names = count-11 (rw (dimension d, count d c) over);
   }
-  through (bad-address {n} {m = m} {start} {k} {place} d c e) =
+  through (bad-address {n} {m = m} {start} {k} {place} d _ c _ e) =
       address-through d c (address-bad m s start 0 0 (2 ^ n) 2 k place e (third d c))
 
   pub refused-through : (k at : ℕ) → noticed s t ≡ noticed.Refused k at → RefusedThrough s t k at
