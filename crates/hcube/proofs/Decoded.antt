@@ -163,10 +163,13 @@ module _ (w : Walked) (fits : W.refusalOf (w .ending) < 256) (few : w .hops < 65
   abbrev walk-number : ℕ
   walk-number = walkNumber w
 
+  none : (kind : ℕ) → kind < 256 → refusalPart (packed 0 kind (w .hops)) ≡ 0
+  none kind h = refusal-is 0 kind (w .hops) (omega arith) h few
+
   ended : (e : Ending) → hasRow e ≡ true → w .ending ≡ e
       → (refusalPart walk-number ≡ 0) × (valuePart walk-number ≡ w .hops) × (endingFrom (kindPart walk-number) ≡ e)
-  ended ending.Delivered h e = rw e (refusal-is 0 0 (w .hops) (omega arith) (omega arith) few, value-is 0 0 (w .hops) few, rw (kind-is 0 0 (w .hops) (omega arith) few))
-  ended ending.Halted h e = rw e (refusal-is 0 1 (w .hops) (omega arith) (omega arith) few, value-is 0 1 (w .hops) few, rw (kind-is 0 1 (w .hops) (omega arith) few))
+  ended ending.Delivered h e = rw e (none 0 (omega arith), value-is 0 0 (w .hops) few, rw (kind-is 0 0 (w .hops) (omega arith) few))
+  ended ending.Halted h e = rw e (none 1 (omega arith), value-is 0 1 (w .hops) few, rw (kind-is 0 1 (w .hops) (omega arith) few))
   ended (ending.Refused k) h e = let z : _≡_ {A = ℕ} 0 1 = cc in absurd (omega arith)
 
   ended-decoded : (before : List ℕ) → hasRow (w .ending) ≡ true → tab 17 (nodeAt (tab W.rowBytes (rowByte (w .row)))) ≡ w .row
@@ -238,7 +241,8 @@ notice-decoded bytes before = go (N.noticed bytes before) refl
     go (noticed.Notice n m taken) e =
         let p = parts bytes before n m taken e in
         let low = above n m (packed 0 0 taken) in
-        let r : refusalPart (packedNotice n m (packed 0 0 taken)) ≡ 0 = low .refusal ∙ refusal-is 0 0 taken (omega arith) (omega arith) (omega (arith, p .short)) in
+        let r : refusalPart (packedNotice n m (packed 0 0 taken)) ≡ 0 =
+            low .refusal ∙ refusal-is 0 0 taken (omega arith) (omega arith) (omega (arith, p .short)) in
         let a = dimension-is n m taken (p .dimension) (p .count) (p .short) in
         let b = count-is n m taken (p .count) (p .short) in
         let c : valuePart (packedNotice n m (packed 0 0 taken)) ≡ taken = low .value ∙ value-is 0 0 taken (omega (arith, p .short)) in

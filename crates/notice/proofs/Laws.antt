@@ -92,8 +92,8 @@ module _ (s t : List ℕ) (n at next : ℕ) (dimension : dimensionAt s ≡ Value
   }
 
 pub notice-laws : NoticeLaws
-unfolding first isDimension tableLen numberAt twoGroups further tested addressesEnd addressesAt withBit withBits dimensionAt restAt noticeFrom noticeOf noticed addressesOf
-    tableAfter tailAt
+unfolding first isDimension tableLen numberAt twoGroups further tested addressesEnd addressesAt withBit withBits dimensionAt restAt noticeFrom noticeOf
+    noticed addressesOf tableAfter tailAt
 notice-laws = record {
   accepted = accepted;
   written = table;

@@ -1,7 +1,7 @@
 -- A notice, left to right: its dimension, its count, its addresses. The reader and the tail question share it; only the reader has a lent fault table,
 -- so it alone tests the table's length, right after the dimension.
 use mathlib.Core.List.{List, []}
-use Prim.Native.Nat.{ℕ, _+_, _^_}
+use Prim.Native.Nat.{ℕ, _^_}
 use lib.ListN.{length, drop, replicate}
 use Rattle.groups.specs.Number.{further, numberAt, onNumber}
 use Rattle.groups.specs.declared.Number.{Number}

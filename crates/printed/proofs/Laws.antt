@@ -87,7 +87,6 @@ too-long : (s : List ℕ) → 16384 < length s → listing s ≡ tooLong
 unfolding listing
 too-long s h = rw (lt-ltb 16384 (length s) h)
 
-
 module _ (n : ℕ) (labels s : List ℕ) where
   none-left : (left at : ℕ) → length s ≤ at → pairLines left n labels s at ≡ []
   unfolding pairLines
@@ -113,7 +112,8 @@ module _ (n : ℕ) (labels s : List ℕ) where
 refused-only : (s : List ℕ) (k at : ℕ) → length s ≤ 16384 → noticeOf s ≡ Refused k at → listing s ≡ noticeRefused k at
 unfolding listing headLine
 refused-only s k at h e =
-    rw (le-ltb 16384 (length s) h, e) (ap (λ (l : List ℕ). noticeRefused k at ++ l) (none-left 0 (labelsIn s) s (length s) (tailAt s) (omega (arith, tail-refused s (sym e)))) ∙ append-nil (noticeRefused k at))
+    let none = none-left 0 (labelsIn s) s (length s) (tailAt s) (omega (arith, tail-refused s (sym e))) in
+    rw (le-ltb 16384 (length s) h, e) (ap (λ (l : List ℕ). noticeRefused k at ++ l) none ∙ append-nil (noticeRefused k at))
 
 module _ (left n : ℕ) (labels s : List ℕ) where
   last-line : (at k place : ℕ) → at < length s → (inputRefused k place ≡ lineAt n labels s at) × (length s ≡ nextAt s at)

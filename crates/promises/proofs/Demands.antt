@@ -117,7 +117,8 @@ module _ (lib : Library) (F : Faithful lib) where
             (refusals .hop n c d (length table) (labelIn table));
         walk-refusal = λ {n} {s} {d} {room} {table} v. subst (λ (w : Walked). WalkGiven n s d (length table) room (labelIn table) (W.refusalOf (w .ending)))
             (sym (F .walks v)) (refusals .walk n s d (length table) room (labelIn table));
-        notice-refusal = λ {bytes} {before} m. subst (λ x. NoticeGiven bytes before (N.refusalOf x) (N.placeOf x)) (sym (F .reads m .0)) (refusals .notice bytes before);
+        notice-refusal = λ {bytes} {before} m.
+            subst (λ x. NoticeGiven bytes before (N.refusalOf x) (N.placeOf x)) (sym (F .reads m .0)) (refusals .notice bytes before);
         labels-kept = λ {K} {before} m. let f = F .labels m in f .1 ∙ labels-kept K before _ (sym (f .0));
         table-kept = λ {bytes} {before} m. let f = F .reads m in f .1 ∙ notice-laws .kept bytes before _ _ (sym (f .0));
         walk-blank = λ v e. blank v e;

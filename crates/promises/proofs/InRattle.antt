@@ -43,7 +43,8 @@ in-rattle =
     record {
       tail-behind = λ {bytes} {before} {after} {n} {m} {taken} {block} {offset} r t. told notice.tail-says t .0
           ∙ ap (λ (k : ℕ). (drop k bytes, (block, offset + k))) (notice-laws .tail-behind bytes before n m taken (sym (told notice.read-says r .0)));
-      tail-empty = λ {bytes} {before} {after} {k} {at} {block} {offset} r h t. let e = notice-laws .tail-empty bytes before k at (sym (told notice.read-says r .0)) h in
+      tail-empty = λ {bytes} {before} {after} {k} {at} {block} {offset} r h t.
+          let e = notice-laws .tail-empty bytes before k at (sym (told notice.read-says r .0)) h in
           told notice.tail-says t .0 ∙ ap₂ (λ (s : List ℕ) (j : ℕ). (s, (block, offset + j))) (e .1) (e .0);
       number-refusal = λ {bytes} {at} m. subst (λ (x : Number). NumberGiven bytes at (refusalIn x)) (sym (told groups.number-at-says m .0))
           (refusals .number bytes at);
@@ -53,7 +54,8 @@ in-rattle =
       next-keeps = λ m. ap (λ (r : Reader). r .bytes) (told reader.next-says m .1);
       next-moves = λ {r} m. let t = told reader.next-says m in ap (λ (r : Reader). r .at) (t .1) ∙ reader-laws .moves (now (r .bytes)) (r .at) _ _ (sym (t .0));
       next-stays = λ {r} m. let t = told reader.next-says m in ap (λ (r : Reader). r .at) (t .1) ∙ reader-laws .stays (now (r .bytes)) (r .at) _ _ (sym (t .0));
-      next-place = λ {r} m. let t = told reader.next-says m in reader-laws .keeps (now (r .bytes)) (r .at) _ _ (sym (t .0)) ∙ sym (ap (λ (r : Reader). r .at) (t .1));
+      next-place = λ {r} m. let t = told reader.next-says m in
+          reader-laws .keeps (now (r .bytes)) (r .at) _ _ (sym (t .0)) ∙ sym (ap (λ (r : Reader). r .at) (t .1));
       through = λ m f. through m f;
       notice-refused = λ {bytes} {before} {after} {k} {at} m. reader-laws .refused bytes before k at (sym (told notice.read-says m .0));
       notice-read = λ {bytes} {before} {after} {n} {m} {taken} r. reader-laws .whole bytes before n m taken (sym (told notice.read-says r .0));

@@ -26,7 +26,6 @@ use Rattle.theorems.proofs.Repeats.{walk-repeats}
 use Rattle.theorems.proofs.Walks.{hops-end, hops-on}
 use Rattle.promises.specs.Refusals.{
   AllHops,
-  Given,
   HopGiven,
   HopWhen,
   LabelGiven,

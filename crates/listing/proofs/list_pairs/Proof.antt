@@ -20,7 +20,9 @@ tail-requires : tie.Need-tail-requires Inv-loop μ-loop
 tail-requires c κs = tt
 
 -- the bytes behind the notice are as many as the tail has
-behind : (c : tie.After-tail Inv-loop μ-loop) → let s = c .before .before .before .before .args .bytes .now in length (c .tail .result .now) ≡ length s - tailAt s
+behind : (c : tie.After-tail Inv-loop μ-loop)
+    → let s = c .before .before .before .before .args .bytes .now in
+    length (c .tail .result .now) ≡ length s - tailAt s
 behind c =
     let s = c .before .before .before .before .args .bytes .now in
     ap length (c .tail .ensures .0) ∙ length-drop (tailAt s) s
