@@ -30,16 +30,20 @@ use Rattle.reader.proofs.Told.{after, refusal, stands, told, value}
 abbrev addressFrom : (s : List ℕ) (j base i : ℕ) → ℕ
 addressFrom s j base i = getD (addressesFrom base (values (suc i) s j)) i 0
 
+-- what is wrong with one of them, with what the refusal k is: it is ill written, or read and too far
+abbrev Wrong : (s : List ℕ) (j size address k at : ℕ) → Type 0
+Wrong s j size address k at = (answers s j ≡ Refused k at) ⊎ ((k ≡ 12) × Told s j × (size ≤ address))
+
 record BadAddress (left : ℕ) (s : List ℕ) (j base size k at : ℕ) : Type 0 where
   others : ℕ
   few : others < left
   each : (i : ℕ) → i < others → Told s (j + i)
   comes : places s (j + others) ≡ at
-  names : (answers s (j + others) ≡ Refused k at) ⊎ ((k ≡ 12) × (size ≤ addressFrom s j base others))
+  names : Wrong s (j + others) size (addressFrom s j base others) k at
 
 -- the first of them
 first-bad : (left : ℕ) (s : List ℕ) (j base size k at : ℕ) → places s j ≡ at
-    → (answers s j ≡ Refused k at) ⊎ ((k ≡ 12) × (size ≤ base + valueIn (answers s j))) → BadAddress (suc left) s j base size k at
+    → Wrong s j size (base + valueIn (answers s j)) k at → BadAddress (suc left) s j base size k at
 unfolding addressesFrom values
 first-bad left s j base size k at here names =
     let z : j + 0 ≡ j = omega arith in
@@ -66,10 +70,9 @@ later-bad left s j base size v k at t e g =
     all zero h = let z : j + 0 ≡ j = omega arith in rw z t
     all (suc i) h = let z : suc j + i ≡ j + suc i = omega arith in rw z at (g .each i (omega arith))
 
-    named : (answers s (suc j + g .others) ≡ Refused k at) ⊎ ((k ≡ 12) × (size ≤ addressFrom s (suc j) (base + v + 1) (g .others)))
-        → (answers s (j + suc (g .others)) ≡ Refused k at) ⊎ ((k ≡ 12) × (size ≤ addressFrom s j base (suc (g .others))))
-    named (inl p) = let z : suc j + g .others ≡ j + suc (g .others) = omega arith in inl (rw z at p)
-    named (inr p) = inr (p .0, omega (arith, p .1, later-address s j base v (g .others) e))
+    named : Wrong s (suc j + g .others) size (addressFrom s (suc j) (base + v + 1) (g .others)) k at
+        → Wrong s (j + suc (g .others)) size (addressFrom s j base (suc (g .others))) k at
+    named w = let z : suc j + g .others ≡ j + suc (g .others) = omega arith in rw (later-address s j base v (g .others) e) (rw z at w)
 
 -- the address reader counts from the bytes behind the count, which begin at `start`
 address-bad : (left : ℕ) (s : List ℕ) (start at base size j k p : ℕ) → addressesEnd left (drop start s) at base size ≡ Refused k p
@@ -89,7 +92,7 @@ address-bad (suc left) s start at base size j k p =
     (λ v next own over c d.
     let number : numberAt s (start + at) ≡ Value v (start + next) = handed-on s start at ∙ ap (further start) own in
     first-bad left s j base size k (start + p) (here ∙ ap (λ (i : ℕ). start + i) d)
-    (inr (sym c, rw (value s j here number) (leb-true size (base + v) over)))))
+    (inr (sym c, told s j here number, rw (value s j here number) (leb-true size (base + v) over)))))
     (λ v next e f here.
     let own = read-address (drop start s) at base size e .0 in
     let number : numberAt s (start + at) ≡ Value v (start + next) = handed-on s start at ∙ ap (further start) own in
@@ -139,9 +142,9 @@ module _ (s t : List ℕ) where
           each (suc zero) h = told s 1 second c
           each (suc (suc i)) h = let z : 2 + i ≡ suc (suc i) = omega arith in rw z at (b .each i (omega arith))
 
-          named : (answers s (2 + b .others) ≡ Refused k place) ⊎ ((k ≡ 12) × (2 ^ n ≤ addressIn s (b .others))) → Names s t (2 + b .others) k
+          named : Wrong s (2 + b .others) (2 ^ n) (addressIn s (b .others)) k place → Names s t (2 + b .others) k
           named (inl e) = ill k place e
-          named (inr e) = rw (e .0) (address-12 (b .others) (rw dimension (e .1)))
+          named (inr e) = rw (e .0) (address-12 (b .others) (e .1) (rw dimension (e .2)))
 
   through : {k at : ℕ} → Bad s t k at → RefusedThrough s t k at
   through {k} {at} (bad-dimension e) = record {
@@ -156,14 +159,14 @@ module _ (s t : List ℕ) where
     told = λ j h. absurd (omega arith);
     comes = front;
     due = omega arith;
-    names = dimension-1 (ap isDimension (value s 0 front e) ∙ is);
+    names = dimension-1 (told s 0 front e) (ap isDimension (value s 0 front e) ∙ is);
   }
   through (wrong-table {n} {next} d w) = record {
     before = 0;
     told = λ j h. absurd (omega arith);
     comes = front;
     due = omega arith;
-    names = dimension-2 (ap isDimension (dimension d) ∙ opened-dimension s n next d .is) (λ z. w (z ∙ ap tableLen (dimension d)));
+    names = dimension-2 (told s 0 front (number d)) (ap isDimension (dimension d) ∙ opened-dimension s n next d .is) (λ z. w (z ∙ ap tableLen (dimension d)));
   }
   through {k} {at} (bad-count d _ e) = record {
     before = 1;
@@ -177,7 +180,7 @@ module _ (s t : List ℕ) where
     told = only-first d;
     comes = second d;
     due = omega arith;
-    names = count-11 (rw (dimension d, count d c) over);
+    names = count-11 (told s 1 (second d) c) (rw (dimension d, count d c) over);
   }
   through (bad-address {n} {m = m} {start} {k} {place} d _ c _ e) =
       address-through d c (address-bad m s start 0 0 (2 ^ n) 2 k place e (third d c))

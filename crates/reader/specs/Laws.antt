@@ -45,13 +45,13 @@ addressIn s i = getD (addressesFrom 0 (values (suc i) s 2)) i 0
 pub data Names (s t : List ℕ) : (j k : ℕ) → Type 0 where
   -- 9 and 10: the number is not complete, or ill written
   ill : {j : ℕ} (k place : ℕ) → answers s j ≡ number.Refused k place → Names s t j k
-  -- 1, and 2 for the lent fault table: the dimension
-  dimension-1 : isDimension (dimensionIn s) ≡ false → Names s t 0 1
-  dimension-2 : isDimension (dimensionIn s) ≡ true → length t ≢ tableLen (dimensionIn s) → Names s t 0 2
+  -- the others are about the value of a number that is read. 1, and 2 for the lent fault table: the dimension
+  dimension-1 : Told s 0 → isDimension (dimensionIn s) ≡ false → Names s t 0 1
+  dimension-2 : Told s 0 → isDimension (dimensionIn s) ≡ true → length t ≢ tableLen (dimensionIn s) → Names s t 0 2
   -- 11: the count
-  count-11 : 2 ^ dimensionIn s < countIn s → Names s t 1 11
+  count-11 : Told s 1 → 2 ^ dimensionIn s < countIn s → Names s t 1 11
   -- 12: an address
-  address-12 : (i : ℕ) → 2 ^ dimensionIn s ≤ addressIn s i → Names s t (2 + i) 12
+  address-12 : (i : ℕ) → Told s (2 + i) → 2 ^ dimensionIn s ≤ addressIn s i → Names s t (2 + i) 12
 
 -- a notice that is refused with k at a place, read number by number
 pub record RefusedThrough (s t : List ℕ) (k at : ℕ) : Type 0 where
