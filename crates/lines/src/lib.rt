@@ -2,7 +2,7 @@
 // place behind; the others make a line at the front of the buffer and answer its end.
 ghost use Prim.Native.Nat.{_+_, _≤_};
 ghost use Rattle.lines.specs.Lines.{countsText, cubeLine, endText, labelCount, pairLine, room, rowText, tooLong};
-ghost use Rattle.lines.specs.Text.{Put, decimal, text};
+ghost use Rattle.lines.specs.Text.{Put, decimal, field, text};
 ghost use lib.ListN.{length, take};
 ghost use mathlib.Core.List.{_++_};
 ghost use mathlib.Core.Path.{_≡_};
@@ -159,7 +159,7 @@ pub fn pair_line(s: usize, d: usize, walked: Walked, out: &mut [u8]) -> usize
 // A word, the refusal, its place and the end of the line.
 pub fn refused_line(word: &[u8], k: u32, at: usize, out: &mut [u8]) -> usize
     requires { ⌜ (length (now word) ≤ 20) × (length (now out) ≡ room) ⌝ }
-    ensures line { λ r. ⌜ take r (now (out .exit)) ≡ (now (word .entry) ++ decimal k) ++ (text " " ++ decimal at) ++ text "\n" ⌝ }
+    ensures line { λ r. ⌜ take r (now (out .exit)) ≡ (now (word .entry) ++ decimal k) ++ field " " at ++ text "\n" ⌝ }
     ensures near { λ r. ⌜ r ≤ room ⌝ }
 {
     let refusal = put_field(out, 0, word, k as usize);

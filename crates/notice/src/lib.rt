@@ -59,7 +59,7 @@ fn dimension(bytes: &[u8]) -> Number
 }
 
 // The checking pass of the address reader: it is handed the bytes behind the count, and writes nothing. It answers where a next address would be
-// counted from, with the next place, or the refusal.
+// counted from, with the next place, or the refusal; places are those of its own bytes.
 fn check_addresses(bytes: &[u8], m: usize, size: usize) -> Number
     requires { ⌜ size ≤ 4096 ⌝ }
     ensures { λ r. ⌜ r ≡ addressesEnd m (now (bytes .entry)) 0 0 size ⌝ }
@@ -83,7 +83,7 @@ fn check_addresses(bytes: &[u8], m: usize, size: usize) -> Number
     Number::Value(base, at)
 }
 
-// The count and the addresses behind it, checked.
+// The count and the addresses behind it, checked. The address reader's places begin where its bytes do.
 fn check_rest(bytes: &[u8], n: usize, at: usize) -> Rest
     requires { ⌜ n ≤ 12 ⌝ }
     ensures { λ r. ⌜ r ≡ restAt n (now (bytes .entry)) at ⌝ }
