@@ -3,7 +3,7 @@ use mathlib.Core.Path.{_≡_, refl, sym, ap, _∙_}
 use contract.Lifetimes.{Lfts}
 use denote.Triple.Clauses.{AtExit, Ended}
 use denote.Triple.Entry.{Args, Res}
-use Rattle.cube.specs.Contracts.{Function, May, Settles}
+use Rattle.cube.specs.Contracts.{Ensures, Function, May, Settles}
 
 -- handed i, the function answers `answer i` and leaves `leaves i`
 pub record Says {T : Ended} {A X B : Type 0} (f : Function T A X B) (answer : A → X) (leaves : A → B) : Type 0 where
@@ -22,6 +22,13 @@ module _ {T : Ended} {A X B : Type 0} {f : Function T A X B} {answer : A → X} 
       let t = told m in
       let t′ = told m′ in
       (t .0 ∙ sym (t′ .0), t .1 ∙ sym (t′ .1))
+
+-- a contract that says less than all, for what is handed, answered and left
+module _ {T : Ended} {A X B : Type 0} (f : Function T A X B) (P : A → X → B → Type 0) where
+  pub ensures :
+      ((κs : Lfts (T .signature .lifetimes)) (a : Args (T .signature) κs) (r : Res (T .signature) κs) (e : AtExit T κs) → f .post κs a r e
+      → P (f .handed κs a) (f .answered κs r) (f .left κs e)) → Ensures f P
+  ensures s i x o m = rw (← m .handed, ← m .answered, ← m .left) (s (m .κs) (m .args) (m .result) (m .exit) (m .allowed))
 
 -- a call that the contract allows
 module _ {T : Ended} {A X B : Type 0} (f : Function T A X B) where

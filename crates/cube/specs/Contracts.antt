@@ -38,6 +38,14 @@ module _ {T : Ended} {A X B : Type 0} (f : Function T A X B) where
   abbrev pub Settles : Type 0
   Settles = (i : A) (x x′ : X) (o o′ : B) → May i x o → May i x′ o′ → (x ≡ x′) × (o ≡ o′)
 
+  -- whoever calls it has to show this of what is handed
+  abbrev pub AsksFor : (A → Type 0) → Type 0
+  AsksFor P = (κs : Lfts (T .signature .lifetimes)) (a : Args (T .signature) κs) → f .asked κs a → P (f .handed κs a)
+
+  -- what the contract says of what is handed, answered and left
+  abbrev pub Ensures : (A → X → B → Type 0) → Type 0
+  Ensures P = (i : A) (x : X) (o : B) → May i x o → P i x o
+
   -- nothing is asked of its caller: the claim holds of everything that is handed, and the `requires` that it was made of is empty
   pub record AsksNothing : Type 2 where
     pub asked : (κs : Lfts (T .signature .lifetimes)) (a : Args (T .signature) κs) → f .asked κs a

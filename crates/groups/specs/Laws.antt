@@ -1,5 +1,5 @@
--- What document 01 says of a number, as laws of `numberAt`: what a value can be, what a refusal can be, and its worked numbers. Proved in
--- proofs/Laws.antt.
+-- What document 01 says of a number, and document 02 (A1) of its place, as laws of `numberAt`: what a value can be, what a refusal can be, and the worked
+-- numbers. Proved in proofs/Laws.antt.
 use mathlib.Core.Path.{_≡_}
 use mathlib.Core.Logic.{_⊎_}
 use mathlib.Core.List.{List, [], _∷_, _++_}

@@ -30,7 +30,7 @@ abbrev pub onNumber : {A : Type 0} → Number → (ℕ → ℕ → A) → (ℕ �
 onNumber (Value v next) refused good = good v next
 onNumber (Refused k at) refused good = refused k at
 
--- document 01's numbers for the cases: the refusal and its place, 0 for none, and the value, 0 where it is refused
+-- the numbers for the cases: the refusal and its place, 0 for none, and the value, 0 where it is refused
 abbrev pub refusalIn : Number → ℕ
 refusalIn x = onNumber x (λ k at. k) (λ v next. 0)
 

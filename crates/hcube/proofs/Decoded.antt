@@ -242,7 +242,7 @@ notice-decoded bytes before = go (N.noticed bytes before) refl
         let p = parts bytes before n m taken e in
         let low = above n m (packed 0 0 taken) in
         let r : refusalPart (packedNotice n m (packed 0 0 taken)) ≡ 0 =
-            low .refusal ∙ refusal-is 0 0 taken (omega arith) (omega arith) (omega (arith, p .short)) in
+        low .refusal ∙ refusal-is 0 0 taken (omega arith) (omega arith) (omega (arith, p .short)) in
         let a = dimension-is n m taken (p .dimension) (p .count) (p .short) in
         let b = count-is n m taken (p .count) (p .short) in
         let c : valuePart (packedNotice n m (packed 0 0 taken)) ≡ taken = low .value ∙ value-is 0 0 taken (omega (arith, p .short)) in

@@ -1,5 +1,5 @@
 -- What document 01 says of a notice, as laws of its definitions: an accepted notice names what the table then holds, a refused one writes nothing, and
--- the tail question agrees with the reader. Proved in proofs/Laws.antt.
+-- the tail question agrees with the reader; and how far in a refusal's place (document 02, A1) can be. Proved in proofs/Laws.antt.
 use mathlib.Core.Path.{_≡_}
 use mathlib.Core.Logic.{_≢_}
 use mathlib.Core.Bool.{true, false}

@@ -1,3 +1,4 @@
 pub mod Pairs
 pub mod Heads
 pub mod Laws
+pub mod Functions

@@ -1,4 +1,4 @@
--- What document 01 says of all that is printed, as laws of `listing`, with its sample. Proved in proofs/Laws.antt.
+-- What document 01 says of all that is printed, and document 02 (A1) of the places, as laws of `listing`, with samples. Proved in proofs/Laws.antt.
 use mathlib.Core.Path.{_≡_}
 use mathlib.Core.List.{List, [], _∷_, _++_}
 use Prim.Native.Nat.{ℕ, suc, _≤_, _<_}

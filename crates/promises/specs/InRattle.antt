@@ -1,4 +1,5 @@
--- What only a caller in Rattle asks, of whatever the contracts allow: the bytes after a notice, one number, and the reader that keeps its place.
+-- What only a caller in Rattle asks, of whatever the contracts allow: the bytes after a notice, one number, the reader that keeps its place, and a notice
+-- read through it.
 use mathlib.Core.List.{List, []}
 use mathlib.Core.Logic.{_≢_}
 use mathlib.Core.Path.{_≡_}
@@ -29,7 +30,7 @@ pub record InRattle : Type 0 where
       {bytes before after : List ℕ} {k at block offset : ℕ} {x : List ℕ × (ℕ × ℕ)} → May notice.read (bytes, before) (noticed.Refused k at) after
       → k ≢ 2
       → May notice.tail (bytes, (block, offset)) x tt → x ≡ ([], (block, offset + length bytes))
-  -- a number is refused with 9 or 10, then and not otherwise, "and the byte place where that number begins" is answered
+  -- a number is refused with 9 or 10, then and not otherwise, and "the byte place where that number begins" is answered
   pub number-refusal : {bytes : List ℕ} {at : ℕ} {x : Number} → May groups.number-at (bytes, at) x tt → NumberGiven bytes at (refusalIn x)
   pub number-place : {bytes : List ℕ} {at k place : ℕ} → May groups.number-at (bytes, at) (number.Refused k place) tt → place ≡ at
   -- "a notice reader that keeps the lent bytes and its place", which begins at their start,
