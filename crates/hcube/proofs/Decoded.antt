@@ -178,7 +178,8 @@ module _ (w : Walked) (fits : W.refusalOf (w .ending) < 256) (few : w .hops < 65
   ended-decoded before h r =
       let t = ended (w .ending) h refl in
       ap (walkedFrom walk-number) (sym (written w before h))
-      ∙ accepted (record { row = tab 17 (nodeAt (tab W.rowBytes (rowByte (w .row)))); hops = valuePart walk-number; ending = endingFrom (kindPart walk-number) })
+      ∙ accepted
+      (record { row = tab 17 (nodeAt (tab W.rowBytes (rowByte (w .row)))); hops = valuePart walk-number; ending = endingFrom (kindPart walk-number) })
       W.refused
       (refusalPart walk-number) (t .0)
       ∙ rw (r, t .1, t .2)
