@@ -209,3 +209,11 @@ uint64_t check_notice(const uint8_t *bytes, size_t len,
     memcpy(faults, writable.bytes, faults_len);
     return answer;
 }
+
+uint64_t check_notice_alone(const uint8_t *bytes, size_t len,
+                            size_t faults_len)
+{
+    static uint8_t faults[MOST_LENT];
+    random_bytes(faults, faults_len);
+    return check_notice(bytes, len, faults, faults_len);
+}

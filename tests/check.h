@@ -26,6 +26,9 @@ uint32_t check_hop(struct hop_question asked);
 uint32_t check_walk(struct walk_question asked);
 uint64_t check_notice(const uint8_t *bytes, size_t len,
                       uint8_t *faults, size_t faults_len);
+/* The same, over a fault table of random bytes that is not kept. */
+uint64_t check_notice_alone(const uint8_t *bytes, size_t len,
+                            size_t faults_len);
 
 /* What the checks have seen so far. */
 struct seen {

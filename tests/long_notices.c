@@ -13,14 +13,7 @@
 #define NODES 4096u /* n = 12 */
 #define TABLE 512u
 
-static uint8_t bytes[MOST_LENT], table[MOST_LENT];
-
-/* Lends `bytes` and a fault table of this length; the reader's answer. */
-static uint64_t read_notice(size_t len, size_t table_len)
-{
-    random_bytes(table, table_len);
-    return check_notice(bytes, len, table, table_len);
-}
+static uint8_t bytes[MOST_LENT];
 
 /* ---- 300 numbers, each of them damaged in turn */
 
@@ -59,7 +52,7 @@ static void put_whole(void)
 static void refused_at(size_t len, size_t table_len, unsigned refusal,
                        size_t place)
 {
-    uint64_t answer = read_notice(len, table_len);
+    uint64_t answer = check_notice_alone(bytes, len, table_len);
     expect(answer == NOTICE_REFUSED(refusal, place),
            "%u bytes: %016llx, not %u at %u", (unsigned)len,
            (unsigned long long)answer, refusal, (unsigned)place);
@@ -116,7 +109,7 @@ static void damage_each(void)
     bad_value(0, 0);
     memcpy(bytes, whole, places[NUMBERS]);
     refused_at(places[NUMBERS], TABLE - 1, 2, 0);
-    expect(read_notice(places[NUMBERS], TABLE) ==
+    expect(check_notice_alone(bytes, places[NUMBERS], TABLE) ==
                NOTICE_READ(12, NUMBERS - 2, places[NUMBERS]),
            "undamaged");
     end_group();
@@ -132,7 +125,7 @@ static uint64_t ends_with(const char *end, size_t len)
     memcpy(bytes, "\x0c\x80\x20", 3);
     memset(bytes + 3, 0, NODES - 1);
     memcpy(bytes + LAST, end, len);
-    return read_notice(LAST + len, TABLE);
+    return check_notice_alone(bytes, LAST + len, TABLE);
 }
 
 static void damage_last(void)

@@ -9,14 +9,7 @@
 #include "groups.h"
 #include "lent.h"
 
-static uint8_t bytes[MOST_LENT], table[MOST_LENT];
-
-/* Lends `bytes` and a fault table of this length; the reader's answer. */
-static uint64_t read_notice(size_t len, size_t table_len)
-{
-    random_bytes(table, table_len);
-    return check_notice(bytes, len, table, table_len);
-}
+static uint8_t bytes[MOST_LENT];
 
 /* ---- each refusal, at each number that it can be about */
 
@@ -78,7 +71,7 @@ static const struct row {
 static uint64_t answer_of(const struct row *row)
 {
     memcpy(bytes, row->bytes, row->len);
-    return read_notice(row->len, row->table);
+    return check_notice_alone(bytes, row->len, row->table);
 }
 
 static int has_row(unsigned refusal)
@@ -134,7 +127,7 @@ static void check_parts(void)
         uint64_t answer;
         at += put_number(1, bytes + at);
         at += put_number((1u << n) - 1, bytes + at);
-        answer = read_notice(at, HCUBE_FAULT_BYTES(n));
+        answer = check_notice_alone(bytes, at, HCUBE_FAULT_BYTES(n));
         parts_are(answer, HCUBE_ACCEPTED, at);
         expect(HCUBE_NOTICE_DIMENSION(answer) == n &&
                    HCUBE_NOTICE_COUNT(answer) == 1,

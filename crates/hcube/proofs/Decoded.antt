@@ -3,7 +3,7 @@
 use mathlib.Core.Bool.{true, cond}
 use mathlib.Core.List.{List}
 use mathlib.Core.Path.{_≡_, refl, sym, ap, _∙_}
-use Prim.Native.Nat.{ℕ, _+_, _*_, _/_, _%_, _≤_, _<_}
+use Prim.Native.Nat.{ℕ, _+_, _*_, _/_, _%_, _<_}
 use native.Mathlib.Omega.{arith}
 use lib.Dec.{eqb, leb}
 use lib.ListN.{getD, length}
@@ -34,10 +34,7 @@ use Rattle.hcube.specs.Answers.{hasRow, hopNumber, labelNumber, noticeNu
 use Rattle.hcube.specs.Fits.{WalkFits}
 use Rattle.hcube.specs.Decoded.{
   Decodes,
-  Shows,
-  countPart,
   decisionFrom,
-  dimensionPart,
   endingFrom,
   hoppedFrom,
   kindPart,
@@ -48,34 +45,16 @@ use Rattle.hcube.specs.Decoded.{
   valuePart,
   walkedFrom,
 }
+use Rattle.hcube.proofs.Parts.{above, count-is, cut, dimension-is, kind-is, refusal-is, value-is}
 use Rattle.hcube.proofs.Small.{HopFits, LabelFits, has-row, hop-small, label-small, walk-small, written}
 
--- ---- the parts of a packed number, and the choice by its refusal
-
-refusal-is : (k kind v : ℕ) → k < 256 → kind < 256 → v < 65536 → refusalPart (packed k kind v) ≡ k
-refusal-is k kind v c a b = omega arith
-
-kind-is : (k kind v : ℕ) → kind < 256 → v < 65536 → kindPart (packed k kind v) ≡ kind
-kind-is k kind v a b = omega arith
-
-value-is : (k kind v : ℕ) → v < 65536 → valuePart (packed k kind v) ≡ v
-value-is k kind v b = omega arith
+-- ---- the choice by a number's refusal
 
 accepted : {A : Type 0} (x : A) (y : ℕ → A) (k : ℕ) → k ≡ 0 → cond (eqb k 0) x (y k) ≡ x
 accepted x y k e = rw e
 
 refused : {A : Type 0} (x : A) (y : ℕ → A) (k j : ℕ) → k ≡ j → (j ≡ 0 → ⊥) → cond (eqb k 0) x (y k) ≡ y j
 refused x y k j e h = rw (e, ne-eqb j 0 h)
-
--- what stands above the low 32 bits is in none of the three
-shows : (high low : ℕ) → Shows (high * 4294967296 + low) low
-shows high low =
-    let q : (high * 4294967296 + low) / 16777216 ≡ high * 256 + low / 16777216 = omega arith in
-    let p : (high * 4294967296 + low) / 65536 ≡ high * 65536 + low / 65536 = omega arith in
-    record { refusal = omega arith; kind = omega arith; value = omega arith }
-
-cut : (r : ℕ) → Shows r (r % 4294967296)
-cut r = let e : r / 4294967296 * 4294967296 + r % 4294967296 ≡ r = omega arith in rw e at (shows (r / 4294967296) (r % 4294967296))
 
 -- ---- labelling
 
@@ -217,22 +196,6 @@ module _ (n s d : ℕ) (labels before : List ℕ) where
       (walk-small n s d (length labels) (length before) lab)
 
 -- ---- the notice
-
-above : (n m low : ℕ) → Shows (packedNotice n m low) low
-above n m low =
-    let e : (n * 65536 + m) * 4294967296 + low ≡ packedNotice n m low = omega arith in
-    rw e at (shows (n * 65536 + m) low)
-
--- the two parts above, where they are small
-dimension-is : (n m taken : ℕ) → n ≤ 12 → m ≤ 4096 → taken ≤ 4099 → dimensionPart (packedNotice n m (packed 0 0 taken)) ≡ n
-dimension-is n m taken a b c =
-    let q : packedNotice n m (packed 0 0 taken) / 281474976710656 ≡ n = omega arith in
-    omega arith
-
-count-is : (n m taken : ℕ) → m ≤ 4096 → taken ≤ 4099 → countPart (packedNotice n m (packed 0 0 taken)) ≡ m
-count-is n m taken b c =
-    let q : packedNotice n m (packed 0 0 taken) / 4294967296 ≡ n * 65536 + m = omega arith in
-    omega arith
 
 notice-decoded : (bytes before : List ℕ) → noticedFrom (noticeNumber (N.noticed bytes before)) ≡ N.noticed bytes before
 unfolding noticedFrom

@@ -1,3 +1,4 @@
 pub mod Small
 pub mod Functions
+pub mod Parts
 pub mod Decoded

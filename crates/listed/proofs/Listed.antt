@@ -9,7 +9,7 @@ listed =
     record {
       head-tied = record { clauses = λ w. refl; asked = refl; post = refl };
       line-tied = record { clauses = λ w. refl; asked = refl; post = refl };
-      head = λ m. printed.head-line-says _ _ _ m;
+      head = λ m. let h = printed.head-line-says _ _ _ m in (h .line, h .dimension, h .labelled);
       line = λ m. printed.line-at-says _ _ _ m;
       line-asked = printed.line-at-asks;
       laws = listing-laws;

@@ -8,7 +8,7 @@ use lib.ListN.{take}
 use Rattle.cube.specs.Contracts.{AsksFor, Ensures, Function}
 use Rattle.cube.proofs.Contracts.{ensures}
 use Rattle.notice.specs.Notice.{dimensionOf, noticeOf, tailAt}
-use Rattle.printed.specs.Printed.{headLine, labelsIn, lineAt, nextAt}
+use Rattle.printed.specs.Printed.{Headed, labelsIn, lineAt, nextAt}
 use Rattle.printed.specs.declared.Head.{Head}
 use Rattle.printed.specs.declared.Line.{Line}
 use Rattle.printed.proofs.head_line as head-claims
@@ -37,9 +37,8 @@ line-at =
     }
 
 -- the line of the notice stands at the front of the buffer, and beside it are the dimension and the labels of its cube
-pub head-line-says : Ensures head-line (λ i h o.
-    (take (h .end) (o .1) ≡ headLine (i .0)) × (h .n ≡ dimensionOf (noticeOf (i .0))) × (take (h .nodes) (o .0) ≡ labelsIn (i .0)))
-head-line-says = ensures head-line _ (λ κs a h e p. (p .line, p .dimension, p .labelled))
+pub head-line-says : Ensures head-line (λ i h o. Headed (i .0) h (o .0) (o .1))
+head-line-says = ensures head-line _ (λ κs a h e p. p)
 
 -- the line of a pair is asked for with the dimension and the labels of the input that is handed, at a place behind its notice
 pub line-at-asks : AsksFor line-at (λ i. (i .0 ≡ dimensionOf (noticeOf (i .2))) × (i .1 ≡ labelsIn (i .2)) × (tailAt (i .2) ≤ i .3))

@@ -55,9 +55,10 @@ pub data Names (s t : List ℕ) : (j k : ℕ) → Type 0 where
 
 -- a notice that is refused with k at a place, read number by number
 pub record RefusedThrough (s t : List ℕ) (k at : ℕ) : Type 0 where
-  -- as many numbers are read, none of them refused,
+  -- as many numbers are read, none of them refused, and no refusal is about any of them,
   pub before : ℕ
   pub told : (j : ℕ) → j < before → Told s j
+  pub good : (j r : ℕ) → j < before → ¬ (Names s t j r)
   -- and the reader is then at that place,
   pub comes : places s before ≡ at
   -- where a number of the notice begins: the dimension, the count, or one of as many addresses as the count says,

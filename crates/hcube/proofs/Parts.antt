@@ -1,0 +1,42 @@
+-- The parts of a packed number: where they are small they come out as they were put in, and what stands above the low 32 bits is in none of the three that
+-- every answer has.
+use mathlib.Core.Path.{_≡_}
+use Prim.Native.Nat.{ℕ, _+_, _*_, _/_, _%_, _≤_, _<_}
+use native.Mathlib.Omega.{arith}
+use Rattle.hcube.specs.Answers.{packed, packedNotice}
+use Rattle.hcube.specs.Decoded.{Shows, countPart, dimensionPart, kindPart, refusalPart, valuePart}
+
+pub refusal-is : (k kind v : ℕ) → k < 256 → kind < 256 → v < 65536 → refusalPart (packed k kind v) ≡ k
+refusal-is k kind v c a b = omega arith
+
+pub kind-is : (k kind v : ℕ) → kind < 256 → v < 65536 → kindPart (packed k kind v) ≡ kind
+kind-is k kind v a b = omega arith
+
+pub value-is : (k kind v : ℕ) → v < 65536 → valuePart (packed k kind v) ≡ v
+value-is k kind v b = omega arith
+
+-- what stands above the low 32 bits is in none of the three
+pub shows : (high low : ℕ) → Shows (high * 4294967296 + low) low
+shows high low =
+    let q : (high * 4294967296 + low) / 16777216 ≡ high * 256 + low / 16777216 = omega arith in
+    let p : (high * 4294967296 + low) / 65536 ≡ high * 65536 + low / 65536 = omega arith in
+    record { refusal = omega arith; kind = omega arith; value = omega arith }
+
+pub cut : (r : ℕ) → Shows r (r % 4294967296)
+cut r = let e : r / 4294967296 * 4294967296 + r % 4294967296 ≡ r = omega arith in rw e at (shows (r / 4294967296) (r % 4294967296))
+
+pub above : (n m low : ℕ) → Shows (packedNotice n m low) low
+above n m low =
+    let e : (n * 65536 + m) * 4294967296 + low ≡ packedNotice n m low = omega arith in
+    rw e at (shows (n * 65536 + m) low)
+
+-- the two parts above, where they are small
+pub dimension-is : (n m taken : ℕ) → n ≤ 12 → m ≤ 4096 → taken ≤ 4099 → dimensionPart (packedNotice n m (packed 0 0 taken)) ≡ n
+dimension-is n m taken a b c =
+    let q : packedNotice n m (packed 0 0 taken) / 281474976710656 ≡ n = omega arith in
+    omega arith
+
+pub count-is : (n m taken : ℕ) → m ≤ 4096 → taken ≤ 4099 → countPart (packedNotice n m (packed 0 0 taken)) ≡ m
+count-is n m taken b c =
+    let q : packedNotice n m (packed 0 0 taken) / 4294967296 ≡ n * 65536 + m = omega arith in
+    omega arith
