@@ -219,7 +219,7 @@ static void print_scaling(void)
 int main(int count, char **words)
 {
     static const char head[] =
-        " n table        rounds   label, ns ratio     hop, ns ratio    walk, ns"
+        " n table     exchanges   label, ns ratio     hop, ns ratio    walk, ns"
         " ratio   bytes a hop\n";
     repetitions = count > 1 ? (unsigned)atoi(words[1]) : 51;
     if (repetitions < 1 || repetitions > MOST_REPETITIONS)

@@ -19,7 +19,7 @@ unsigned long label_reads;
 #endif
 
 enum { SAFE, ORDINARY, STRONG, FAULTY };
-enum { FRESH = ORDINARY, MARKED = STRONG }; /* while the rounds go on */
+enum { FRESH = ORDINARY, MARKED = STRONG }; /* while the exchanges go on */
 enum { DELIVER, HOP, HALTED };
 
 static uint32_t refused(uint32_t refusal)
@@ -75,7 +75,7 @@ static int has_safe_neighbour(uint32_t n, uint32_t k, const uint8_t *labels)
 uint32_t NAME(label)(uint32_t n, const uint8_t *faults, size_t faults_len,
                      uint8_t *labels, size_t labels_len)
 {
-    uint32_t rounds = 0;
+    uint32_t exchanges = 1;
     if (n < 1 || n > 12)
         return refused(1);
     if (faults_len != ((1u << n) + 7) / 8 || labels_len != 1u << n)
@@ -86,12 +86,12 @@ uint32_t NAME(label)(uint32_t n, const uint8_t *faults, size_t faults_len,
         labels[k] = faults[k / 8] >> (k % 8) & 1 ? FAULTY : SAFE;
     while (sweep(n, labels, labels_len)) {
         settle(labels, labels_len);
-        rounds++;
+        exchanges++;
     }
     for (uint32_t k = 0; k < labels_len; k++)
         if (READ(labels, k) == MARKED && has_safe_neighbour(n, k, labels))
             labels[k] = ORDINARY;
-    return rounds;
+    return exchanges;
 }
 
 /* ---- one hop, from a copy of the labels around it */

@@ -1,6 +1,6 @@
 /*
- * worst.h: the fault table of n = 12 with the most rounds known, 108, found by
- * tests/most_rounds.c (`most_rounds 12 600000 1`).
+ * worst.h: a fault table of n = 12 with many exchanges, 109, found by
+ * tests/most_exchanges.c (`most_exchanges 12 600000 1`).
  */
 #ifndef WORST_H
 #define WORST_H

@@ -85,16 +85,18 @@ extern "C" {
  * Labels every node of the cube whose faulty nodes `faults` gives.
  *
  * A working node is unsafe if it has two or more faulty neighbours, or three
- * or more that are faulty or unsafe; this is applied in rounds, all nodes at
- * once, until a round marks nothing new. An unsafe node is strongly unsafe if
- * none of its neighbours is safe, otherwise ordinarily unsafe.
+ * or more that are faulty or unsafe; this is applied to all nodes at once, in
+ * one exchange of their states after the other, until one brings nothing new.
+ * An unsafe node is strongly unsafe if none of its neighbours is safe, otherwise
+ * ordinarily unsafe.
  *
  * Refusals, in order:
  *   1  n is not 1 to 12
  *   2  faults_len is not HCUBE_FAULT_BYTES(n), or labels_len not HCUBE_NODES(n)
  *   3  n is 1 or 2 and a bit for a node of 2^n or more is set in `faults`
- * Accepted: kind 0, value the number of rounds that marked something new. All
- * 2^n bytes of `labels` are written; what they held before does not matter.
+ * Accepted: kind 0, value the number of exchanges, the last of which brought
+ * nothing new: 1 at least. All 2^n bytes of `labels` are written; what they held
+ * before does not matter.
  */
 uint32_t hcube_label(uint32_t n, const uint8_t *faults, size_t faults_len,
                      uint8_t *labels, size_t labels_len);

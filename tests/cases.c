@@ -38,7 +38,7 @@ void random_faults(uint32_t n, unsigned per_mille, uint8_t *faults)
             faults[k / 8] |= (uint8_t)(1u << (k % 8));
 }
 
-/* Around 1/n to 3/n a node's neighbours decide; there the rounds are many. */
+/* Around 1/n to 3/n a node's neighbours decide; there the exchanges are many. */
 unsigned random_density(uint32_t n)
 {
     switch (random_below(8)) {

@@ -89,12 +89,12 @@ static void count_one(unsigned long *counts, size_t room, const char *what,
 
 static void count_labels(uint32_t n, uint32_t answer, const uint8_t *labels)
 {
-    uint32_t rounds = HCUBE_VALUE(answer);
+    uint32_t exchanges = HCUBE_VALUE(answer);
     SEEN(refusal[LABEL], HCUBE_REFUSAL(answer));
     if (HCUBE_REFUSAL(answer))
         return;
     SEEN(cube[LABEL], n);
-    SEEN(rounds, rounds < 9 ? rounds : 9);
+    SEEN(exchanges, exchanges < 10 ? exchanges : 10);
     for (uint32_t k = 0; k < 1u << n; k++)
         SEEN(label, labels[k]);
 }

@@ -50,14 +50,14 @@ static void check_coverage(void)
     for (unsigned question = 0; question < QUESTIONS; question++)
         refusals_came_up(question);
     end_group();
-    begin_group("coverage of endings, scans and rounds");
+    begin_group("coverage of endings, scans and exchanges");
     CAME_UP("kind of hop", hop_kind, 0, 2);
     CAME_UP("scan", scan, 0, 5);
     CAME_UP("dimension crossed", dimension, 0, 11);
     CAME_UP("kind of walk", walk_kind, 0, 1);
     CAME_UP("hops of a walk", walk_hops, 0, 16);
     CAME_UP("walk of n + 4 hops, n", longest, 4, 12);
-    CAME_UP("rounds", rounds, 0, 9);
+    CAME_UP("exchanges", exchanges, 1, 10);
     CAME_UP("label", label, 0, LAST_LABEL);
     CAME_UP("labelled n", cube[LABEL], 1, 12);
     CAME_UP("hop at n", cube[HOP], 1, 12);
@@ -75,7 +75,7 @@ int main(void)
     check_plain_numbers();
     check_lengths();
     check_small_cubes();
-    check_most_rounds();
+    check_most_exchanges();
     check_random_tables();
     check_random_labels();
     check_long_walks();

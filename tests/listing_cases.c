@@ -172,8 +172,8 @@ static void long_walks(void)
     }
 }
 
-/* The most rounds known for n = 12, which are 166: no node is safe then. */
-static void many_rounds(void)
+/* The most exchanges known for n = 12, which are 167: no node is safe then. */
+static void many_exchanges(void)
 {
     static const uint16_t nodes[] = {
         347,  493,  536,  932,  1059, 1149, 1215, 1229, 1285, 1290, 1327,
@@ -181,7 +181,7 @@ static void many_rounds(void)
         2252, 2282, 2398, 2623, 3091, 3165, 3199, 3677, 3696, 4003};
     start_faulty(12, nodes, COUNT(nodes));
     add_pairs(12, 200);
-    make("many-rounds");
+    make("many-exchanges");
 }
 
 /* Nodes of 2^n and more, up to the greatest number that two groups hold. */
@@ -243,7 +243,7 @@ static int make_all(const char *where)
     good_inputs();
     worked_cubes();
     long_walks();
-    many_rounds();
+    many_exchanges();
     refused_inputs();
     far_pairs();
     long_inputs();

@@ -1,6 +1,6 @@
 /*
  * reference.c: document 01 in the most direct C: one array of marks for each
- * side of a round, every scan a loop over the label table itself.
+ * side of an exchange, every scan a loop over the label table itself.
  */
 #include "reference.h"
 
@@ -44,9 +44,10 @@ static int meets_rule(uint32_t n, const uint8_t *faults, const uint8_t *marked,
     return faulty >= 2 || faulty + unsafe >= 3;
 }
 
-/* One round: marks of the next round from those of this one. */
-static int next_round(uint32_t n, const uint8_t *faults, const uint8_t *marked,
-                      uint8_t *next)
+/* One exchange, which is one round: the marks after it from those before.
+ * Whether it brought something new. */
+static int exchange(uint32_t n, const uint8_t *faults, const uint8_t *marked,
+                    uint8_t *next)
 {
     int something_new = 0;
     for (uint32_t k = 0; k < nodes_of(n); k++) {
@@ -72,15 +73,17 @@ static int has_safe_neighbour(uint32_t n, const uint8_t *faults,
     return 0;
 }
 
-unsigned ref_rounds(uint32_t n, const uint8_t *faults, uint8_t *labels)
+unsigned ref_exchanges(uint32_t n, const uint8_t *faults, uint8_t *labels)
 {
     uint8_t marked[MOST_NODES], next[MOST_NODES];
-    unsigned rounds = 0;
+    unsigned exchanges = 0;
+    int something_new;
     memset(marked, 0, sizeof marked);
-    while (next_round(n, faults, marked, next)) {
+    do {
+        something_new = exchange(n, faults, marked, next);
+        exchanges++;
         memcpy(marked, next, nodes_of(n));
-        rounds++;
-    }
+    } while (something_new);
     for (uint32_t k = 0; k < nodes_of(n); k++) {
         if (is_faulty(faults, k))
             labels[k] = FAULTY;
@@ -91,7 +94,7 @@ unsigned ref_rounds(uint32_t n, const uint8_t *faults, uint8_t *labels)
         else
             labels[k] = STRONG;
     }
-    return rounds;
+    return exchanges;
 }
 
 uint32_t ref_label(uint32_t n, const uint8_t *faults, size_t faults_len,
@@ -107,7 +110,7 @@ uint32_t ref_label(uint32_t n, const uint8_t *faults, size_t faults_len,
         return packed(3, 0, 0);
     if (n == 2 && faults[0] > 15)
         return packed(3, 0, 0);
-    return packed(0, 0, ref_rounds(n, faults, labels));
+    return packed(0, 0, ref_exchanges(n, faults, labels));
 }
 
 /* ---- one hop */

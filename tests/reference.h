@@ -42,8 +42,8 @@ void ref_listing(const uint8_t *bytes, size_t len, FILE *out);
 unsigned ref_scan(uint32_t n, uint32_t c, uint32_t d, const uint8_t *labels,
                   uint32_t *dimension);
 
-/* Rounds and final labels of a good fault table. */
-unsigned ref_rounds(uint32_t n, const uint8_t *faults, uint8_t *labels);
+/* Exchanges, the quiet one included, and final labels of a good fault table. */
+unsigned ref_exchanges(uint32_t n, const uint8_t *faults, uint8_t *labels);
 
 /* Length of a fault table. */
 size_t ref_fault_bytes(uint32_t n);

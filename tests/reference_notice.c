@@ -92,12 +92,12 @@ static unsigned nodes_with(uint8_t label, uint32_t n, const uint8_t *labels)
     return count;
 }
 
-static void print_first_line(uint32_t n, const uint8_t *labels, unsigned rounds,
-                             FILE *out)
+static void print_first_line(uint32_t n, const uint8_t *labels,
+                             unsigned exchanges, FILE *out)
 {
     fprintf(out, "cube %u faulty %u safe %u ordinary %u strong %u rounds %u\n",
             (unsigned)n, nodes_with(3, n, labels), nodes_with(0, n, labels),
-            nodes_with(1, n, labels), nodes_with(2, n, labels), rounds);
+            nodes_with(1, n, labels), nodes_with(2, n, labels), exchanges);
 }
 
 static void print_pair(uint32_t n, uint32_t s, uint32_t d, const uint8_t *labels,
@@ -155,6 +155,6 @@ void ref_listing(const uint8_t *bytes, size_t len, FILE *out)
         fprintf(out, "notice refused %u %u\n", refusal, (unsigned)place);
         return;
     }
-    print_first_line(n, labels, ref_rounds(n, faults, labels), out);
+    print_first_line(n, labels, ref_exchanges(n, faults, labels), out);
     print_pairs(bytes, len, place, n, labels, out);
 }

@@ -1,6 +1,7 @@
 /*
- * worked.c: the numbers that document 01 gives ("Numbers on both sides"), each
- * as a literal, asked of the library.
+ * worked.c: the numbers that document 01 gives ("Numbers on both sides"), with
+ * the exchanges of document 02's request A3 for its rounds, each as a literal,
+ * asked of the library.
  */
 #include <string.h>
 
@@ -13,8 +14,8 @@
 static uint8_t labels[64];
 static uint32_t n;
 
-/* Labels a table of one or two bytes and expects these rounds. */
-static void label(uint32_t dimension, unsigned faults, uint32_t rounds)
+/* Labels a table of one or two bytes and expects so many exchanges. */
+static void label(uint32_t dimension, unsigned faults, uint32_t exchanges)
 {
     uint8_t table[2];
     uint32_t answer;
@@ -23,7 +24,7 @@ static void label(uint32_t dimension, unsigned faults, uint32_t rounds)
     table[1] = (uint8_t)(faults >> 8);
     memset(labels, 0xee, sizeof labels);
     answer = check_label(fit_label(n, table, labels));
-    expect(answer == rounds, "labels of %04x: answer %08x", faults, answer);
+    expect(answer == exchanges, "labels of %04x: answer %08x", faults, answer);
 }
 
 static void labels_are(const char *digits)
@@ -57,7 +58,7 @@ static void hop(uint32_t c, uint32_t d, uint32_t answer)
 /* n = 4, faulty 2, 4, 8, 15: figure 1 of document 001. */
 static void figure_1(void)
 {
-    label(4, 0x8114, 2);
+    label(4, 0x8114, 3);
     labels_are("1030301030101023");
     walk(13, 0, 3, "d910");
     walk(6, 0, 4, "67510");
@@ -74,7 +75,7 @@ static void figure_1(void)
 
 static void no_node_safe(void)
 {
-    label(3, 0x16, 2);
+    label(3, 0x16, 3);
     labels_are("23323222");
     walk(0, 7, HALTED(0), "0");
     walk(7, 0, HALTED(1), "76");
@@ -84,12 +85,12 @@ static void no_node_safe(void)
 
 static void small_cubes(void)
 {
-    label(1, 0x01, 0);
+    label(1, 0x01, 1);
     labels_are("30");
-    label(2, 0x02, 0);
+    label(2, 0x02, 1);
     labels_are("0300");
     walk(0, 3, 2, "023");
-    label(2, 0x06, 1);
+    label(2, 0x06, 2);
     labels_are("2332");
     walk(0, 3, HALTED(0), "0");
 }
@@ -108,10 +109,10 @@ static void swinging(void)
 static void none_and_all(void)
 {
     for (uint32_t dimension = 1; dimension <= 4; dimension++) {
-        label(dimension, 0, 0);
+        label(dimension, 0, 1);
         for (uint32_t k = 0; k < 1u << n; k++)
             expect(labels[k] == 0, "no faults: %u is not safe", k);
-        label(dimension, (1u << (1u << dimension)) - 1, 0);
+        label(dimension, (1u << (1u << dimension)) - 1, 1);
         for (uint32_t s = 0; s < 1u << n; s++)
             for (uint32_t d = 0; d < 1u << n; d++)
                 walk(s, d, REFUSED(6), "");

@@ -18,7 +18,7 @@ struct cube {
 
 static const struct cube cubes[] = {
 	{ "k4", 4, 4, { 2, 4, 8, 15 } },
-	{ "six", 6, 7, { 0, 13, 23, 38, 47, 48, 58 } }, /* every kind of node, and 17 rounds */
+	{ "six", 6, 7, { 0, 13, 23, 38, 47, 48, 58 } }, /* every kind of node, and 18 exchanges */
 	{ "no_safe_node", 3, 3, { 1, 2, 4 } },
 	{ "swinging", 3, -1, { 0, 3, 3, 0, 0, 3, 3, 0 } },
 	{ "bad_byte", 3, -1, { 0, 0, 0, 3, 0, 9, 1, 2 } },

@@ -12,7 +12,7 @@ use Rattle.cube.specs.Tables.{labelIn, tab}
 use Rattle.cube.proofs.Bools.{by-cases}
 use Rattle.cube.proofs.Front.{getD-tab, tab-cong}
 use Rattle.cube.proofs.Tables.{nodes-few}
-use Rattle.rule.specs.Cabinet.{Cabinet, roundsOf}
+use Rattle.rule.specs.Cabinet.{Cabinet, exchangesOf}
 use Rattle.labels.specs.Labelling as L
 use Rattle.labels.specs.declared.Labelled.the-variants as labelled
 use Rattle.hop.specs.Hop as H
@@ -66,10 +66,10 @@ module _ (K : Cabinet) (m : ℕ) where
   unfolding L.labelled labelledFrom
   label-decoded =
       by-cases (λ a. LabelFits a → labelledFrom (labelNumber a) ≡ a) (eqb label-k 0)
-      (λ _ f. accepted (labelled.Rounds (valuePart (packed 0 0 (roundsOf K)))) labelled.Refused (refusalPart (packed 0 0 (roundsOf K)))
-      (refusal-is 0 0 (roundsOf K) (omega arith) (omega arith) (f .1))
-      ∙ ap labelled.Rounds (value-is 0 0 (roundsOf K) (f .1)))
-      (λ e f. refused (labelled.Rounds (valuePart (packed label-k 0 0))) labelled.Refused (refusalPart (packed label-k 0 0)) label-k
+      (λ _ f. accepted (labelled.Exchanges (valuePart (packed 0 0 (exchangesOf K)))) labelled.Refused (refusalPart (packed 0 0 (exchangesOf K)))
+      (refusal-is 0 0 (exchangesOf K) (omega arith) (omega arith) (f .1))
+      ∙ ap labelled.Exchanges (value-is 0 0 (exchangesOf K) (f .1)))
+      (λ e f. refused (labelled.Exchanges (valuePart (packed label-k 0 0))) labelled.Refused (refusalPart (packed label-k 0 0)) label-k
       (refusal-is label-k 0 0 (f .0) (omega arith) (omega arith)) (eqb-false label-k 0 e))
       (label-small K m)
 

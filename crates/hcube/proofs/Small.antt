@@ -11,7 +11,7 @@ use Rattle.cube.specs.Tables.{tab}
 use Rattle.cube.proofs.Bools.{by-cases}
 use Rattle.cube.proofs.Refusal.{first-le}
 use Rattle.rule.specs.Cabinet.{Cabinet}
-use Rattle.rule.proofs.Cabinet.{rounds-few}
+use Rattle.rule.proofs.Cabinet.{exchanges-few}
 use Rattle.labels.specs.Labelling as L
 use Rattle.labels.specs.declared.Labelled.{Labelled}
 use Rattle.labels.proofs.Refusal.{fitting, refusal-le}
@@ -36,7 +36,7 @@ pub label-small : (K : Cabinet) (m : ℕ) → LabelFits (L.labelled K m)
 unfolding L.labelled
 label-small K m =
     by-cases LabelFits (eqb (L.labelRefusal K m) 0)
-    (λ e. (omega arith, omega (arith, rounds-few K (fitting K m (eqb-true (L.labelRefusal K m) 0 e) .small))))
+    (λ e. (omega arith, omega (arith, exchanges-few K (fitting K m (eqb-true (L.labelRefusal K m) 0 e) .small))))
     (λ _. (omega (arith, refusal-le K m), omega arith))
 
 -- ---- the hop

@@ -20,7 +20,7 @@ use Rattle.walk.specs.declared.Walked.{Walked}
 abbrev pub packed : (refusal kind value : ℕ) → ℕ
 packed refusal kind value = refusal * 16777216 + kind * 65536 + value
 
--- labelling: kind 0, the value is the round count
+-- labelling: kind 0, the value is the number of exchanges
 abbrev pub labelNumber : Labelled → ℕ
 labelNumber a = packed (L.refusalOf a) 0 (L.valueOf a)
 

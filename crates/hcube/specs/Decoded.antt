@@ -55,7 +55,7 @@ abbrev pub endingFrom : (kind : ℕ) → Ending
 endingFrom kind = cond (eqb kind 0) ending.Delivered ending.Halted
 
 unfoldable pub labelledFrom : ℕ → Labelled
-labelledFrom r = cond (eqb (refusalPart r) 0) (labelled.Rounds (valuePart r)) (labelled.Refused (refusalPart r))
+labelledFrom r = cond (eqb (refusalPart r) 0) (labelled.Exchanges (valuePart r)) (labelled.Refused (refusalPart r))
 
 unfoldable pub hoppedFrom : ℕ → Hopped
 hoppedFrom r = cond (eqb (refusalPart r) 0) (hopped.Decided (decisionFrom (kindPart r) (valuePart r))) (hopped.Refused (refusalPart r))

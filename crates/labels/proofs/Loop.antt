@@ -1,11 +1,13 @@
--- How labelling's loop is proved. Before each sweep the table stands as after r rounds (Stands), each of which marked something new.
+-- How labelling's loop is proved. Before each sweep the table stands as after r rounds (Stands), each of which marked something new, and the exchange
+-- that is under way is number r + 1 (Turn).
 --
 -- A turn: the sweep writes 1 at the nodes that round r + 1 marks (swept-byte), and answers how many. Where it is not 0, round r + 1 marked something,
 -- so there are r + 1 rounds that did, and never more than working nodes (round-bound): the loop ends. Settling makes 2 of each 1, and the table stands
 -- as after r + 1 rounds (round-done).
 --
--- The end: where the sweep answers 0, round r + 1 is quiet and r is the round count (end-rounds). Nothing was written, so the table still stands as
--- after r rounds (same). A node of byte 2 with a neighbour of byte 0 becomes 1, and the bytes are the labels (end-labels).
+-- The end: where the sweep answers 0, round r + 1 is quiet, r rounds marked something new (end-rounds), and r + 1 is the number of exchanges
+-- (end-exchanges). Nothing was written, so the table still stands as after r rounds (same). A node of byte 2 with a neighbour of byte 0 becomes 1, and
+-- the bytes are the labels (end-labels).
 use mathlib.Core.Path.{_≡_, sym, ap, _∙_}
 use mathlib.Core.Logic.{_⊎_, inl, inr, ⊎-elim}
 use mathlib.Core.Bool.{true, false, not, _||_}
@@ -23,14 +25,20 @@ use Rattle.cube.proofs.Count.{below-suc, none-counted}
 use Rattle.cube.proofs.Search.{some-same}
 use Rattle.cube.proofs.Cube.{flip-lt}
 use Rattle.cube.proofs.Front.{length-tab, getD-tab, tab-cong}
-use Rattle.rule.specs.Cabinet.{Cabinet, labelsOf, out, outByte, roundsOf, ruleOf}
-use Rattle.rule.specs.Rule.{quiet, working, safe, labelOf, label}
+use Rattle.rule.specs.Cabinet.{Cabinet, exchangesOf, labelsOf, out, outByte, ruleOf}
+use Rattle.rule.specs.Rule.{quiet, working, rounds, exchanges, safe, labelOf, label}
 use Rattle.rule.proofs.Cabinet.{out-high}
 use Rattle.rule.proofs.Rounds.{marked-suc, newly-says, loud-le, rounds-is}
 use Rattle.labels.specs.Passes.{plainIn, fresh, ordinary, oneWhere, settled}
 use Rattle.labels.proofs.Marking.{one-yes, one-no}
 use Rattle.labels.proofs.Standing.{marks, new, held, held-out, held-mark, held-plain, Stands, byte}
 use Rattle.labels.proofs.Standing.{Kind, is-out, is-mark, is-plain, kind, fresh-is, marks-are, mark-is, plain-is}
+
+-- where a turn begins: so many rounds are over, and the exchange that is counted last is under way
+pub record Turn (K : Cabinet) (l : List ℕ) (counted : ℕ) : Type 0 where
+  pub over : ℕ
+  pub next : counted ≡ over + 1
+  pub stands : Stands K l over
 
 settle-one : (l : List ℕ) (x : ℕ) → labelIn l x ≡ 1 → settled l x ≡ 2
 unfolding settled
@@ -45,8 +53,8 @@ module _ (K : Cabinet) (l : List ℕ) (r : ℕ) (T : Stands K l r) where
   n = K .n
 
   -- the last pass, where the rounds have come to rest
-  end-byte : roundsOf K ≡ r → (x : ℕ) → x < 2 ^ n → oneWhere (ordinary n l) l x ≡ label n (ruleOf K) (out K) (outByte K) x
-  unfolding roundsOf ordinary label labelOf safe oneWhere
+  end-byte : rounds n (ruleOf K) (out K) ≡ r → (x : ℕ) → x < 2 ^ n → oneWhere (ordinary n l) l x ≡ label n (ruleOf K) (out K) (outByte K) x
+  unfolding ordinary label labelOf safe oneWhere
   end-byte e x h = rw e (go (kind K l r T x h))
     where
       near : some n (λ i. plainIn l (flip i x)) ≡ some n (λ i. not (out K (flip i x) || marks K r (flip i x)))
@@ -121,10 +129,14 @@ module _ (K : Cabinet) (l : List ℕ) (r : ℕ) (T : Stands K l r) (k : ℕ) (ru
     -- ---- the end
 
     module _ (none-new : m ≡ 0) where
-      pub end-rounds : roundsOf K ≡ r
-      unfolding roundsOf quiet
+      end-rounds : rounds (K .n) (ruleOf K) (out K) ≡ r
+      unfolding quiet
       end-rounds =
           rounds-is (K .n) (ruleOf K) (out K) r (T .loud) (eq-eqb (count size (new K r)) 0 (sym (em ∙ marks-are K l r T k rule) ∙ none-new))
+
+      pub end-exchanges : exchangesOf K ≡ r + 1
+      unfolding exchangesOf exchanges
+      end-exchanges = ap (λ (z : ℕ). z + 1) end-rounds
 
       same : Stands K l₁ r
       same = record { table = e₁ ∙ tab-cong size swept (held K r) kept; loud = T .loud }

@@ -14,9 +14,9 @@ use Rattle.cube.specs.Tables.{isDimension, tableLen, unusedSet}
 use Rattle.cube.proofs.Bools.{by-cases, either}
 use Rattle.cube.proofs.Refusal.{first-le, first-none}
 use Rattle.cube.proofs.Tables.{dimension-is}
-use Rattle.rule.specs.Cabinet.{Cabinet, labelsOf, roundsOf}
+use Rattle.rule.specs.Cabinet.{Cabinet, exchangesOf, labelsOf}
 use Rattle.labels.specs.Labelling.{labelRefusal, labelTests, labelled, labelsAfter}
-use Rattle.labels.specs.declared.Labelled.the-variants.{Rounds, Refused}
+use Rattle.labels.specs.declared.Labelled.the-variants.{Exchanges, Refused}
 
 pub record Fitting (K : Cabinet) (m : ℕ) : Type 0 where
   pub dimension : isDimension (K .n) ≡ true
@@ -64,10 +64,10 @@ module _ (K : Cabinet) (before : List ℕ) where
   unfolding labelled labelsAfter
   says-refused k e h = let z = ne-eqb (labelRefusal K (length before)) 0 (λ q. h (e ∙ q)) in (rw z (ap Refused e), rw z)
 
-  pub says-rounds : (after : List ℕ) (k r : ℕ) → k ≡ labelRefusal K (length before) → k ≡ 0 → r ≡ roundsOf K → after ≡ labelsOf K
-      → (Rounds r ≡ labelled K (length before)) × (after ≡ labelsAfter K before)
+  pub says-exchanges : (after : List ℕ) (k r : ℕ) → k ≡ labelRefusal K (length before) → k ≡ 0 → r ≡ exchangesOf K → after ≡ labelsOf K
+      → (Exchanges r ≡ labelled K (length before)) × (after ≡ labelsAfter K before)
   unfolding labelled labelsAfter
-  says-rounds after k r e h er ea = let z = eq-eqb (labelRefusal K (length before)) 0 (sym e ∙ h) in (rw z (ap Rounds er), rw z ea)
+  says-exchanges after k r e h er ea = let z = eq-eqb (labelRefusal K (length before)) 0 (sym e ∙ h) in (rw z (ap Exchanges er), rw z ea)
 
 module _ (K : Cabinet) (m : ℕ) where
   pub of-refused : (k : ℕ) → labelled K m ≡ Refused k → (k ≡ labelRefusal K m) × (k ≡ 0 → ⊥)
@@ -76,16 +76,16 @@ module _ (K : Cabinet) (m : ℕ) where
     where
       go : (eqb (labelRefusal K m) 0 ≡ true) ⊎ (eqb (labelRefusal K m) 0 ≡ false) → labelled K m ≡ Refused k
           → (k ≡ labelRefusal K m) × (k ≡ 0 → ⊥)
-      go (inl a) h = let q : Rounds (roundsOf K) ≡ Refused k = rw a at h in let z : _≡_ {A = ℕ} 0 1 = cc in absurd (omega arith)
+      go (inl a) h = let q : Exchanges (exchangesOf K) ≡ Refused k = rw a at h in let z : _≡_ {A = ℕ} 0 1 = cc in absurd (omega arith)
       go (inr a) h =
           let q : Refused (labelRefusal K m) ≡ Refused k = rw a at h in
           let p : labelRefusal K m ≡ k = cc in
           (sym p, λ z. eqb-false (labelRefusal K m) 0 a (p ∙ z))
 
-  pub of-rounds : (r : ℕ) → labelled K m ≡ Rounds r → (labelRefusal K m ≡ 0) × (roundsOf K ≡ r)
+  pub of-exchanges : (r : ℕ) → labelled K m ≡ Exchanges r → (labelRefusal K m ≡ 0) × (exchangesOf K ≡ r)
   unfolding labelled
-  of-rounds r =
-      by-cases (λ a. a ≡ Rounds r → (labelRefusal K m ≡ 0) × (roundsOf K ≡ r)) (eqb (labelRefusal K m) 0)
+  of-exchanges r =
+      by-cases (λ a. a ≡ Exchanges r → (labelRefusal K m ≡ 0) × (exchangesOf K ≡ r)) (eqb (labelRefusal K m) 0)
       (λ z e. (eqb-true (labelRefusal K m) 0 z, cc)) (λ _ e. let q : _≡_ {A = ℕ} 0 1 = cc in absurd (omega arith))
 
 pub labels-written : (K : Cabinet) (before : List ℕ) → labelRefusal K (length before) ≡ 0 → labelsAfter K before ≡ labelsOf K

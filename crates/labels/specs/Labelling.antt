@@ -6,9 +6,9 @@ use lib.Dec.{eqb}
 use lib.ListN.{length}
 use Rattle.cube.specs.Refusal.{Test, first, _⇒_}
 use Rattle.cube.specs.Tables.{isDimension, tableLen, unusedSet}
-use Rattle.rule.specs.Cabinet.{Cabinet, labelsOf, roundsOf}
+use Rattle.rule.specs.Cabinet.{Cabinet, exchangesOf, labelsOf}
 use Rattle.labels.specs.declared.Labelled.{Labelled}
-use Rattle.labels.specs.declared.Labelled.the-variants.{Rounds, Refused}
+use Rattle.labels.specs.declared.Labelled.the-variants.{Exchanges, Refused}
 
 -- the refusals in order
 abbrev pub labelTests : (K : Cabinet) (m : ℕ) → List Test
@@ -22,9 +22,9 @@ labelTests K m =
 unfoldable pub labelRefusal : (K : Cabinet) (m : ℕ) → ℕ
 labelRefusal K m = first (labelTests K m)
 
--- the answer: the round count, or the refusal
+-- the answer: the number of exchanges, or the refusal
 unfoldable pub labelled : (K : Cabinet) (m : ℕ) → Labelled
-labelled K m = cond (eqb (labelRefusal K m) 0) (Rounds (roundsOf K)) (Refused (labelRefusal K m))
+labelled K m = cond (eqb (labelRefusal K m) 0) (Exchanges (exchangesOf K)) (Refused (labelRefusal K m))
 
 -- the label table afterwards: every byte written, or every byte kept
 unfoldable pub labelsAfter : (K : Cabinet) (before : List ℕ) → List ℕ
@@ -32,9 +32,9 @@ labelsAfter K before = cond (eqb (labelRefusal K (length before)) 0) (labelsOf K
 
 -- document 01's numbers for the cases; the kind is 0
 abbrev pub refusalOf : Labelled → ℕ
-refusalOf (Rounds r) = 0
+refusalOf (Exchanges e) = 0
 refusalOf (Refused k) = k
 
 abbrev pub valueOf : Labelled → ℕ
-valueOf (Rounds r) = r
+valueOf (Exchanges e) = e
 valueOf (Refused k) = 0

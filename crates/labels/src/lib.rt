@@ -7,7 +7,7 @@ ghost use Rattle.cube.specs.Cube.{flip};
 ghost use Rattle.cube.specs.Tables.{tab, tableLen};
 ghost use Rattle.labels.specs.Labelling.{labelRefusal, labelled, labelsAfter};
 ghost use Rattle.labels.specs.Passes.{NodeOf, Sized, countFrom, fresh, markIn, oneWhere, ordinary, outIn, plainIn, settled, started};
-ghost use Rattle.rule.specs.Cabinet.{cabinet, labelsOf, roundsOf, ruleOf};
+ghost use Rattle.rule.specs.Cabinet.{cabinet, exchangesOf, labelsOf, ruleOf};
 ghost use Rattle.rule.specs.Rule.{meets};
 ghost use lib.Dec.{eqb};
 ghost use lib.ListN.{length};
@@ -33,7 +33,7 @@ const OUT: u8 = 3; // this byte and every larger one: does not work
 const RULE: usize = 3; // so many neighbours that do not work or are marked make a node unsafe
 
 pub enum Labelled {
-    Rounds(usize),
+    Exchanges(usize),
     Refused(u32),
 }
 
@@ -204,29 +204,29 @@ fn finish(n: usize, labels: &mut [u8])
     }
 }
 
-// Labels every node of an accepted table and answers the number of rounds that marked something new.
+// Labels every node of an accepted table and answers the number of exchanges: each sweep is one, and the last is the first that marks nothing new.
 fn label_nodes(n: usize, rule: usize, faults: &[u8], labels: &mut [u8]) -> usize
     requires { ⌜ rule ≡ ruleOf (cabinet n (now faults)) ⌝ }
     requires { ⌜ length (now faults) ≡ tableLen n ⌝ }
     requires { ⌜ Sized n (now labels) ⌝ }
-    ensures rounds { λ r. ⌜ r ≡ roundsOf (cabinet n (now (faults .entry))) ⌝ }
+    ensures exchanges { λ r. ⌜ r ≡ exchangesOf (cabinet n (now (faults .entry))) ⌝ }
     ensures labels { λ r. ⌜ now (labels .exit) ≡ labelsOf (cabinet n (now (faults .entry))) ⌝ }
 {
     start(n, faults, labels);
-    let mut rounds: usize = 0;
+    let mut exchanges: usize = 1;
     loop {
         let marked = sweep(n, rule, labels);
         if marked == 0 {
             break;
         }
         settle(labels);
-        rounds = rounds + 1;
+        exchanges = exchanges + 1;
     }
     finish(n, labels);
-    rounds
+    exchanges
 }
 
-// Labels every node and answers the number of rounds that marked something new, or refuses and leaves the label table as it was.
+// Labels every node and answers the number of exchanges, the quiet one included, or refuses and leaves the label table as it was.
 pub fn label(n: usize, faults: &[u8], labels: &mut [u8]) -> Labelled
     ensures answer { λ r. ⌜ r ≡ labelled (cabinet n (now (faults .entry))) (length (now (labels .entry))) ⌝ }
     ensures labels { λ r. ⌜ now (labels .exit) ≡ labelsAfter (cabinet n (now (faults .entry))) (now (labels .entry)) ⌝ }
@@ -235,6 +235,6 @@ pub fn label(n: usize, faults: &[u8], labels: &mut [u8]) -> Labelled
     if refusal != 0 {
         return Labelled::Refused(refusal);
     }
-    let rounds = label_nodes(n, RULE, faults, labels);
-    Labelled::Rounds(rounds)
+    let exchanges = label_nodes(n, RULE, faults, labels);
+    Labelled::Exchanges(exchanges)
 }

@@ -21,9 +21,9 @@ labelCount labels k = count (length labels) (λ x. eqb (labelIn labels x) k)
 abbrev pub countsText : (labels : List ℕ) → List ℕ
 countsText labels = field " safe " (labelCount labels 0) ++ field " ordinary " (labelCount labels 1) ++ field " strong " (labelCount labels 2)
 
--- "First line: dimension, then counts of faulty, safe, ordinary, strong nodes, then rounds"
-unfoldable pub cubeLine : (n faulty : ℕ) (labels : List ℕ) (rounds : ℕ) → List ℕ
-cubeLine n faulty labels rounds = field "cube " n ++ field " faulty " faulty ++ countsText labels ++ field " rounds " rounds ++ text "\n"
+-- "First line: dimension, then counts of faulty, safe, ordinary, strong nodes, then rounds": after this word stands the number of exchanges
+unfoldable pub cubeLine : (n faulty : ℕ) (labels : List ℕ) (exchanges : ℕ) → List ℕ
+cubeLine n faulty labels exchanges = field "cube " n ++ field " faulty " faulty ++ countsText labels ++ field " rounds " exchanges ++ text "\n"
 
 -- "every node visited": the first k places of a row
 unfoldable pub rowText : (row : List ℕ) (k : ℕ) → List ℕ

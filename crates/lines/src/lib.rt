@@ -79,15 +79,15 @@ fn put_counts(out: &mut [u8], at: usize, labels: &[u8]) -> usize
     put_count(out, ordinary, b" strong ", labels, 2)
 }
 
-pub fn cube_line(n: usize, faulty: usize, labels: &[u8], rounds: usize, out: &mut [u8]) -> usize
+pub fn cube_line(n: usize, faulty: usize, labels: &[u8], exchanges: usize, out: &mut [u8]) -> usize
     requires { ⌜ length (now out) ≡ room ⌝ }
-    ensures line { λ r. ⌜ take r (now (out .exit)) ≡ cubeLine n faulty (now (labels .entry)) rounds ⌝ }
+    ensures line { λ r. ⌜ take r (now (out .exit)) ≡ cubeLine n faulty (now (labels .entry)) exchanges ⌝ }
     ensures near { λ r. ⌜ r ≤ room ⌝ }
 {
     let a = put_field(out, 0, b"cube ", n);
     let b = put_field(out, a, b" faulty ", faulty);
     let c = put_counts(out, b, labels);
-    let d = put_field(out, c, b" rounds ", rounds);
+    let d = put_field(out, c, b" rounds ", exchanges);
     put_text(out, d, b"\n")
 }
 

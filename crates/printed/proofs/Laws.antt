@@ -24,8 +24,8 @@ use Rattle.notice.specs.Notice.{addressesOf, dimensionAt, noticeFrom, noticeOf,
 use Rattle.notice.specs.Tests.{tested}
 use Rattle.notice.specs.declared.Noticed.the-variants.{Notice, Refused}
 use Rattle.notice.proofs.Outcomes.{tail-refused}
-use Rattle.rule.specs.Cabinet.{cabinet, labelsOf, roundsOf}
-use Rattle.rule.specs.Rule.{label, labelOf, marked, meets, newly, quiet, rounds, safe, working}
+use Rattle.rule.specs.Cabinet.{cabinet, exchangesOf, labelsOf}
+use Rattle.rule.specs.Rule.{exchanges, label, labelOf, marked, meets, newly, quiet, rounds, safe, working}
 use Rattle.scans.specs.Scans.{firstScan, lowest, suits, takes}
 use Rattle.walk.specs.Walk.{hops, last, onto, refused, row, spot, stops, turn, walkFrom, walkRefusal, walked}
 use Rattle.lines.specs.Lines.{cubeLine, inputRefused, noticeRefused, pairLine, rowText, tooLong}
@@ -51,17 +51,17 @@ labels-are : labelsOf (cabinet 4 (0x14 ∷ 0x81 ∷ [])) ≡ k4
 unfolding labelsOf label labelOf safe rounds working quiet newly meets marked count least some flip tab nodeBit bit
 labels-are = refl
 
-rounds-are : roundsOf (cabinet 4 (0x14 ∷ 0x81 ∷ [])) ≡ 2
-unfolding roundsOf rounds working quiet newly meets marked count least some flip tab nodeBit bit
-rounds-are = refl
+exchanges-are : exchangesOf (cabinet 4 (0x14 ∷ 0x81 ∷ [])) ≡ 3
+unfolding exchangesOf exchanges rounds working quiet newly meets marked count least some flip tab nodeBit bit
+exchanges-are = refl
 
-line-is : cubeLine 4 4 k4 2 ≡ text "cube 4 faulty 4 safe 7 ordinary 4 strong 1 rounds 2\n"
+line-is : cubeLine 4 4 k4 3 ≡ text "cube 4 faulty 4 safe 7 ordinary 4 strong 1 rounds 3\n"
 unfolding cubeLine count labelIn decimal width least
 line-is = refl
 
-head : headLine sampleBytes ≡ text "cube 4 faulty 4 safe 7 ordinary 4 strong 1 rounds 2\n"
+head : headLine sampleBytes ≡ text "cube 4 faulty 4 safe 7 ordinary 4 strong 1 rounds 3\n"
 unfolding headLine
-head = rw is-notice (rw table (ap₂ (cubeLine 4 4) labels-are rounds-are ∙ line-is))
+head = rw is-notice (rw table (ap₂ (cubeLine 4 4) labels-are exchanges-are ∙ line-is))
 
 labels : labelsIn sampleBytes ≡ k4
 unfolding labelsIn
@@ -151,8 +151,9 @@ none-table : cabinetOf (0x01 ∷ 0x00 ∷ 0x00 ∷ 0x81 ∷ []) 1 ≡ cabinet 1 
 unfolding addressesOf dimensionAt restAt tested first isDimension numberAt addressesEnd further addressesAt withBits withBit tableLen
 none-table = refl
 
-none-line : firstLine 0 (cabinet 1 (0 ∷ [])) ≡ text "cube 1 faulty 0 safe 2 ordinary 0 strong 0 rounds 0\n"
-unfolding cubeLine decimal width labelsOf roundsOf label labelOf safe rounds working quiet newly meets marked labelIn count least some flip tab nodeBit bit
+none-line : firstLine 0 (cabinet 1 (0 ∷ [])) ≡ text "cube 1 faulty 0 safe 2 ordinary 0 strong 0 rounds 1\n"
+unfolding cubeLine decimal width labelsOf exchangesOf label labelOf safe exchanges rounds working quiet newly meets marked labelIn count least some flip
+    tab nodeBit bit
 none-line = refl
 
 none-pair : (labels : List ℕ) → pairLines 4 1 labels (0x01 ∷ 0x00 ∷ 0x00 ∷ 0x81 ∷ []) 2 ≡ text "input refused 9 3\n"
@@ -160,7 +161,7 @@ unfolding pairLines lineAt lineFrom nextAt nextFrom numberAt decimal width least
 none-pair labels = refl
 
 sample-input : listing (0x01 ∷ 0x00 ∷ 0x00 ∷ 0x81 ∷ [])
-    ≡ text "cube 1 faulty 0 safe 2 ordinary 0 strong 0 rounds 0\n" ++ text "input refused 9 3\n"
+    ≡ text "cube 1 faulty 0 safe 2 ordinary 0 strong 0 rounds 1\n" ++ text "input refused 9 3\n"
 unfolding listing headLine tailAt
 sample-input = rw none-faulty (rw none-table (ap₂ (λ (x y : List ℕ). x ++ y) none-line (none-pair _)))
 

@@ -17,7 +17,7 @@ sampleBytes = 0x04 ∷ 0x04 ∷ 0x02 ∷ 0x01 ∷ 0x03 ∷ 0x06 ∷ 0x0D ∷ 0x0
 
 abbrev pub sampleLines : List ℕ
 sampleLines =
-    text "cube 4 faulty 4 safe 7 ordinary 4 strong 1 rounds 2\n"
+    text "cube 4 faulty 4 safe 7 ordinary 4 strong 1 rounds 3\n"
     ++ text "13 0 delivered 3 13 9 1 0\n"
     ++ text "6 0 delivered 4 6 7 5 1 0\n"
     ++ text "2 0 refused 6\n"
@@ -39,4 +39,4 @@ pub record ListingLaws : Type 0 where
   pub sample : listing sampleBytes ≡ sampleLines
   -- a notice whose second address is ill written; and a destination that is cut short, behind a notice of two bytes
   pub sample-notice : listing (0x04 ∷ 0x02 ∷ 0x03 ∷ 0x81 ∷ 0x00 ∷ []) ≡ text "notice refused 10 3\n"
-  pub sample-input : listing (0x01 ∷ 0x00 ∷ 0x00 ∷ 0x81 ∷ []) ≡ text "cube 1 faulty 0 safe 2 ordinary 0 strong 0 rounds 0\n" ++ text "input refused 9 3\n"
+  pub sample-input : listing (0x01 ∷ 0x00 ∷ 0x00 ∷ 0x81 ∷ []) ≡ text "cube 1 faulty 0 safe 2 ordinary 0 strong 0 rounds 1\n" ++ text "input refused 9 3\n"

@@ -10,7 +10,7 @@ use Rattle.groups.specs.Number.{numberAt, onNumber}
 use Rattle.lines.specs.Lines.{cubeLine, inputRefused, noticeRefused, pairLine, room, tooLong}
 use Rattle.notice.specs.Addresses.{withBits}
 use Rattle.notice.specs.Notice.{addressesOf, dimensionAt, dimensionOf, noticeOf, onNoticed, tailAt}
-use Rattle.rule.specs.Cabinet.{Cabinet, cabinet, labelsOf, roundsOf}
+use Rattle.rule.specs.Cabinet.{Cabinet, cabinet, exchangesOf, labelsOf}
 use Rattle.walk.specs.Walk.{rowBytes, walked}
 use Rattle.walk.specs.declared.Walked.{Walked}
 use Rattle.printed.specs.declared.Head.{Head}
@@ -30,7 +30,7 @@ unfoldable pub labelsIn : List ℕ → List ℕ
 labelsIn s = onNoticed (noticeOf s) (λ k at. []) (λ n m taken. labelsOf (cabinetOf s n))
 
 abbrev pub firstLine : (faulty : ℕ) → Cabinet → List ℕ
-firstLine faulty K = cubeLine (K .n) faulty (labelsOf K) (roundsOf K)
+firstLine faulty K = cubeLine (K .n) faulty (labelsOf K) (exchangesOf K)
 
 -- "A refused notice prints only `notice refused K`", with the place as a last field
 unfoldable pub headLine : List ℕ → List ℕ

@@ -58,10 +58,10 @@ fn first_line(n: usize, faulty: usize, faults: &[u8], labels: &mut [u8], out: &m
     ensures labels { λ r. ⌜ now (labels .exit) ≡ labelsOf (cabinet n (now (faults .entry))) ⌝ }
 {
     let labelled = labels::label(n, faults, labels);
-    let Labelled::Rounds(rounds) = labelled else {
+    let Labelled::Exchanges(exchanges) = labelled else {
         return 0;
     };
-    cube_line(n, faulty, labels, rounds, out)
+    cube_line(n, faulty, labels, exchanges, out)
 }
 
 // The line of the notice, with a fault table of the length that it asks for.

@@ -50,17 +50,17 @@ module _ (bytes before : List ℕ) where
   c-reads = may hcube.read-notice two (lend bytes, (lend before, tt)) (noticeNumber x) (lend bytes, (lend table, tt)) (refl, refl)
 
 module _ (K : Cabinet) (before : List ℕ) where
-  abbrev rounds : Labelled
-  rounds = labelled K (length before)
+  abbrev answer : Labelled
+  answer = labelled K (length before)
 
   abbrev after : List ℕ
   after = labelsAfter K before
 
-  labels : May labels-crate.label (K .n, K .faults, before) rounds after
-  labels = may labels-crate.label two (K .n, (lend (K .faults), (lend before, tt))) rounds (K .n, (lend (K .faults), (lend after, tt))) (refl, refl)
+  labels : May labels-crate.label (K .n, K .faults, before) answer after
+  labels = may labels-crate.label two (K .n, (lend (K .faults), (lend before, tt))) answer (K .n, (lend (K .faults), (lend after, tt))) (refl, refl)
 
-  c-labels : May hcube.label (K .n, K .faults, before) (labelNumber rounds) after
-  c-labels = may hcube.label two (K .n, (lend (K .faults), (lend before, tt))) (labelNumber rounds) (K .n, (lend (K .faults), (lend after, tt))) (refl, refl)
+  c-labels : May hcube.label (K .n, K .faults, before) (labelNumber answer) after
+  c-labels = may hcube.label two (K .n, (lend (K .faults), (lend before, tt))) (labelNumber answer) (K .n, (lend (K .faults), (lend after, tt))) (refl, refl)
 
 module _ (n a b : ℕ) (l : List ℕ) where
   abbrev decided : Hopped

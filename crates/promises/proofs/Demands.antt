@@ -6,7 +6,7 @@ use Prim.Native.Nat.{ℕ, _+_, _^_, _<_}
 use lib.ListN.{length, replicate}
 use Rattle.cube.specs.Cube.{flip}
 use Rattle.cube.specs.Tables.{labelIn}
-use Rattle.rule.specs.Cabinet.{Cabinet, cabinet, labelsOf, roundsOf}
+use Rattle.rule.specs.Cabinet.{Cabinet, cabinet, exchangesOf, labelsOf}
 use Rattle.notice.specs.Laws.{TableOf}
 use Rattle.notice.specs.Notice as N
 use Rattle.notice.specs.declared.Noticed.the-variants as noticed
@@ -14,7 +14,7 @@ use Rattle.notice.proofs.Laws.{notice-laws}
 use Rattle.labels.specs.Labelling as L
 use Rattle.labels.specs.declared.Labelled.{Labelled}
 use Rattle.labels.specs.declared.Labelled.the-variants as labelled
-use Rattle.labels.proofs.Refusal.{fits, fitting, labels-written, of-rounds}
+use Rattle.labels.proofs.Refusal.{fits, fitting, labels-written, of-exchanges}
 use Rattle.hop.specs.Hop as H
 use Rattle.hop.specs.declared.Hopped.{Hopped}
 use Rattle.hop.specs.declared.Decision.the-variants.{Deliver, Hop, Halted}
@@ -42,41 +42,43 @@ use Rattle.promises.proofs.Refusals.{refusals}
 module _ (lib : Library) (F : Faithful lib) where
   -- ---- what labelling left
 
-  record Left (K : Cabinet) (rounds : ℕ) (table : List ℕ) : Type 0 where
+  record Left (K : Cabinet) (exchanges : ℕ) (table : List ℕ) : Type 0 where
     accepted : Accepted K
-    count : roundsOf K ≡ rounds
+    count : exchangesOf K ≡ exchanges
     bytes : labelsOf K ≡ table
 
-  left : {K : Cabinet} {before table : List ℕ} {rounds : ℕ} → lib .labels K before (labelled.Rounds rounds) table → Left K rounds table
-  left {K} {before} {table} {rounds} m =
+  left : {K : Cabinet} {before table : List ℕ} {exchanges : ℕ} → lib .labels K before (labelled.Exchanges exchanges) table → Left K exchanges table
+  left {K} {before} {table} {exchanges} m =
       let f = F .labels m in
-      let o = of-rounds K (length before) rounds (sym (f .0)) in
+      let o = of-exchanges K (length before) exchanges (sym (f .0)) in
       record {
         accepted = subst (λ (k : ℕ). L.labelRefusal K k ≡ 0) (fitting K (length before) (o .0) .labels) (o .0);
         count = o .1;
         bytes = sym (f .1 ∙ labels-written K before (o .0));
       }
 
-  labels : {K : Cabinet} {before table : List ℕ} {rounds : ℕ} → lib .labels K before (labelled.Rounds rounds) table → Demand2 K (labelIn table) rounds
-  labels {K} {before} {table} {rounds} m =
+  labels :
+      {K : Cabinet} {before table : List ℕ} {exchanges : ℕ} → lib .labels K before (labelled.Exchanges exchanges) table
+      → Demand2 K (labelIn table) exchanges
+  labels {K} {before} {table} {exchanges} m =
       let l = left m in
-      subst (Demand2 K (labelIn table)) (l .count) (subst (λ (t : List ℕ). Demand2 K (labelIn t) (roundsOf K)) (l .bytes) (demand2 K))
+      subst (Demand2 K (labelIn table)) (l .count) (subst (λ (t : List ℕ). Demand2 K (labelIn t) (exchangesOf K)) (l .bytes) (demand2 K))
 
   notice-labels :
       {bytes faults before after old : List ℕ} {n m taken : ℕ} {x : Labelled} → lib .reads bytes old (noticed.Notice n m taken) faults
-      → length before ≡ 2 ^ n → lib .labels (cabinet n faults) before x after → (rounds : ℕ) × (x ≡ labelled.Rounds rounds)
+      → length before ≡ 2 ^ n → lib .labels (cabinet n faults) before x after → (exchanges : ℕ) × (x ≡ labelled.Exchanges exchanges)
   notice-labels {bytes} {faults} {before} {after} {old} {n} {m} {taken} {x} r long l =
       let f = F .reads r in
       let d = notice-laws .accepted bytes old n m taken (sym (f .0)) .dimension in
       let t = subst (TableOf n m (N.addressesOf bytes)) (sym (f .1)) (notice-laws .written bytes old n m taken (sym (f .0))) in (
-        roundsOf (cabinet n faults),
+        exchangesOf (cabinet n faults),
         F .labels l .0 ∙ answered (cabinet n faults) (length before) (fits (cabinet n faults) (length before) d (t .sized) (t .unused) long),
       )
 
   walks :
-      {K : Cabinet} {before table : List ℕ} {rounds s d : ℕ} {w : Walked} → lib .labels K before (labelled.Rounds rounds) table → Works K s → Works K d
+      {K : Cabinet} {before table : List ℕ} {exchanges s d : ℕ} {w : Walked} → lib .labels K before (labelled.Exchanges exchanges) table → Works K s → Works K d
       → lib .walks (K .n) s d table W.rowBytes w → Walks K (labelIn table) s d w
-  walks {K} {before} {table} {rounds} {s} {d} {w} m hs hd v =
+  walks {K} {before} {table} {exchanges} {s} {d} {w} m hs hd v =
       let l = left m in
       subst (Walks K (labelIn table) s d) (sym (F .walks v))
       (subst (λ (t : List ℕ). Walks K (labelIn t) s d (W.walked (K .n) s d (length t) W.rowBytes (labelIn t))) (l .bytes)

@@ -125,7 +125,7 @@ module _ {n s d r : ℕ} {table before after : List ℕ} (m : May hcube.walk (n,
 pub in-c : InC
 in-c =
     record {
-      label-rounds = λ {n} {r} m v. let e = label-same m v in omega arith;
+      label-exchanges = λ {n} {r} m v. let e = label-same m v in omega arith;
       label-refuses = λ {n} {r} m v. let e = label-same m v in omega arith;
       hop-delivers = λ m v. hop-same m v;
       hop-hops = λ m v. hop-same m v;

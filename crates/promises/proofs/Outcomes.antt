@@ -7,7 +7,7 @@ use lib.Dec.{eqb}
 use lib.ListN.{length}
 use borrow.Author.Tests.{eqb-true, ne-eqb}
 use Rattle.cube.proofs.Bools.{by-cases}
-use Rattle.rule.specs.Cabinet.{Cabinet, roundsOf}
+use Rattle.rule.specs.Cabinet.{Cabinet, exchangesOf}
 use Rattle.labels.specs.Labelling.{labelRefusal, labelled, labelsAfter}
 use Rattle.labels.specs.declared.Labelled.the-variants as labelled
 use Rattle.labels.proofs.Refusal.{of-refused}
@@ -28,7 +28,7 @@ labels-kept K before k e =
     let r = of-refused K (length before) k e in
     rw (ne-eqb (labelRefusal K (length before)) 0 (λ z. r .1 (r .0 ∙ z)))
 
-pub answered : (K : Cabinet) (m : ℕ) → labelRefusal K m ≡ 0 → labelled K m ≡ labelled.Rounds (roundsOf K)
+pub answered : (K : Cabinet) (m : ℕ) → labelRefusal K m ≡ 0 → labelled K m ≡ labelled.Exchanges (exchangesOf K)
 unfolding labelled
 answered K m e = rw e
 

@@ -3,6 +3,7 @@ use Rattle.cube.proofs.Laws.{cube-laws}
 use Rattle.groups.proofs.Laws.{number-laws}
 use Rattle.notice.proofs.Laws.{notice-laws}
 use Rattle.reader.proofs.Laws.{reader-laws}
+use Rattle.rule.proofs.Exchanges.{exchanged}
 use Rattle.rule.proofs.Good.{labels-good}
 use Rattle.rule.proofs.Largest.{safe-largest}
 use Rattle.rule.proofs.Rounds.{marks, rested}
@@ -43,6 +44,7 @@ promises =
       demand3 = demand3;
       largest = safe-largest;
       rested = rested;
+      exchanged = exchanged;
       good = labels-good;
       progress = scans-progress;
       refusals = refusals;

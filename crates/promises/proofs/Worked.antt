@@ -1,21 +1,26 @@
 -- The worked numbers: the definitions computed. The labels are computed once for each cube, and the walks from the computed labels.
+use mathlib.Core.Bool.{true, false}
 use mathlib.Core.List.{List, [], _∷_}
 use mathlib.Core.Path.{_≡_, refl, ap, _∙_}
-use Prim.Native.Nat.{ℕ}
+use Prim.Native.Nat.{ℕ, _^_, _<_}
+use native.Mathlib.Omega.{arith}
 use lib.Count.{ones}
 use Rattle.cube.specs.Count.{count, least, some}
 use Rattle.cube.specs.Cube.{bit, flip, apart, dist}
 use Rattle.cube.specs.Refusal.{first}
 use Rattle.cube.specs.Tables.{tab, isDimension, tableLen, nodeBit, unusedSet, labelIn}
-use Rattle.rule.specs.Cabinet.{Cabinet, labelsOf, roundsOf}
-use Rattle.rule.specs.Rule.{meets, newly, marked, quiet, working, rounds, safe, labelOf, label}
+use Rattle.rule.specs.Cabinet.{Cabinet, exchangesOf, labelsOf, out, ruleOf}
+use Rattle.rule.specs.Rule.{meets, newly, marked, quiet, working, rounds, exchanges, safe, labelOf, label}
 use Rattle.scans.specs.Scans.{suits, takes, lowest, firstScan}
+use Rattle.rule.proofs.Exchanges.{exchanged}
 use Rattle.labels.specs.Labelling.{labelRefusal, labelled}
+use Rattle.labels.specs.declared.Labelled.the-variants.{Exchanges}
 use Rattle.hop.specs.Hop.{answer, decide, hop}
 use Rattle.walk.specs.Walk.{onto, stops, spot, turn, hops, last, row, rowBytes, refused, walkFrom, walkRefusal, walked}
 use Rattle.walk.specs.declared.Walked.{Walked}
 use Rattle.theorems.specs.Words.{walkOf}
 use Rattle.promises.specs.Worked.{k4, q3, those, visited, Worked}
+use Rattle.promises.proofs.Outcomes.{answered}
 use lib.ListN.{length}
 
 k4-labels : labelsOf k4 ≡ 1 ∷ 0 ∷ 3 ∷ 0 ∷ 3 ∷ 0 ∷ 1 ∷ 0 ∷ 3 ∷ 0 ∷ 1 ∷ 0 ∷ 1 ∷ 0 ∷ 2 ∷ 3 ∷ []
@@ -31,10 +36,19 @@ on : {w : Walked} (K : Cabinet) (s d : ℕ) (labels : List ℕ) → labelsOf K �
     → walkOf K s d ≡ w
 on K s d labels e f = ap (λ (l : List ℕ). walked (K .n) s d (length l) rowBytes (labelIn l)) e ∙ f
 
+module _ (K : Cabinet) (m : ℕ) (accepted : labelRefusal K m ≡ 0) where
+  no-faults : ((x : ℕ) → x < 2 ^ K .n → out K x ≡ false) → labelled K m ≡ Exchanges 1
+  unfolding exchangesOf
+  no-faults f = answered K m accepted ∙ ap Exchanges (exchanged (K .n) (ruleOf K) (out K) .no-faults (omega arith) f)
+
+  all-faulty : ((x : ℕ) → x < 2 ^ K .n → out K x ≡ true) → labelled K m ≡ Exchanges 1
+  unfolding exchangesOf
+  all-faulty f = answered K m accepted ∙ ap Exchanges (exchanged (K .n) (ruleOf K) (out K) .none-works f)
+
 pub worked : Worked
 unfolding those visited walked walkRefusal walkFrom refused first row last hops turn spot stops onto hop decide answer firstScan lowest takes suits apart dist
-    ones labelIn tab isDimension tableLen unusedSet nodeBit bit flip some least count labelled labelRefusal roundsOf labelsOf label labelOf safe rounds
-    working quiet newly meets marked
+    ones labelIn tab isDimension tableLen unusedSet nodeBit bit flip some least count labelled labelRefusal exchangesOf exchanges labelsOf label labelOf safe
+    rounds working quiet newly meets marked
 worked =
     record {
       table-bytes = refl;
@@ -42,7 +56,7 @@ worked =
       k4-faulty = refl;
       k4-round1 = refl;
       k4-round2 = refl;
-      k4-rounds = refl;
+      k4-exchanges = refl;
       k4-labels = k4-labels;
       k4-strong = refl;
       k4-13-0 = on k4 13 0 _ k4-labels refl;
@@ -52,9 +66,11 @@ worked =
       k4-10-10 = on k4 10 10 _ k4-labels refl;
       q3-faulty = refl;
       q3-safe = refl;
-      q3-rounds = refl;
+      q3-exchanges = refl;
       q3-0-7 = on q3 0 7 _ q3-labels refl;
       q3-7-0 = on q3 7 0 _ q3-labels refl;
       q3-7-3 = on q3 7 3 _ q3-labels refl;
+      no-faults = no-faults;
+      all-faulty = all-faulty;
       one-safe = refl;
     }

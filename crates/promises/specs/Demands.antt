@@ -57,8 +57,11 @@ pub record Demands (lib : Library) : Type 0 where
   -- ---- 2. The labels are the paper's
 
   -- all 2^n label bytes are written
-  pub labels-written : {K : Cabinet} {before after : List ℕ} {rounds : ℕ} → lib .labels K before (labelled.Rounds rounds) after → after ≡ labelsOf K
-  pub labels : {K : Cabinet} {before after : List ℕ} {rounds : ℕ} → lib .labels K before (labelled.Rounds rounds) after → Demand2 K (labelIn after) rounds
+  pub labels-written :
+      {K : Cabinet} {before after : List ℕ} {exchanges : ℕ} → lib .labels K before (labelled.Exchanges exchanges) after → after ≡ labelsOf K
+  pub labels :
+      {K : Cabinet} {before after : List ℕ} {exchanges : ℕ} → lib .labels K before (labelled.Exchanges exchanges) after
+      → Demand2 K (labelIn after) exchanges
   -- the next hop is the one that Algorithm ROUTE picks,
   pub hop : {n c d : ℕ} {table : List ℕ} {x : Decision} → lib .hops n c d table (hopped.Decided x) → Picked n (labelIn table) c d x
   -- from a node's label and its neighbours' labels: no other byte matters, for the refusals too
@@ -70,10 +73,10 @@ pub record Demands (lib : Library) : Type 0 where
   -- labelling accepts the table that an accepted notice left
   pub notice-labels :
       {bytes faults before after old : List ℕ} {n m taken : ℕ} {x : Labelled} → lib .reads bytes old (noticed.Notice n m taken) faults
-      → length before ≡ 2 ^ n → lib .labels (cabinet n faults) before x after → (rounds : ℕ) × (x ≡ labelled.Rounds rounds)
+      → length before ≡ 2 ^ n → lib .labels (cabinet n faults) before x after → (exchanges : ℕ) × (x ≡ labelled.Exchanges exchanges)
   -- with the labels that labelling left, and two working nodes
   pub walks :
-      {K : Cabinet} {before table : List ℕ} {rounds s d : ℕ} {w : Walked} → lib .labels K before (labelled.Rounds rounds) table → Works K s → Works K d
+      {K : Cabinet} {before table : List ℕ} {exchanges s d : ℕ} {w : Walked} → lib .labels K before (labelled.Exchanges exchanges) table → Works K s → Works K d
       → lib .walks (K .n) s d table W.rowBytes w → Walks K (labelIn table) s d w
   -- on every table that the walk accepts it starts at the source and repeats the hop question: at each place but the last the answer is a hop, and the next
   -- place is across it;

@@ -21,10 +21,10 @@ use Rattle.hcube.proofs.Functions as hcube
 
 pub record InC : Type 0 where
   -- "to C each answers one number: refusal × 16,777,216 + kind × 65,536 + value": that of the answer that the library's own function gives.
-  -- "Labelling: kind 0, value is the round count"
-  pub label-rounds :
+  -- "Labelling: kind 0, value is the round count", which is the number of exchanges now
+  pub label-exchanges :
       {n r v : ℕ} {faults before after after′ : List ℕ} → May hcube.label (n, faults, before) r after
-      → May labels.label (n, faults, before) (labelled.Rounds v) after′ → r ≡ v
+      → May labels.label (n, faults, before) (labelled.Exchanges v) after′ → r ≡ v
   pub label-refuses :
       {n r k : ℕ} {faults before after after′ : List ℕ} → May hcube.label (n, faults, before) r after
       → May labels.label (n, faults, before) (labelled.Refused k) after′ → r ≡ k * 16777216

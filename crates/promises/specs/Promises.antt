@@ -5,8 +5,9 @@ use Rattle.cube.specs.Laws.{CubeLaws}
 use Rattle.groups.specs.Laws.{NumberLaws}
 use Rattle.notice.specs.Laws.{NoticeLaws}
 use Rattle.reader.specs.Laws.{ReaderLaws}
-use Rattle.rule.specs.Cabinet.{Cabinet, roundsOf}
+use Rattle.rule.specs.Cabinet.{Cabinet, exchangesOf}
 use Rattle.rule.specs.Closed.{Largest}
+use Rattle.rule.specs.Exchanges.{Exchanges}
 use Rattle.rule.specs.Good.{LabelsGood}
 use Rattle.rule.specs.Rounds.{Marks, Rested}
 use Rattle.scans.specs.Hit.{TableHits}
@@ -44,10 +45,11 @@ pub record Promises : Type 2 where
   pub in-rattle : InRattle
   pub decodes : Decodes
   -- demands 2 and 3 of the definitions, and what they rest on
-  pub demand2 : (K : Cabinet) → Demand2 K (labelAt K) (roundsOf K)
+  pub demand2 : (K : Cabinet) → Demand2 K (labelAt K) (exchangesOf K)
   pub demand3 : Demand3
   pub largest : (n k : ℕ) (F : ℕ → Bool) → Largest n k F
   pub rested : (n k : ℕ) (F : ℕ → Bool) → Rested n k F
+  pub exchanged : (n k : ℕ) (F : ℕ → Bool) → Exchanges n k F
   pub good : LabelsGood
   pub progress : ScansProgress
   -- document 01's words

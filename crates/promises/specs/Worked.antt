@@ -1,15 +1,16 @@
--- The numbers of document 01 that are proved of the definitions. k4 is n = 4 with faulty 2, 4, 8, 15; q3 is n = 3 with faulty 1, 2, 4.
-use mathlib.Core.Bool.{Bool, true, cond}
+-- The numbers of document 01 that are proved of the definitions, with the counts of document 02's request A3. k4 is n = 4 with faulty 2, 4, 8, 15; q3 is
+-- n = 3 with faulty 1, 2, 4.
+use mathlib.Core.Bool.{Bool, true, false, cond}
 use mathlib.Core.List.{List, [], _∷_, _++_}
 use mathlib.Core.Path.{_≡_}
-use Prim.Native.Nat.{ℕ, zero, suc}
+use Prim.Native.Nat.{ℕ, zero, suc, _^_, _<_}
 use lib.Dec.{eqb}
 use lib.ListN.{replicate}
 use Rattle.cube.specs.Tables.{nodeBit}
 use Rattle.rule.specs.Cabinet.{Cabinet, cabinet, labelsOf, out}
 use Rattle.rule.specs.Rule.{marked, safe}
-use Rattle.labels.specs.Labelling.{labelled}
-use Rattle.labels.specs.declared.Labelled.the-variants.{Rounds}
+use Rattle.labels.specs.Labelling.{labelRefusal, labelled}
+use Rattle.labels.specs.declared.Labelled.the-variants.{Exchanges}
 use Rattle.walk.specs.declared.Ending.{Ending}
 use Rattle.walk.specs.declared.Ending.the-variants.{Delivered, Halted}
 use Rattle.walk.specs.declared.Walked.{Walked}
@@ -37,7 +38,7 @@ pub record Worked : Type 0 where
   pub k4-faulty : those 16 (out k4) ≡ 2 ∷ 4 ∷ 8 ∷ 15 ∷ []
   pub k4-round1 : those 16 (marked 4 3 (out k4) 1) ≡ 0 ∷ 6 ∷ 10 ∷ 12 ∷ []
   pub k4-round2 : those 16 (marked 4 3 (out k4) 2) ≡ 0 ∷ 6 ∷ 10 ∷ 12 ∷ 14 ∷ []
-  pub k4-rounds : labelled k4 16 ≡ Rounds 2
+  pub k4-exchanges : labelled k4 16 ≡ Exchanges 3
   -- its label table, byte by byte
   pub k4-labels : labelsOf k4 ≡ 1 ∷ 0 ∷ 3 ∷ 0 ∷ 3 ∷ 0 ∷ 1 ∷ 0 ∷ 3 ∷ 0 ∷ 1 ∷ 0 ∷ 1 ∷ 0 ∷ 2 ∷ 3 ∷ []
   pub k4-strong : those 16 (λ x. eqb (labelAt k4 x) 2) ≡ 14 ∷ []
@@ -48,8 +49,13 @@ pub record Worked : Type 0 where
   pub k4-10-10 : walkOf k4 10 10 ≡ visited (10 ∷ []) 0 16 Delivered
   pub q3-faulty : those 8 (out q3) ≡ 1 ∷ 2 ∷ 4 ∷ []
   pub q3-safe : those 8 (safe 3 3 (out q3)) ≡ []
-  pub q3-rounds : labelled q3 8 ≡ Rounds 2
+  pub q3-exchanges : labelled q3 8 ≡ Exchanges 3
   pub q3-0-7 : walkOf q3 0 7 ≡ visited (0 ∷ []) 0 16 Halted
   pub q3-7-0 : walkOf q3 7 0 ≡ visited (7 ∷ 6 ∷ []) 1 15 Halted
   pub q3-7-3 : walkOf q3 7 3 ≡ visited (7 ∷ 3 ∷ []) 1 15 Delivered
+  -- one exchange, the quiet one, where no node is faulty and where every node is
+  pub no-faults :
+      (K : Cabinet) (m : ℕ) → labelRefusal K m ≡ 0 → ((x : ℕ) → x < 2 ^ K .n → out K x ≡ false) → labelled K m ≡ Exchanges 1
+  pub all-faulty :
+      (K : Cabinet) (m : ℕ) → labelRefusal K m ≡ 0 → ((x : ℕ) → x < 2 ^ K .n → out K x ≡ true) → labelled K m ≡ Exchanges 1
   pub one-safe : safe 1 3 (out (cabinet 1 (1 ∷ []))) 1 ≡ true

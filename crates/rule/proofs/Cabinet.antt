@@ -7,12 +7,13 @@ use native.Mathlib.Omega.{arith}
 use lib.ListN.{length}
 use Rattle.cube.specs.Tables.{highest, labelIn}
 use Rattle.cube.proofs.Front.{length-tab, getD-tab}
-use Rattle.rule.specs.Cabinet.{Cabinet, labelsOf, out, outByte, roundsOf, ruleOf}
+use Rattle.rule.specs.Cabinet.{Cabinet, exchangesOf, labelsOf, out, outByte, ruleOf}
 use Rattle.rule.specs.Good.{Good}
 use Rattle.rule.specs.Rule.{label, safe}
 use Rattle.rule.proofs.Bytes.{bytes-le}
+use Rattle.rule.proofs.Exchanges.{exchanged}
 use Rattle.rule.proofs.Good.{good-same, labels-good}
-use Rattle.rule.proofs.Rounds.{rounds-le, working-few}
+use Rattle.rule.proofs.Rounds.{working-few}
 
 module _ (K : Cabinet) where
   abbrev labelled : ℕ → ℕ
@@ -40,7 +41,7 @@ module _ (K : Cabinet) where
       good-same (K .n) labelled (labelIn (labelsOf K)) (λ x h. sym (label-in x h))
       (labels-good (K .n) (ruleOf K) (out K) (outByte K) out-high (omega arith))
 
-  -- at most as many rounds as a cube of 12 dimensions has nodes
-  pub rounds-few : K .n ≤ 12 → roundsOf K ≤ 4096
-  unfolding roundsOf
-  rounds-few h = omega (arith, rounds-le (K .n) (ruleOf K) (out K), working-few (K .n) (out K) h)
+  -- at most as many exchanges as a cube of 12 dimensions has nodes, and one more
+  pub exchanges-few : K .n ≤ 12 → exchangesOf K ≤ 4097
+  unfolding exchangesOf
+  exchanges-few h = omega (arith, exchanged (K .n) (ruleOf K) (out K) .ceiling, working-few (K .n) (out K) h)

@@ -1,4 +1,5 @@
 pub mod Rounds
+pub mod Exchanges
 pub mod Largest
 pub mod Bytes
 pub mod Good

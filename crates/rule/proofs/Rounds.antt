@@ -16,7 +16,7 @@ use Rattle.cube.proofs.Count.{count-bound, count-le, count-same, count-sum, cou
 use Rattle.cube.proofs.Cube.{flip-lt}
 use Rattle.cube.proofs.Search.{find, the-least, least-is}
 use Rattle.cube.proofs.Tables.{nodes-few}
-use Rattle.rule.specs.Rounds.{Marks, Rested, Unsafe}
+use Rattle.rule.specs.Rounds.{BringsNothing, Marks, Rested, Unsafe}
 use Rattle.rule.specs.Rule.{meets, newly, marked, quiet, working, rounds}
 
 -- the rule looks at the neighbours alone
@@ -111,7 +111,7 @@ module _ (n k : ℕ) (F : ℕ → Bool) where
           (omega (arith, one-each (rounds n k F) rounds-first, bounded (suc (rounds n k F)), grows (rounds n k F)))
 
   -- a round that marks nothing new leaves the marks as they are,
-  quiet-same : (r : ℕ) → quiet n k F r ≡ true → (x : ℕ) → x < 2 ^ n → marked n k F (suc r) x ≡ marked n k F r x
+  quiet-same : (r : ℕ) → quiet n k F r ≡ true → BringsNothing n k F r
   unfolding quiet
   quiet-same r q x h =
       let new = newly n k F (marked n k F r) in
@@ -155,13 +155,13 @@ module _ (n k : ℕ) (F : ℕ → Bool) where
             let a = and-true (not (F (m .0))) (not (marked n k F r (m .0)) && meets n k F (marked n k F r) (m .0)) (m .2) in
             let b = and-true (not (marked n k F r (m .0))) (meets n k F (marked n k F r) (m .0)) (a .1) in
             (m .0, m .1, not-true _ (b .0), marked-suc r (m .0) ∙ or-right (marked n k F r (m .0)) (m .2));
-        still = λ r x h l. quiet-same r (quiet-on r h) x l;
+        still = λ r h. quiet-same r (quiet-on r h);
         ceiling = rounds-le;
       }
 
   -- ---- document 01's words
 
-  meets-says : (m : ℕ → Bool) (x : ℕ) → (meets n k F m x ≡ true) ↔ Unsafe n k F m x
+  pub meets-says : (m : ℕ → Bool) (x : ℕ) → (meets n k F m x ≡ true) ↔ Unsafe n k F m x
   unfolding meets
   meets-says m x = (said, given)
     where

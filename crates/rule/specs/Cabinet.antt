@@ -4,7 +4,7 @@ use mathlib.Core.Bool.{Bool}
 use mathlib.Core.List.{List}
 use Prim.Native.Nat.{ℕ, _^_}
 use Rattle.cube.specs.Tables.{nodeBit, tab}
-use Rattle.rule.specs.Rule.{label, rounds}
+use Rattle.rule.specs.Rule.{exchanges, label}
 
 pub record Cabinet : Type 0 where
   -- the dimension
@@ -27,9 +27,9 @@ out K = nodeBit (K .faults)
 abbrev pub outByte : Cabinet → ℕ → ℕ
 outByte K x = 3
 
--- the number of rounds, and the label bytes of all nodes
-unfoldable pub roundsOf : Cabinet → ℕ
-roundsOf K = rounds (K .n) (ruleOf K) (out K)
+-- the number of exchanges, and the label bytes of all nodes
+unfoldable pub exchangesOf : Cabinet → ℕ
+exchangesOf K = exchanges (K .n) (ruleOf K) (out K)
 
 unfoldable pub labelsOf : Cabinet → List ℕ
 labelsOf K = tab (2 ^ K .n) (label (K .n) (ruleOf K) (out K) (outByte K))

@@ -1,4 +1,4 @@
--- The rounds in document 01's words, that they come to rest, and that the round count says when. Proved in proofs/Rounds.antt.
+-- The rounds in document 01's words, that they come to rest, and that `rounds` says when. Proved in proofs/Rounds.antt.
 use mathlib.Core.Bool.{Bool, true, false, _||_}
 use mathlib.Core.Logic.{_⊎_, _↔_}
 use mathlib.Core.Path.{_≡_}
@@ -17,10 +17,18 @@ pub record Marks (n k : ℕ) (F : ℕ → Bool) : Type 0 where
   -- "Round r + 1 marks each working node that meets the rule with the marks of round r", and the marks stay
   pub next : (r x : ℕ) → (marked n k F (suc r) x ≡ true) ↔ ((marked n k F r x ≡ true) ⊎ ((F x ≡ false) × Unsafe n k F (marked n k F r) x))
 
+-- round r + 1 brings something new: it marks some node that had no mark;
+abbrev pub BringsNew : (n k : ℕ) (F : ℕ → Bool) (r : ℕ) → Type 0
+BringsNew n k F r = (x : ℕ) × (x < 2 ^ n) × (marked n k F r x ≡ false) × (marked n k F (suc r) x ≡ true)
+
+-- it brings nothing new: it leaves every node as it was
+abbrev pub BringsNothing : (n k : ℕ) (F : ℕ → Bool) (r : ℕ) → Type 0
+BringsNothing n k F r = (x : ℕ) → x < 2 ^ n → marked n k F (suc r) x ≡ marked n k F r x
+
 pub record Rested (n k : ℕ) (F : ℕ → Bool) : Type 0 where
   -- each round that is counted marks some node that had no mark,
-  pub loud : (r : ℕ) → r < rounds n k F → (x : ℕ) × (x < 2 ^ n) × (marked n k F r x ≡ false) × (marked n k F (suc r) x ≡ true)
+  pub loud : (r : ℕ) → r < rounds n k F → BringsNew n k F r
   -- the next one marks nothing new, and no later one does,
-  pub still : (r x : ℕ) → rounds n k F ≤ r → x < 2 ^ n → marked n k F (suc r) x ≡ marked n k F r x
+  pub still : (r : ℕ) → rounds n k F ≤ r → BringsNothing n k F r
   -- and no more are counted than there are working nodes
   pub ceiling : rounds n k F ≤ working n F

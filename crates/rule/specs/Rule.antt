@@ -1,7 +1,7 @@
 -- The labels of document 01, over n, the dimension; k, the number of the rule (3 there); F, the nodes that do not work (there: the faulty
 -- ones); and byte, the byte of a node that does not work (there: 3). A mark means unsafe.
 use mathlib.Core.Bool.{Bool, false, cond, not, _&&_, _||_}
-use Prim.Native.Nat.{ℕ, zero, suc, _^_}
+use Prim.Native.Nat.{ℕ, zero, suc, _+_, _^_}
 use lib.Dec.{eqb, leb}
 use Rattle.cube.specs.Count.{count, least, some}
 use Rattle.cube.specs.Cube.{flip}
@@ -31,6 +31,10 @@ working n F = count (2 ^ n) (λ x. not (F x))
 -- time: if none of these is quiet, every working node has its mark and the next one is (`rested`, proofs/Rounds.antt)
 unfoldable pub rounds : (n k : ℕ) (F : ℕ → Bool) → ℕ
 rounds n k F = least (working n F) (quiet n k F)
+
+-- how many exchanges the cards make (document 02, A3): one for each of these rounds, and the quiet one after them
+unfoldable pub exchanges : (n k : ℕ) (F : ℕ → Bool) → ℕ
+exchanges n k F = rounds n k F + 1
 
 -- x works and has no mark when the rounds have come to rest
 unfoldable pub safe : (n k : ℕ) (F : ℕ → Bool) (x : ℕ) → Bool

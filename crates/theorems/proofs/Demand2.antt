@@ -3,6 +3,7 @@ use mathlib.Core.Bool.{Bool, true, false, not}
 use mathlib.Core.Logic.{⊎-elim}
 use mathlib.Core.Path.{_≡_, sym, ap, _∙_}
 use Prim.Native.Nat.{ℕ, _^_, _≤_, _<_}
+use native.Mathlib.Numerals.{add-one}
 use native.Mathlib.Omega.{arith}
 use lib.Dec.{eqb}
 use borrow.Author.Tests.{eq-eqb, eqb-true, not-true}
@@ -10,12 +11,13 @@ use Rattle.cube.specs.Cube.{flip}
 use Rattle.cube.proofs.Bools.{either, clash, is-false, or-false}
 use Rattle.cube.proofs.Count.{count-same}
 use Rattle.cube.proofs.Cube.{flip-lt}
-use Rattle.rule.specs.Cabinet.{Cabinet, out, outByte, roundsOf, ruleOf}
+use Rattle.rule.specs.Cabinet.{Cabinet, exchangesOf, out, outByte, ruleOf}
 use Rattle.rule.specs.Closed.{Closed, Largest}
-use Rattle.rule.specs.Rounds.{Rested}
-use Rattle.rule.specs.Rule.{label, marked, safe}
+use Rattle.rule.specs.Exchanges.{Exchanges}
+use Rattle.rule.specs.Rule.{label, marked, rounds, exchanges, safe}
 use Rattle.rule.proofs.Bytes.{out-byte, zero-safe, safe-zero, byte-out}
 use Rattle.rule.proofs.Cabinet.{label-in, out-high, table-good}
+use Rattle.rule.proofs.Exchanges.{exchanged}
 use Rattle.rule.proofs.Largest.{safe-largest}
 use Rattle.rule.proofs.Rounds.{rested}
 use Rattle.theorems.specs.Demand2.{Demand2}
@@ -34,8 +36,8 @@ module _ (K : Cabinet) where
   abbrev C : Closed n (ruleOf K) (out K) S
   C = L .closed
 
-  abbrev R : Rested n (ruleOf K) (out K)
-  R = rested n (ruleOf K) (out K)
+  abbrev E : Exchanges n (ruleOf K) (out K)
+  E = exchanged n (ruleOf K) (out K)
 
   zero-is : (x : ℕ) → x < 2 ^ n → labelAt K x ≡ 0 → S x ≡ true
   unfolding label
@@ -62,16 +64,25 @@ module _ (K : Cabinet) where
       below : ¬ (3 ≤ labelAt K x)
       below l = clash (byte-out n (out K) (outByte K) S (C .works) (out-high K) x (omega (arith, label-in K x h))) e
 
-  unmarked : (x : ℕ) → S x ≡ true → (out K x ≡ false) × (marked n (ruleOf K) (out K) (roundsOf K) x ≡ false)
-  unfolding safe roundsOf
-  unmarked x e = or-false (out K x) (marked n (ruleOf K) (out K) (roundsOf K) x) (not-true _ e)
+  -- the quiet exchange leaves the marks of the last round as they are
+  marks-after : (x : ℕ) → x < 2 ^ n → marked n (ruleOf K) (out K) (exchangesOf K) x ≡ marked n (ruleOf K) (out K) (rounds n (ruleOf K) (out K)) x
+  unfolding exchangesOf exchanges
+  marks-after x h =
+      ap (λ (r : ℕ). marked n (ruleOf K) (out K) r x) (add-one (rounds n (ruleOf K) (out K)))
+      ∙ rested n (ruleOf K) (out K) .still (rounds n (ruleOf K) (out K)) (omega arith) x h
 
-  makes-safe : (x : ℕ) → out K x ≡ false → marked n (ruleOf K) (out K) (roundsOf K) x ≡ false → S x ≡ true
-  unfolding safe roundsOf
-  makes-safe x f m = rw (f, m)
+  unmarked : (x : ℕ) → x < 2 ^ n → S x ≡ true → (out K x ≡ false) × (marked n (ruleOf K) (out K) (exchangesOf K) x ≡ false)
+  unfolding safe
+  unmarked x h e =
+      let s = or-false (out K x) (marked n (ruleOf K) (out K) (rounds n (ruleOf K) (out K)) x) (not-true _ e) in
+      (s .0, marks-after x h ∙ s .1)
 
-  pub demand2 : Demand2 K (labelAt K) (roundsOf K)
-  unfolding roundsOf
+  makes-safe : (x : ℕ) → x < 2 ^ n → out K x ≡ false → marked n (ruleOf K) (out K) (exchangesOf K) x ≡ false → S x ≡ true
+  unfolding safe
+  makes-safe x h f m = let r = sym (marks-after x h) ∙ m in rw (f, r)
+
+  pub demand2 : Demand2 K (labelAt K) (exchangesOf K)
+  unfolding exchangesOf
   demand2 =
       record {
         closed = record {
@@ -88,8 +99,8 @@ module _ (K : Cabinet) where
         works = works;
         ordinary = table-good K .ordinary;
         strong = table-good K .strong;
-        safe = λ x h. (λ e. unmarked x (zero-is x h e), λ e. is-zero x h (makes-safe x (e .0) (e .1)));
-        loud = R .loud;
-        still = R .still;
-        ceiling = R .ceiling;
+        safe = λ x h. (λ e. unmarked x h (zero-is x h e), λ e. is-zero x h (makes-safe x h (e .0) (e .1)));
+        counted = E .counted;
+        still = E .still;
+        ceiling = E .ceiling;
       }

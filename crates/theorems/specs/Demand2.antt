@@ -1,15 +1,17 @@
--- Demand 2: the labels are the paper's. K is a cabinet, lab x the label byte of its node x, and rounds the round count.
+-- Demand 2: the labels are the paper's. K is a cabinet, lab x the label byte of its node x, and exchanges the number of exchanges.
 use mathlib.Core.Bool.{Bool, true, false}
 use mathlib.Core.Logic.{_↔_}
 use mathlib.Core.Path.{_≡_}
-use Prim.Native.Nat.{ℕ, suc, _^_, _≤_, _<_}
+use Prim.Native.Nat.{ℕ, _+_, _^_, _≤_, _<_}
 use lib.Dec.{eqb}
 use Rattle.cube.specs.Cube.{flip}
 use Rattle.rule.specs.Cabinet.{Cabinet, out, ruleOf}
 use Rattle.rule.specs.Closed.{Closed}
+use Rattle.rule.specs.Exchanges.{Exchanged}
+use Rattle.rule.specs.Rounds.{BringsNothing}
 use Rattle.rule.specs.Rule.{marked, working}
 
-pub record Demand2 (K : Cabinet) (lab : ℕ → ℕ) (rounds : ℕ) : Type 0 where
+pub record Demand2 (K : Cabinet) (lab : ℕ → ℕ) (exchanges : ℕ) : Type 0 where
   -- of all sets of working nodes in which each has at most one faulty neighbour and at most two neighbours outside the set,
   -- the safe nodes form the largest
   pub closed : Closed (K .n) 3 (out K) (λ x. eqb (lab x) 0)
@@ -21,10 +23,9 @@ pub record Demand2 (K : Cabinet) (lab : ℕ → ℕ) (rounds : ℕ) : Type 0 whe
   pub ordinary : (x : ℕ) → x < 2 ^ K .n → lab x ≡ 1 → (i : ℕ) × (i < K .n) × (lab (flip i x) ≡ 0)
   pub strong : (x i : ℕ) → x < 2 ^ K .n → i < K .n → lab x ≡ 2 → lab (flip i x) ≡ 0 → ⊥
   -- "the labels are those reached when a round marks nothing new": the safe nodes are the working ones that have no mark then,
-  pub safe : (x : ℕ) → x < 2 ^ K .n → (lab x ≡ 0) ↔ ((out K x ≡ false) × (marked (K .n) (ruleOf K) (out K) rounds x ≡ false))
-  -- each round that is counted marked some node that had no mark, none after it marks anything new, and there are no more than working nodes
-  pub loud :
-      (r : ℕ) → r < rounds
-      → (x : ℕ) × (x < 2 ^ K .n) × (marked (K .n) (ruleOf K) (out K) r x ≡ false) × (marked (K .n) (ruleOf K) (out K) (suc r) x ≡ true)
-  pub still : (r x : ℕ) → rounds ≤ r → x < 2 ^ K .n → marked (K .n) (ruleOf K) (out K) (suc r) x ≡ marked (K .n) (ruleOf K) (out K) r x
-  pub ceiling : rounds ≤ working (K .n) (out K)
+  pub safe : (x : ℕ) → x < 2 ^ K .n → (lab x ≡ 0) ↔ ((out K x ≡ false) × (marked (K .n) (ruleOf K) (out K) exchanges x ≡ false))
+  -- "the number of exchanges, the quiet one included": each before the last brought something new, and the last did not;
+  pub counted : Exchanged (K .n) (ruleOf K) (out K) exchanges
+  -- no later one would, and there are at most as many as working nodes, and one more
+  pub still : (r : ℕ) → exchanges ≤ r → BringsNothing (K .n) (ruleOf K) (out K) r
+  pub ceiling : exchanges ≤ working (K .n) (out K) + 1

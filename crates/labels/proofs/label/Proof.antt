@@ -2,7 +2,7 @@
 use mathlib.Core.Path.{refl, sym, _∙_}
 use borrow.Author.Needs.{needs}
 use Rattle.rule.specs.Cabinet.{cabinet}
-use Rattle.labels.proofs.Refusal.{fitting, says-refused, says-rounds}
+use Rattle.labels.proofs.Refusal.{fitting, says-refused, says-exchanges}
 use Rattle.labels.proofs.label.Statement.{statement}
 use Rattle.labels.proofs.label.Tie as tie
 
@@ -23,7 +23,7 @@ same-length c = search needs
 returns-2 : tie.Need-returns-2
 returns-2 c =
     let s = c .before .before .before .before in
-    says-rounds (cabinet _ _) _ _ _ _ (s .before .label-refusal .ensures) (s .if1 .left)
+    says-exchanges (cabinet _ _) _ _ _ _ (s .before .label-refusal .ensures) (s .if1 .left)
     (c .before .before .label-nodes .ensures .0) (c .before .before .label-nodes .ensures .1)
 
 pub label-spec : {M : Type 1} → statement M

@@ -1,7 +1,7 @@
--- `label_nodes`. Invariant: the table stands as after `rounds` rounds, each of which marked something new. The measure is the working
--- nodes less the rounds: no more rounds mark something new than there are working nodes. proofs/Loop.antt tells how it goes.
-use mathlib.Core.Path.{sym, ap, _∙_}
-use Prim.Native.Nat.{_+_, _≤_, _-_}
+-- `label_nodes`. Invariant: the table stands as after some rounds, each of which marked something new, and `exchanges` is one more. The measure is what
+-- is left of one more than the working nodes: no more rounds mark something new than these are. proofs/Loop.antt tells how it goes.
+use mathlib.Core.Path.{refl, sym, ap, _∙_}
+use Prim.Native.Nat.{ℕ, _+_, _≤_, _-_}
 use native.Mathlib.Omega.{arith}
 use borrow.Author.Needs.{needs}
 use lib.ListN.{length}
@@ -9,16 +9,16 @@ use Rattle.cube.proofs.Front.{length-tab}
 use Rattle.rule.specs.Cabinet.{cabinet, out}
 use Rattle.rule.specs.Rule.{working}
 use Rattle.rule.proofs.Rounds.{working-few}
-use Rattle.labels.proofs.Loop.{swept-length, round-bound, round-done, end-rounds, end-labels}
-use Rattle.labels.proofs.Standing.{Stands, stands-first, stands-length}
+use Rattle.labels.proofs.Loop.{Turn, swept-length, round-bound, round-done, end-exchanges, end-labels}
+use Rattle.labels.proofs.Standing.{stands-first, stands-length}
 use Rattle.labels.proofs.label_nodes.Statement.{statement}
 use Rattle.labels.proofs.label_nodes.Tie as tie
 
 abbrev Inv-loop : tie.InvT-loop
-Inv-loop n rule faults labels₀ rounds₀ labels rounds = Stands (cabinet n faults) labels rounds
+Inv-loop n rule faults labels₀ exchanges₀ labels exchanges = Turn (cabinet n faults) labels exchanges
 
 abbrev μ-loop : tie.MeasureT-loop
-μ-loop n rule faults labels₀ rounds₀ labels rounds = working n (out (cabinet n faults)) - rounds
+μ-loop n rule faults labels₀ exchanges₀ labels exchanges = working n (out (cabinet n faults)) + 1 - exchanges
 
 -- the places of the code: where a turn begins, from where its sweep is known; and the function's start from there
 abbrev begun : tie.After-sweep Inv-loop μ-loop → tie.At-loop Inv-loop μ-loop
@@ -41,13 +41,13 @@ start-requires : tie.Need-start-requires Inv-loop μ-loop
 start-requires c κs = search needs
 
 loop-holds : tie.Need-loop-holds Inv-loop μ-loop
-loop-holds c = stands-first (cabinet _ _) _ (c .before .before .start .ensures)
+loop-holds c = record { over = 0; next = refl; stands = stands-first (cabinet _ _) _ (c .before .before .start .ensures) }
 
 sweep-requires : tie.Need-sweep-requires Inv-loop μ-loop
 sweep-requires c κs =
     let l = c .before in
     let p = start l .pre in
-    (omega (arith, p .0), record { small = p .1 .1 .small; sized = stands-length (cabinet _ _) _ _ (l .loop .inv) })
+    (omega (arith, p .0), record { small = p .1 .1 .small; sized = stands-length (cabinet _ _) _ _ (l .loop .inv .stands) })
 
 settle-requires : tie.Need-settle-requires Inv-loop μ-loop
 settle-requires c κs = search needs
@@ -55,15 +55,16 @@ settle-requires c κs = search needs
 -- a round that marked something is one of at most as many as there are working nodes, and these are few
 bound : (c : tie.Else1 Inv-loop μ-loop)
     → let l = begun (swept c) in let a = start l .args in let few = working (a .n) (out (cabinet (a .n) (a .faults .now))) in
-    (l .loop .rounds + 1 ≤ few) × (few ≤ 4096)
+    (l .loop .exchanges ≤ few) × (few ≤ 4096)
 bound c =
     let w = swept c in
     let l = begun w in
     let p = start l .pre in
-    (round-bound (cabinet _ _) _ _ (l .loop .inv) _ (p .0) _ _ (w .sweep .ensures .0) (w .sweep .ensures .1) (c .if1 .left), working-few _ _ (p .1 .1 .small))
+    let over = round-bound (cabinet _ _) _ _ (l .loop .inv .stands) _ (p .0) _ _ (w .sweep .ensures .0) (w .sweep .ensures .1) (c .if1 .left) in
+    (omega (arith, l .loop .inv .next, over), working-few _ _ (p .1 .1 .small))
 
-add-rounds : tie.Need-add-rounds Inv-loop μ-loop
-add-rounds c = omega (arith, bound (c .before .before .before .before))
+add-exchanges : tie.Need-add-exchanges Inv-loop μ-loop
+add-exchanges c = omega (arith, bound (c .before .before .before .before))
 
 loop-less : tie.Need-loop-less Inv-loop μ-loop
 loop-less c = omega (arith, bound (c .before .before .before .before))
@@ -73,15 +74,16 @@ loop-again c =
     let e = c .before .before .before .before in
     let w = swept e in
     let l = begun w in
-    round-done (cabinet _ _) _ _ (l .loop .inv) _ (start l .pre .0) _ _ (w .sweep .ensures .0) (w .sweep .ensures .1) (e .if1 .left) _
-    (c .before .before .settle .ensures)
+    let done = round-done (cabinet _ _) _ _ (l .loop .inv .stands) _ (start l .pre .0) _ _ (w .sweep .ensures .0) (w .sweep .ensures .1) (e .if1 .left) _
+    (c .before .before .settle .ensures) in
+    record { over = _; next = ap (λ (z : ℕ). z + 1) (l .loop .inv .next); stands = done }
 
 finish-requires : tie.Need-finish-requires Inv-loop μ-loop
 finish-requires c κs =
     let w = c .before .before .before .before in
     let l = begun w in
     let p = start l .pre in
-    let sized = swept-length (cabinet _ _) _ _ (l .loop .inv) _ (p .0) _ _ (w .sweep .ensures .0) (w .sweep .ensures .1) in
+    let sized = swept-length (cabinet _ _) _ _ (l .loop .inv .stands) _ (p .0) _ _ (w .sweep .ensures .0) (w .sweep .ensures .1) in
     record { small = p .1 .1 .small; sized = sized }
 
 same-length : tie.Need-same-length Inv-loop μ-loop
@@ -96,8 +98,8 @@ returns c =
     let l = begun w in
     let p = start l .pre .0 in
     let none = tested f .if1 .taken in (
-      sym (end-rounds (cabinet _ _) _ _ (l .loop .inv) _ p _ _ (w .sweep .ensures .0) (w .sweep .ensures .1) none),
-      end-labels (cabinet _ _) _ _ (l .loop .inv) _ p _ _ (w .sweep .ensures .0) (w .sweep .ensures .1) none _ (f .finish .ensures),
+      l .loop .inv .next ∙ sym (end-exchanges (cabinet _ _) _ _ (l .loop .inv .stands) _ p _ _ (w .sweep .ensures .0) (w .sweep .ensures .1) none),
+      end-labels (cabinet _ _) _ _ (l .loop .inv .stands) _ p _ _ (w .sweep .ensures .0) (w .sweep .ensures .1) none _ (f .finish .ensures),
     )
 
 pub label-nodes-spec : {M : Type 1} → statement M
@@ -110,7 +112,7 @@ label-nodes-spec =
     loop-holds
     sweep-requires
     settle-requires
-    add-rounds
+    add-exchanges
     loop-less
     loop-again
     finish-requires

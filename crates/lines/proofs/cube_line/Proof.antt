@@ -39,13 +39,13 @@ returns : tie.Need-returns
 unfolding cubeLine
 returns c =
     let end = c .before .before in
-    let rounds = end .before .before .before .before .before in
-    let counts = rounds .before .before .before .before .before in
+    let exchanges = end .before .before .before .before .before in
+    let counts = exchanges .before .before .before .before .before in
     let faulty = counts .before .before .before .before in
     let cube = faulty .before .before .before .before .before in
     let first = put-then (cube .put-field .ensures .0) (faulty .put-field2 .ensures .0) in
     let counted = put-then first (counts .put-counts .ensures .0) in
-    let line = put-then (put-then counted (rounds .put-field3 .ensures .0)) (end .put-text .ensures) in
+    let line = put-then (put-then counted (exchanges .put-field3 .ensures .0)) (end .put-text .ensures) in
     (line .front, search needs)
 
 pub cube-line-spec : {M : Type 1} → statement M

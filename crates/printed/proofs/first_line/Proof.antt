@@ -1,7 +1,7 @@
--- `first_line`: labelling does not refuse, so the line is of the labels and rounds that it made.
+-- `first_line`: labelling does not refuse, so the line is of the labels and exchanges that it made.
 use mathlib.Core.Path.{sym, ap₂, _∙_}
 use Rattle.rule.specs.Cabinet.{cabinet}
-use Rattle.labels.proofs.Refusal.{labels-written, of-refused, of-rounds}
+use Rattle.labels.proofs.Refusal.{labels-written, of-refused, of-exchanges}
 use Rattle.lines.specs.Lines.{cubeLine}
 use borrow.Author.Needs.{needs}
 use Rattle.printed.proofs.first_line.Statement.{statement}
@@ -40,7 +40,7 @@ returns-2 c =
     let r = line .before .before .before .before in
     let l = r .before .before .before .before in
     let fit = l .before .before .before .before .before .pre .0 in
-    let count = of-rounds (cabinet _ _) _ _ (sym (l .label .ensures .0) ∙ r .labelled .given .1) .1 in
+    let count = of-exchanges (cabinet _ _) _ _ (sym (l .label .ensures .0) ∙ r .labelled .given .1) .1 in
     let made = l .label .ensures .1 ∙ labels-written (cabinet _ _) _ fit in
     (line .cube-line .ensures .0 ∙ ap₂ (cubeLine _ _) made (sym count), (line .cube-line .ensures .1, made))
 

@@ -1,13 +1,13 @@
 /*
- * most_rounds.c: looks for fault tables whose labelling takes many rounds.
+ * most_exchanges.c: looks for fault tables whose labelling takes many exchanges.
  *
- *   most_rounds N            every table, for N up to 4
- *   most_rounds N STEPS SEED hill climbing, dimension after dimension
+ *   most_exchanges N            every table, for N up to 4
+ *   most_exchanges N STEPS SEED hill climbing, dimension after dimension
  *
- * Prints dimension, rounds and the table in hex. The tables that it found stand
- * as literals in tests/tables.c and bench/worst.h.
+ * Prints dimension, exchanges and the table in hex. The tables that it found
+ * stand as literals in tests/tables.c and bench/worst.h.
  *
- * A set of nodes is an array of 64-bit words, so that a round is a few word
+ * A set of nodes is an array of 64-bit words, so that an exchange is a few word
  * operations for each dimension.
  */
 #include <stdint.h>
@@ -38,8 +38,8 @@ static uint64_t across(const struct set *set, unsigned w, unsigned i)
     return (x >> (1u << i) & low[i]) | (x & low[i]) << (1u << i);
 }
 
-/* One round; whether something new was marked. */
-static int next_round(const struct set *faulty, struct set *outside)
+/* One exchange; whether it brought something new. */
+static int exchange(const struct set *faulty, struct set *outside)
 {
     struct set before = *outside;
     int something_new = 0;
@@ -59,19 +59,20 @@ static int next_round(const struct set *faulty, struct set *outside)
     return something_new;
 }
 
-static unsigned rounds_of(const struct set *faulty)
+/* The quiet one included. */
+static unsigned exchanges_of(const struct set *faulty)
 {
     struct set outside = *faulty;
-    unsigned rounds = 0;
-    while (next_round(faulty, &outside))
-        rounds++;
-    return rounds;
+    unsigned exchanges = 1;
+    while (exchange(faulty, &outside))
+        exchanges++;
+    return exchanges;
 }
 
-static void print_table(const struct set *faulty, unsigned rounds)
+static void print_table(const struct set *faulty, unsigned exchanges)
 {
     unsigned bytes = n <= 3 ? 1 : (1u << n) / 8;
-    printf("%u %u ", n, rounds);
+    printf("%u %u ", n, exchanges);
     for (unsigned k = 0; k < bytes; k++)
         printf("%02x", (unsigned)(faulty->word[k / 8] >> 8 * (k % 8) & 255));
     printf("\n");
@@ -83,8 +84,8 @@ static void try_all(void)
     unsigned most = 0;
     for (uint64_t k = 0; k < (uint64_t)1 << (1u << n); k++) {
         table.word[0] = k;
-        if (rounds_of(&table) > most) {
-            most = rounds_of(&table);
+        if (exchanges_of(&table) > most) {
+            most = exchanges_of(&table);
             best = table;
         }
     }
@@ -97,22 +98,22 @@ static void flip(struct set *set)
     set->word[k / 64] ^= (uint64_t)1 << (k % 64);
 }
 
-/* A change of up to four nodes stays if the rounds are not fewer. */
+/* A change of up to four nodes stays if the exchanges are not fewer. */
 static unsigned climb(struct set *table, unsigned long steps)
 {
-    unsigned rounds = rounds_of(table);
+    unsigned exchanges = exchanges_of(table);
     while (steps--) {
         struct set tried = *table;
         unsigned now;
         for (unsigned k = 0; k <= random_below(4); k++)
             flip(&tried);
-        now = rounds_of(&tried);
-        if (now < rounds)
+        now = exchanges_of(&tried);
+        if (now < exchanges)
             continue;
         *table = tried;
-        rounds = now;
+        exchanges = now;
     }
-    return rounds;
+    return exchanges;
 }
 
 static void set_dimension(unsigned dimension)
@@ -123,7 +124,7 @@ static void set_dimension(unsigned dimension)
 }
 
 /* From dimension to dimension: a table with an empty upper half beside it has
- * the rounds that it had alone. */
+ * the exchanges that it had alone. */
 static void climb_up(unsigned last, unsigned long steps)
 {
     struct set table = {{0}};
@@ -139,7 +140,7 @@ int main(int count, char **words_given)
     unsigned last = count > 1 ? (unsigned)atoi(words_given[1]) : 0;
     if (last < 1 || last > 12 || (count == 2 && last > 4) ||
         (count != 2 && count != 4)) {
-        fprintf(stderr, "usage: most_rounds N, or most_rounds N STEPS SEED\n");
+        fprintf(stderr, "usage: most_exchanges N, or most_exchanges N STEPS SEED\n");
         return 2;
     }
     if (count == 2) {
