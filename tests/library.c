@@ -76,6 +76,7 @@ int main(void)
     check_lengths();
     check_small_cubes();
     check_most_exchanges();
+    check_one_exchange();
     check_random_tables();
     check_random_labels();
     check_long_walks();

@@ -118,6 +118,19 @@ void check_most_exchanges(void)
     end_group();
 }
 
+/* The quiet exchange alone: no node is faulty, or every node is. */
+void check_one_exchange(void)
+{
+    begin_group("one exchange: no faults, and all nodes faulty");
+    for (uint32_t n = 1; n <= 12; n++) {
+        memset(faults, 0, sizeof faults);
+        expect(label_table(n) == 1, "n = %u, no faults: not 1 exchange", n);
+        memset(faults, n < 3 ? (1 << (1 << n)) - 1 : 255, sizeof faults);
+        expect(label_table(n) == 1, "n = %u, all faulty: not 1 exchange", n);
+    }
+    end_group();
+}
+
 void check_random_tables(void)
 {
     begin_group("24,000 random fault tables to n = 12");

@@ -1,4 +1,5 @@
--- What document 01 says of all that is printed, and document 02 (A1) of the places, as laws of `listing`, with samples. Proved in proofs/Laws.antt.
+-- What document 01 says of all that is printed, and document 02 of the places (A1) and the count (A3), as laws of `listing`, with samples. Proved in
+-- proofs/Laws.antt.
 use mathlib.Core.Path.{_≡_}
 use mathlib.Core.List.{List, [], _∷_, _++_}
 use Prim.Native.Nat.{ℕ, suc, _≤_, _<_}
@@ -35,7 +36,7 @@ pub record ListingLaws : Type 0 where
       → pairLines (suc left) n labels s at ≡ inputRefused k at
   pub destination-refused : (left n : ℕ) (labels s : List ℕ) (at a next k place : ℕ) → at < length s → numberAt s at ≡ number.Value a next
       → numberAt s next ≡ number.Refused k place → pairLines (suc left) n labels s at ≡ inputRefused k next
-  -- "it prints exactly:"
+  -- "it prints exactly:", with the number of exchanges on the first line
   pub sample : listing sampleBytes ≡ sampleLines
   -- a notice whose second address is ill written; and a destination that is cut short, behind a notice of two bytes
   pub sample-notice : listing (0x04 ∷ 0x02 ∷ 0x03 ∷ 0x81 ∷ 0x00 ∷ []) ≡ text "notice refused 10 3\n"

@@ -84,14 +84,14 @@ module _ (n k : ℕ) (F : ℕ → Bool) where
   pub loud-le : (r : ℕ) → ((j : ℕ) → j < r → quiet n k F j ≡ false) → r ≤ working n F
   loud-le r f = omega (arith, one-each r f, bounded r)
 
-  -- ---- the round count
+  -- ---- how many rounds mark something new
 
-  -- it is at most the number of working nodes,
-  pub rounds-le : rounds n k F ≤ working n F
+  -- at most as many as there are working nodes,
+  rounds-le : rounds n k F ≤ working n F
   unfolding rounds
   rounds-le = the-least _ _ .within
 
-  pub rounds-first : (j : ℕ) → j < rounds n k F → quiet n k F j ≡ false
+  rounds-first : (j : ℕ) → j < rounds n k F → quiet n k F j ≡ false
   unfolding rounds
   rounds-first = the-least _ _ .before
 
@@ -137,7 +137,7 @@ module _ (n k : ℕ) (F : ℕ → Bool) where
   quiet-on (suc r) h =
       ⊎-elim (λ (e : rounds n k F ≡ suc r). rw e at rest) (λ (l : rounds n k F < suc r). quiet-next r (quiet-on r (omega arith))) (eq-or-lt-of-le h)
 
-  -- each counted round marks some node that had no mark,
+  -- each of them marks some node that had no mark,
   round-marks : (j : ℕ) → j < rounds n k F → (x : ℕ) × (x < 2 ^ n) × (newly n k F (marked n k F j) x ≡ true)
   unfolding quiet
   round-marks j h = go (find (2 ^ n) (newly n k F (marked n k F j)))
@@ -199,7 +199,7 @@ module _ (n k : ℕ) (F : ℕ → Bool) where
           (and-both (ap not (a .0)) (and-both (ap not m) (meets-says (marked n k F r) x .1 (a .1)))))
           (either (marked n k F r x))
 
-  -- the round after the last counted one marks no node
+  -- the round after the last of them marks no node
   pub none-new : (x : ℕ) → x < 2 ^ n → newly n k F (marked n k F (rounds n k F)) x ≡ false
   unfolding quiet
   none-new =

@@ -26,9 +26,9 @@ abbrev pub BringsNothing : (n k : ℕ) (F : ℕ → Bool) (r : ℕ) → Type 0
 BringsNothing n k F r = (x : ℕ) → x < 2 ^ n → marked n k F (suc r) x ≡ marked n k F r x
 
 pub record Rested (n k : ℕ) (F : ℕ → Bool) : Type 0 where
-  -- each round that is counted marks some node that had no mark,
+  -- each of so many rounds marks some node that had no mark,
   pub loud : (r : ℕ) → r < rounds n k F → BringsNew n k F r
   -- the next one marks nothing new, and no later one does,
   pub still : (r : ℕ) → rounds n k F ≤ r → BringsNothing n k F r
-  -- and no more are counted than there are working nodes
+  -- and they are no more than the working nodes
   pub ceiling : rounds n k F ≤ working n F
