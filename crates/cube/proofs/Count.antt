@@ -32,6 +32,16 @@ count-bound (suc n) p = go (count-bound n p) (either (p n))
     go ih (inl e) = omega (arith, count-yes n p e)
     go ih (inr e) = omega (arith, count-no n p e)
 
+-- in more places no fewer
+pub count-up : (j i : ℕ) (p : ℕ → Bool) → j ≤ i → count j p ≤ count i p
+count-up j zero p h = let z : j ≡ zero = omega arith in rw z (omega arith)
+count-up j (suc i) p h = go (count-up j i p) (either (p i)) (eq-or-lt-of-le h)
+  where
+    go : (j ≤ i → count j p ≤ count i p) → (p i ≡ true) ⊎ (p i ≡ false) → (j ≡ suc i) ⊎ (j < suc i) → count j p ≤ count (suc i) p
+    go ih _ (inl e) = rw e (omega arith)
+    go ih (inl t) (inr l) = omega (arith, ih (omega arith), count-yes i p t)
+    go ih (inr t) (inr l) = omega (arith, ih (omega arith), count-no i p t)
+
 pub count-le : (n : ℕ) (p q : ℕ → Bool) → ((i : ℕ) → i < n → p i ≡ true → q i ≡ true) → count n p ≤ count n q
 count-le zero p q f = omega (arith, count-zero p)
 count-le (suc n) p q f = go (count-le n p q (λ i h. f i (omega arith))) (either (p n)) (either (q n))

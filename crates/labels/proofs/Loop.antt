@@ -1,8 +1,8 @@
 -- How labelling's loop is proved. Before each sweep the table stands as after r rounds (Stands), each of which marked something new, and the exchange
 -- that is under way is number r + 1 (Turn).
 --
--- A turn: the sweep writes 1 at the nodes that round r + 1 marks (swept-byte), and answers how many. Where it is not 0, round r + 1 marked something,
--- so there are r + 1 rounds that did, and never more than working nodes (round-bound): the loop ends. Settling makes 2 of each 1, and the table stands
+-- A turn: the sweep writes 128 at the nodes that round r + 1 marks (swept-byte), and answers how many. Where it is not 0, round r + 1 marked something,
+-- so there are r + 1 rounds that did, and never more than working nodes (round-bound): the loop ends. Settling makes 2 of each 128, and the table stands
 -- as after r + 1 rounds (round-done).
 --
 -- The end: where the sweep answers 0, round r + 1 is quiet, r rounds marked something new (end-rounds), and r + 1 is the number of exchanges
@@ -29,8 +29,8 @@ use Rattle.rule.specs.Cabinet.{Cabinet, exchangesOf, labelsOf, out, outByte, ru
 use Rattle.rule.specs.Rule.{quiet, working, rounds, exchanges, safe, labelOf, label}
 use Rattle.rule.proofs.Cabinet.{out-high}
 use Rattle.rule.proofs.Rounds.{marked-suc, newly-says, loud-le, rounds-is}
-use Rattle.labels.specs.Passes.{plainIn, fresh, ordinary, oneWhere, settled}
-use Rattle.labels.proofs.Marking.{one-yes, one-no}
+use Rattle.labels.specs.Passes.{plainIn, fresh, ordinary, putWhere, settled}
+use Rattle.labels.proofs.Marking.{put-yes, put-no}
 use Rattle.labels.proofs.Standing.{marks, new, held, held-out, held-mark, held-plain, Stands, byte}
 use Rattle.labels.proofs.Standing.{Kind, is-out, is-mark, is-plain, kind, fresh-is, marks-are, mark-is, plain-is}
 
@@ -40,21 +40,21 @@ pub record Turn (K : Cabinet) (l : List ℕ) (counted : ℕ) : Type 0 where
   pub next : counted ≡ over + 1
   pub stands : Stands K l over
 
-settle-one : (l : List ℕ) (x : ℕ) → labelIn l x ≡ 1 → settled l x ≡ 2
+settle-new : (l : List ℕ) (x : ℕ) → labelIn l x ≡ 128 → settled l x ≡ 2
 unfolding settled
-settle-one l x e = rw (eq-eqb (labelIn l x) 1 e)
+settle-new l x e = rw (eq-eqb (labelIn l x) 128 e)
 
-settle-not : (l : List ℕ) (x b : ℕ) → labelIn l x ≡ b → (b ≡ 1 → ⊥) → settled l x ≡ b
+settle-not : (l : List ℕ) (x b : ℕ) → labelIn l x ≡ b → (b ≡ 128 → ⊥) → settled l x ≡ b
 unfolding settled
-settle-not l x b e d = rw (e, ne-eqb b 1 d)
+settle-not l x b e d = rw (e, ne-eqb b 128 d)
 
 module _ (K : Cabinet) (l : List ℕ) (r : ℕ) (T : Stands K l r) where
   abbrev n : ℕ
   n = K .n
 
   -- the last pass, where the rounds have come to rest
-  end-byte : rounds n (ruleOf K) (out K) ≡ r → (x : ℕ) → x < 2 ^ n → oneWhere (ordinary n l) l x ≡ label n (ruleOf K) (out K) (outByte K) x
-  unfolding ordinary label labelOf safe oneWhere
+  end-byte : rounds n (ruleOf K) (out K) ≡ r → (x : ℕ) → x < 2 ^ n → putWhere 1 (ordinary n l) l x ≡ label n (ruleOf K) (out K) (outByte K) x
+  unfolding ordinary label labelOf safe putWhere
   end-byte e x h = rw e (go (kind K l r T x h))
     where
       near : some n (λ i. plainIn l (flip i x)) ≡ some n (λ i. not (out K (flip i x) || marks K r (flip i x)))
@@ -62,17 +62,17 @@ module _ (K : Cabinet) (l : List ℕ) (r : ℕ) (T : Stands K l r) where
           some-same n (λ i. plainIn l (flip i x)) (λ i. not (out K (flip i x) || marks K r (flip i x)))
           (λ i m. plain-is K l r T (flip i x) (flip-lt n i x m h))
 
-      go : Kind K l r T x → oneWhere (ordinary n l) l x ≡ labelOf n (out K) (outByte K) (λ y. not (out K y || marks K r y)) x
-      go (is-out a b e) = one-no (ordinary n l) l x (rw (mark-is K l r T x h, b)) ∙ rw a e
+      go : Kind K l r T x → putWhere 1 (ordinary n l) l x ≡ labelOf n (out K) (outByte K) (λ y. not (out K y || marks K r y)) x
+      go (is-out a b e) = put-no 1 (ordinary n l) l x (rw (mark-is K l r T x h, b)) ∙ rw a e
       go (is-mark a b e) = rw (mark-is K l r T x h, b, near, e, a)
-      go (is-plain a b e) = one-no (ordinary n l) l x (rw (mark-is K l r T x h, b)) ∙ rw (a, b) e
+      go (is-plain a b e) = put-no 1 (ordinary n l) l x (rw (mark-is K l r T x h, b)) ∙ rw (a, b) e
 
 module _ (K : Cabinet) (l : List ℕ) (r : ℕ) (T : Stands K l r) (k : ℕ) (rule : k ≡ ruleOf K) where
   abbrev size : ℕ
   size = 2 ^ K .n
 
   abbrev swept : ℕ → ℕ
-  swept = oneWhere (fresh (K .n) k l) l
+  swept = putWhere 128 (fresh (K .n) k l) l
 
   -- the sweep answered m and left the table l₁
   module _ (m : ℕ) (l₁ : List ℕ) (em : m ≡ count size (fresh (K .n) k l)) (e₁ : l₁ ≡ tab size swept) where
@@ -91,15 +91,15 @@ module _ (K : Cabinet) (l : List ℕ) (r : ℕ) (T : Stands K l r) (k : ℕ) (ru
         marks-on : marks K (suc r) x ≡ (marks K r x || new K r x)
         marks-on = marked-suc (K .n) (ruleOf K) (out K) r x
 
-        marked-now : new K r x ≡ true → labelIn l₁ x ≡ 1
-        marked-now t = swept-byte x h ∙ one-yes (fresh (K .n) k l) l x (fresh-is K l r T k rule x h ∙ t)
+        marked-now : new K r x ≡ true → labelIn l₁ x ≡ 128
+        marked-now t = swept-byte x h ∙ put-yes 128 (fresh (K .n) k l) l x (fresh-is K l r T k rule x h ∙ t)
 
         old : new K r x ≡ false → labelIn l₁ x ≡ labelIn l x
-        old t = swept-byte x h ∙ one-no (fresh (K .n) k l) l x (fresh-is K l r T k rule x h ∙ t)
+        old t = swept-byte x h ∙ put-no 128 (fresh (K .n) k l) l x (fresh-is K l r T k rule x h ∙ t)
 
         go : (new K r x ≡ true) ⊎ (new K r x ≡ false) → Kind K l r T x → settled l₁ x ≡ held K (suc r) x
         go (inl t) _ =
-            settle-one l₁ x (marked-now t)
+            settle-new l₁ x (marked-now t)
             ∙ sym (held-mark K (suc r) x (newly-says (K .n) (ruleOf K) (out K) (marks K r) x t .0) (marks-on ∙ or-right (marks K r x) t))
         go (inr t) (is-out a b e) = settle-not l₁ x (outByte K x) (old t ∙ e) (λ q. omega (arith, out-high K x a)) ∙ sym (held-out K (suc r) x a)
         go (inr t) (is-mark a b e) =
@@ -143,9 +143,9 @@ module _ (K : Cabinet) (l : List ℕ) (r : ℕ) (T : Stands K l r) (k : ℕ) (ru
         where
           kept : (x : ℕ) → x < size → swept x ≡ held K r x
           kept x h =
-              one-no (fresh (K .n) k l) l x (none-counted size (fresh (K .n) k l) (sym em ∙ none-new) x h) ∙ byte K l r T x h
+              put-no 128 (fresh (K .n) k l) l x (none-counted size (fresh (K .n) k l) (sym em ∙ none-new) x h) ∙ byte K l r T x h
 
-      pub end-labels : (l₂ : List ℕ) → l₂ ≡ tab size (oneWhere (ordinary (K .n) l₁) l₁) → l₂ ≡ labelsOf K
+      pub end-labels : (l₂ : List ℕ) → l₂ ≡ tab size (putWhere 1 (ordinary (K .n) l₁) l₁) → l₂ ≡ labelsOf K
       unfolding labelsOf
       end-labels l₂ e₂ =
-          e₂ ∙ tab-cong size (oneWhere (ordinary (K .n) l₁) l₁) (label (K .n) (ruleOf K) (out K) (outByte K)) (end-byte K l₁ r same end-rounds)
+          e₂ ∙ tab-cong size (putWhere 1 (ordinary (K .n) l₁) l₁) (label (K .n) (ruleOf K) (out K) (outByte K)) (end-byte K l₁ r same end-rounds)

@@ -1,14 +1,14 @@
 -- How the table stands after r rounds: a node that does not work has its byte, a marked one 2, any other 0. These bytes tell the three kinds
 -- apart, so a sweep of the table marks what the next round of the definition marks.
-use mathlib.Core.Path.{_≡_, refl, sym, ap, ap₂, _∙_}
+use mathlib.Core.Path.{_≡_, refl, sym, ap, ap₂, _∙_, subst}
 use mathlib.Core.Logic.{_⊎_, inl, inr}
 use mathlib.Core.Bool.{Bool, true, false, cond, not, _&&_, _||_}
 use mathlib.Core.List.{List}
 use Prim.Native.Nat.{ℕ, _^_, _<_}
 use native.Mathlib.Omega.{arith}
-use lib.Dec.{leb, eqb}
+use lib.Dec.{eqb}
 use lib.ListN.{length, getD}
-use borrow.Author.Tests.{ne-eqb, le-leb}
+use borrow.Author.Tests.{ne-eqb}
 use Rattle.cube.specs.Count.{count}
 use Rattle.cube.specs.Cube.{flip}
 use Rattle.cube.specs.Tables.{tab, labelIn}
@@ -20,7 +20,7 @@ use Rattle.rule.specs.Cabinet.{Cabinet, out, outByte, ruleOf}
 use Rattle.rule.specs.Rule.{meets, newly, marked, quiet}
 use Rattle.rule.proofs.Cabinet.{out-high}
 use Rattle.rule.proofs.Rounds.{meets-same, marked-zero, marks-work}
-use Rattle.labels.specs.Passes.{outIn, markIn, plainIn, fresh, started}
+use Rattle.labels.specs.Passes.{Kept, KeptByte, kept-plain, kept-mark, kept-out, outIn, markIn, plainIn, fresh, started}
 
 -- the marks after r rounds, and what the next round adds
 abbrev pub marks : (K : Cabinet) (r x : ℕ) → Bool
@@ -89,12 +89,20 @@ module _ (K : Cabinet) where
         go (inr a) (inl b) = is-mark a b (byte x h ∙ held-mark r x a b)
         go (inr a) (inr b) = is-plain a b (byte x h ∙ held-plain r x a b)
 
+    pub stands-kept : Kept l
+    stands-kept x h = go (kind x (rw stands-length at h))
+      where
+        go : Kind x → KeptByte (labelIn l x)
+        go (is-out a b e) = subst KeptByte (sym e) kept-out
+        go (is-mark a b e) = subst KeptByte (sym e) kept-mark
+        go (is-plain a b e) = subst KeptByte (sym e) kept-plain
+
     out-is : (x : ℕ) → x < 2 ^ n → outIn l x ≡ out K x
     unfolding outIn
     out-is x h = go (kind x h)
       where
-        go : Kind x → leb 3 (labelIn l x) ≡ out K x
-        go (is-out a b e) = le-leb 3 (labelIn l x) (omega (arith, out-high K x a)) ∙ sym a
+        go : Kind x → eqb (labelIn l x) 3 ≡ out K x
+        go (is-out a b e) = rw e (sym a)
         go (is-mark a b e) = rw e (sym a)
         go (is-plain a b e) = rw e (sym a)
 

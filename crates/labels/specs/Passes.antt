@@ -1,13 +1,13 @@
--- How labelling keeps its rounds in the lent label table l. A byte of 3 or more is a node that does not work. Until the labels are final,
--- 2 is a node that an earlier round marked, 1 one that this round marked, and 0 one that has no mark: so the nodes that the rule counts are
--- those of 3 and more, and those of 2 and more. Each definition below the line is what one pass over the table leaves at x.
+-- How labelling keeps its rounds in the lent label table l. Until the labels are final, 3 is a node that does not work, 2 one that an earlier round
+-- marked, 128 one that this round marked, and 0 one that has no mark: so the nodes that the rule counts are those of 3 and of 2. Each definition below
+-- the line is what one pass over the table leaves at x.
 use mathlib.Core.Bool.{Bool, cond, _&&_}
 use mathlib.Core.List.{List}
 use mathlib.Core.Path.{_≡_}
 use Prim.Native.Nat.{ℕ, _^_, _≤_, _<_}
-use lib.Dec.{eqb, leb}
+use lib.Dec.{eqb}
 use lib.ListN.{length}
-use Rattle.cube.specs.Count.{count, some}
+use Rattle.cube.specs.Count.{some}
 use Rattle.cube.specs.Cube.{flip}
 use Rattle.cube.specs.Tables.{labelIn}
 use Rattle.rule.specs.Cabinet.{Cabinet, out, outByte}
@@ -23,19 +23,25 @@ pub record NodeOf (n : ℕ) (l : List ℕ) (x : ℕ) : Type 0 where
   pub sized : length l ≡ 2 ^ n
   pub inside : x < 2 ^ n
 
+-- while the rounds go on the table has these bytes and no other
+pub data KeptByte : ℕ → Type 0 where
+  kept-plain : KeptByte 0
+  kept-mark : KeptByte 2
+  kept-out : KeptByte 3
+  kept-new : KeptByte 128
+
+abbrev pub Kept : (l : List ℕ) → Type 0
+Kept l = (x : ℕ) → x < length l → KeptByte (labelIn l x)
+
 -- by their bytes: the nodes that do not work, those that an earlier round marked, and those without a mark
 unfoldable pub outIn : (l : List ℕ) (x : ℕ) → Bool
-outIn l x = leb 3 (labelIn l x)
+outIn l x = eqb (labelIn l x) 3
 
 unfoldable pub markIn : (l : List ℕ) (x : ℕ) → Bool
 markIn l x = eqb (labelIn l x) 2
 
 unfoldable pub plainIn : (l : List ℕ) (x : ℕ) → Bool
 plainIn l x = eqb (labelIn l x) 0
-
--- how many neighbours of x have a byte of low or more
-abbrev pub countFrom : (n : ℕ) (l : List ℕ) (x low : ℕ) → ℕ
-countFrom n l x low = count n (λ i. leb low (labelIn l (flip i x)))
 
 -- the round that begins with the table l marks x
 unfoldable pub fresh : (n k : ℕ) (l : List ℕ) (x : ℕ) → Bool
@@ -51,11 +57,11 @@ ordinary n l x = markIn l x && some n (λ i. plainIn l (flip i x))
 unfoldable pub started : (K : Cabinet) (x : ℕ) → ℕ
 started K x = cond (out K x) (outByte K x) 0
 
--- 1 where p holds, elsewhere what stood there. A round marks with p = fresh; with p = ordinary the ordinarily unsafe nodes are told from
--- the strongly unsafe ones in the end
-unfoldable pub oneWhere : (p : ℕ → Bool) (l : List ℕ) (x : ℕ) → ℕ
-oneWhere p l x = cond (p x) 1 (labelIn l x)
+-- b where p holds, elsewhere what stood there. A round puts 128 with p = fresh; in the end, with p = ordinary, 1 tells the ordinarily unsafe nodes from
+-- the strongly unsafe ones
+unfoldable pub putWhere : (b : ℕ) (p : ℕ → Bool) (l : List ℕ) (x : ℕ) → ℕ
+putWhere b p l x = cond (p x) b (labelIn l x)
 
 -- the end of a round: its marks are marks of an earlier round from now on
 unfoldable pub settled : (l : List ℕ) (x : ℕ) → ℕ
-settled l x = cond (eqb (labelIn l x) 1) 2 (labelIn l x)
+settled l x = cond (eqb (labelIn l x) 128) 2 (labelIn l x)

@@ -1,20 +1,20 @@
 // Labelling: which working nodes are safe, ordinarily unsafe or strongly unsafe. The rounds are kept in the lent label table itself, by the
-// bytes that PLAIN, NEW, MARKED and OUT name, in this order, so that each question of the rule is one compare: from MARKED on, from OUT on.
-// The last pass tells ORDINARY apart; PLAIN and MARKED stay as safe and strongly unsafe.
+// bytes PLAIN, MARKED, OUT and NEW. A byte is what its node weighs in the test of a neighbour: 0, 2 or 3, and NEW weighs nothing in the low seven
+// bits, where the test looks. The last pass tells ORDINARY apart; PLAIN and MARKED stay as safe and strongly unsafe.
 ghost use Prim.Native.Nat.{_/_, _<_, _≤_, _^_};
 ghost use Rattle.cube.specs.Count.{count, some};
 ghost use Rattle.cube.specs.Cube.{flip};
 ghost use Rattle.cube.specs.Tables.{tab, tableLen};
 ghost use Rattle.labels.specs.Labelling.{labelRefusal, labelled, labelsAfter};
-ghost use Rattle.labels.specs.Passes.{NodeOf, Sized, countFrom, fresh, markIn, oneWhere, ordinary, outIn, plainIn, settled, started};
+ghost use Rattle.labels.specs.Passes.{Kept, NodeOf, Sized, fresh, markIn, ordinary, outIn, plainIn, putWhere, settled, started};
 ghost use Rattle.rule.specs.Cabinet.{cabinet, exchangesOf, labelsOf, ruleOf};
+ghost use Rattle.rule.specs.Looks.{looks, looksNear};
 ghost use Rattle.rule.specs.Rule.{meets};
 ghost use lib.Dec.{eqb};
 ghost use lib.ListN.{length};
 ghost use mathlib.Core.Bool.{cond};
 ghost use mathlib.Core.Path.{_≡_};
 use cube::is_dimension;
-use cube::neighbour;
 use cube::node_bit;
 use cube::nodes;
 use cube::table_len;
@@ -22,19 +22,25 @@ use cube::unused_set;
 
 const PLAIN: u8 = 0; // no mark; in the end: safe
 
-const NEW: u8 = 1; // marked by this round
-
 const ORDINARY: u8 = 1; // in the end: ordinarily unsafe
 
 const MARKED: u8 = 2; // marked by an earlier round; in the end: strongly unsafe
 
-const OUT: u8 = 3; // this byte and every larger one: does not work
+const OUT: u8 = 3; // does not work
+
+const NEW: u8 = 128; // marked by this round
 
 const RULE: usize = 3; // so many neighbours that do not work or are marked make a node unsafe
 
 pub enum Labelled {
     Exchanges(usize),
     Refused(u32),
+}
+
+// The answer of a test of a node, and how many of its neighbours' labels were read for it.
+struct Tested {
+    holds: bool,
+    looked: usize,
 }
 
 fn label_refusal(n: usize, faults: &[u8], m: usize) -> u32
@@ -55,73 +61,73 @@ fn label_refusal(n: usize, faults: &[u8], m: usize) -> u32
     0
 }
 
-// What a test adds to a count.
-fn one(b: bool) -> usize
-    ensures value { λ r. ⌜ r ≡ cond b 1 0 ⌝ }
-    ensures few { λ r. ⌜ r ≤ 1 ⌝ }
-{
-    b as usize
-}
-
-// How many neighbours of node x have the byte low or a larger one. Nearly all of labelling's time is spent here, so the bit of the
-// dimension is doubled and not shifted into its place anew.
-fn count_from(n: usize, labels: &[u8], x: usize, low: u8) -> usize
+// Whether node x meets the rule with the marks of the earlier rounds. It reads its neighbours' labels one by one, lowest dimension first, and stops where
+// those that it has read settle it. With rule 2 or 3 they do exactly where they weigh twice the rule: two that do not work weigh 6, and of bad ones, as many
+// as the rule names, each weighs 2 at least. The weight begins with 64 less that, so that the bit of 64 tells. Nearly all of labelling's time is spent here.
+fn meets_rule(n: usize, rule: usize, labels: &[u8], x: usize) -> Tested
+    requires { ⌜ (2 ≤ rule) × (rule ≤ 3) ⌝ }
+    requires { ⌜ Kept (now labels) ⌝ }
     requires { ⌜ NodeOf n (now labels) x ⌝ }
-    ensures { λ r. ⌜ r ≡ countFrom n (now (labels .entry)) x low ⌝ }
+    ensures holds { λ r. ⌜ r .holds ≡ meets n rule (outIn (now (labels .entry))) (markIn (now (labels .entry))) x ⌝ }
+    ensures looked { λ r. ⌜ r .looked ≡ looks n rule (outIn (now (labels .entry))) (markIn (now (labels .entry))) x ⌝ }
 {
-    let mut found: usize = 0;
+    let mut weight: usize = 64 - 2 * rule;
+    let mut looked: usize = 0;
     let mut bit: usize = 1;
-    let mut i: usize = 0;
-    while i < n {
-        found = found + one(labels[x ^ bit] >= low);
+    while bit < labels.len() {
+        let byte = labels[x ^ bit];
+        looked = looked + 1;
+        weight = weight + byte as usize;
+        if 64 <= weight % 128 {
+            return Tested {
+                holds: true,
+                looked,
+            };
+        }
         bit = bit * 2;
-        i = i + 1;
     }
-    found
-}
-
-// Whether node x meets the rule with the marks of the earlier rounds. The neighbours that do not work are among the bad ones: with fewer than
-// two bad ones it does not meet it, with as many as the rule names it does, and only between these are they counted by themselves.
-fn meets_rule(n: usize, rule: usize, labels: &[u8], x: usize) -> bool
-    requires { ⌜ 2 ≤ rule ⌝ }
-    requires { ⌜ NodeOf n (now labels) x ⌝ }
-    ensures { λ r. ⌜ r ≡ meets n rule (outIn (now (labels .entry))) (markIn (now (labels .entry))) x ⌝ }
-{
-    let bad = count_from(n, labels, x, MARKED);
-    if bad < 2 {
-        return false;
+    Tested {
+        holds: false,
+        looked,
     }
-    if rule <= bad {
-        return true;
-    }
-    2 <= count_from(n, labels, x, OUT)
 }
 
 // Whether this round marks node x.
 fn is_fresh(n: usize, rule: usize, labels: &[u8], x: usize) -> bool
-    requires { ⌜ 2 ≤ rule ⌝ }
+    requires { ⌜ (2 ≤ rule) × (rule ≤ 3) ⌝ }
+    requires { ⌜ Kept (now labels) ⌝ }
     requires { ⌜ NodeOf n (now labels) x ⌝ }
     ensures { λ r. ⌜ r ≡ fresh n rule (now (labels .entry)) x ⌝ }
 {
     if labels[x] != PLAIN {
         return false;
     }
-    meets_rule(n, rule, labels, x)
+    let test = meets_rule(n, rule, labels, x);
+    test.holds
 }
 
-// Whether node x has a neighbour without a mark: in the end, a safe one.
-fn plain_near(n: usize, labels: &[u8], x: usize) -> bool
+// Whether node x has a neighbour without a mark: in the end, a safe one. It stops at the first.
+fn plain_near(n: usize, labels: &[u8], x: usize) -> Tested
     requires { ⌜ NodeOf n (now labels) x ⌝ }
-    ensures { λ r. ⌜ r ≡ some n (λ i. plainIn (now (labels .entry)) (flip i x)) ⌝ }
+    ensures holds { λ r. ⌜ r .holds ≡ some n (λ i. plainIn (now (labels .entry)) (flip i x)) ⌝ }
+    ensures looked { λ r. ⌜ r .looked ≡ looksNear n (plainIn (now (labels .entry))) x ⌝ }
 {
-    let mut i = 0;
-    while i < n {
-        if labels[neighbour(x, i)] == PLAIN {
-            return true;
+    let mut looked = 0;
+    let mut bit = 1;
+    while bit < labels.len() {
+        looked += 1;
+        if labels[x ^ bit] == PLAIN {
+            return Tested {
+                holds: true,
+                looked,
+            };
         }
-        i = i + 1;
+        bit *= 2;
     }
-    false
+    Tested {
+        holds: false,
+        looked,
+    }
 }
 
 // Whether node x is unsafe and has a safe neighbour.
@@ -132,7 +138,8 @@ fn is_ordinary(n: usize, labels: &[u8], x: usize) -> bool
     if labels[x] != MARKED {
         return false;
     }
-    plain_near(n, labels, x)
+    let test = plain_near(n, labels, x);
+    test.holds
 }
 
 fn start_byte(n: usize, faults: &[u8], k: usize) -> u8
@@ -156,10 +163,11 @@ fn start(n: usize, faults: &[u8], labels: &mut [u8])
 
 // The marks of one round; answers how many.
 fn sweep(n: usize, rule: usize, labels: &mut [u8]) -> usize
-    requires { ⌜ 2 ≤ rule ⌝ }
+    requires { ⌜ (2 ≤ rule) × (rule ≤ 3) ⌝ }
+    requires { ⌜ Kept (now labels) ⌝ }
     requires { ⌜ Sized n (now labels) ⌝ }
     ensures marked { λ r. ⌜ r ≡ count (2 ^ n) (fresh n rule (now (labels .entry))) ⌝ }
-    ensures labels { λ r. ⌜ now (labels .exit) ≡ tab (2 ^ n) (oneWhere (fresh n rule (now (labels .entry))) (now (labels .entry))) ⌝ }
+    ensures labels { λ r. ⌜ now (labels .exit) ≡ tab (2 ^ n) (putWhere 128 (fresh n rule (now (labels .entry))) (now (labels .entry))) ⌝ }
 {
     let mut marked: usize = 0;
     let mut x: usize = 0;
@@ -174,7 +182,7 @@ fn sweep(n: usize, rule: usize, labels: &mut [u8]) -> usize
 }
 
 fn settled_byte(byte: u8) -> u8
-    ensures { λ r. ⌜ r ≡ cond (eqb byte 1) 2 byte ⌝ }
+    ensures { λ r. ⌜ r ≡ cond (eqb byte 128) 2 byte ⌝ }
 {
     if byte == NEW { MARKED } else { byte }
 }
@@ -193,7 +201,7 @@ fn settle(labels: &mut [u8])
 // The end of labelling: tells the ordinarily unsafe nodes from the strongly unsafe ones.
 fn finish(n: usize, labels: &mut [u8])
     requires { ⌜ Sized n (now labels) ⌝ }
-    ensures { λ _. ⌜ now (labels .exit) ≡ tab (2 ^ n) (oneWhere (ordinary n (now (labels .entry))) (now (labels .entry))) ⌝ }
+    ensures { λ _. ⌜ now (labels .exit) ≡ tab (2 ^ n) (putWhere 1 (ordinary n (now (labels .entry))) (now (labels .entry))) ⌝ }
 {
     let mut x: usize = 0;
     while x < labels.len() {

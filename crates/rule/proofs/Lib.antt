@@ -1,5 +1,6 @@
 pub mod Rounds
 pub mod Exchanges
+pub mod Looks
 pub mod Largest
 pub mod Bytes
 pub mod Good

@@ -1,5 +1,6 @@
 pub mod Words
 pub mod Picked
 pub mod Repeats
+pub mod FewReads
 pub mod Demand2
 pub mod Demand3

@@ -4,14 +4,14 @@ use mathlib.Core.Logic.{⊎-elim}
 use Prim.Native.Nat.{_<_, _-_}
 use native.Mathlib.Omega.{arith}
 use lib.ListN.{length}
-use Rattle.labels.specs.Passes.{ordinary, oneWhere}
+use Rattle.labels.specs.Passes.{ordinary, putWhere}
 use Rattle.cube.proofs.Filling.{Filled, fill-start, fill-end}
-use Rattle.labels.proofs.Marking.{mark-here, mark-not, ordinary-seen}
+use Rattle.labels.proofs.Marking.{put-here, put-not, ordinary-seen}
 use Rattle.labels.proofs.finish.Statement.{statement}
 use Rattle.labels.proofs.finish.Tie as tie
 
 abbrev Inv-loop : tie.InvT-loop
-Inv-loop n labels₀ x₀ labels x = Filled (oneWhere (ordinary n labels₀) labels₀) labels₀ labels x
+Inv-loop n labels₀ x₀ labels x = Filled (putWhere 1 (ordinary n labels₀) labels₀) labels₀ labels x
 
 abbrev μ-loop : tie.MeasureT-loop
 μ-loop n labels₀ x₀ labels x = length labels₀ - x
@@ -37,8 +37,8 @@ loop-again c =
     let h : s .loop .x < length (s .before .before .args .labels .now) = omega arith in
     let e = c .before .is-ordinary .ensures ∙ ordinary-seen _ _ _ _ (s .loop .inv) in
     ⊎-elim
-    (λ w. rw (w .1) (mark-here _ _ _ _ (s .loop .inv) h (sym e ∙ w .0 .taken)))
-    (λ w. rw (w .1) (mark-not _ _ _ _ (s .loop .inv) h (sym e ∙ w .0 .left)))
+    (λ w. rw (w .1) (put-here _ _ _ _ _ (s .loop .inv) h (sym e ∙ w .0 .taken)))
+    (λ w. rw (w .1) (put-not _ _ _ _ _ (s .loop .inv) h (sym e ∙ w .0 .left)))
     (c .if1 .came)
 
 same-length : tie.Need-same-length Inv-loop μ-loop

@@ -15,11 +15,11 @@ unfolding fresh plainIn labelIn
 returns c = rw (ne-eqb _ _ (c .if1 .taken))
 
 meets-rule-requires : tie.Need-meets-rule-requires
-meets-rule-requires c κs = search needs
+meets-rule-requires c κs = c .before .before .before .pre
 
 returns-2 : tie.Need-returns-2
 unfolding fresh plainIn labelIn
-returns-2 c = c .meets-rule .ensures ∙ rw (eq-eqb _ _ (c .before .if1 .left))
+returns-2 c = c .meets-rule .ensures .0 ∙ rw (eq-eqb _ _ (c .before .if1 .left))
 
 pub is-fresh-spec : {M : Type 1} → statement M
 is-fresh-spec = tie.close (tie.spec shared-slice-read-if1 returns meets-rule-requires returns-2)

@@ -19,7 +19,7 @@ plain-near-requires c κs = search needs
 
 returns-2 : tie.Need-returns-2
 unfolding ordinary markIn labelIn
-returns-2 c = c .plain-near .ensures ∙ rw (eq-eqb _ _ (c .before .if1 .left))
+returns-2 c = c .plain-near .ensures .0 ∙ rw (eq-eqb _ _ (c .before .if1 .left))
 
 pub is-ordinary-spec : {M : Type 1} → statement M
 is-ordinary-spec = tie.close (tie.spec shared-slice-read-if1 returns plain-near-requires returns-2)

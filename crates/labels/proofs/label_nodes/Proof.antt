@@ -10,7 +10,7 @@ use Rattle.rule.specs.Cabinet.{cabinet, out}
 use Rattle.rule.specs.Rule.{working}
 use Rattle.rule.proofs.Rounds.{working-few}
 use Rattle.labels.proofs.Loop.{Turn, swept-length, round-bound, round-done, end-exchanges, end-labels}
-use Rattle.labels.proofs.Standing.{stands-first, stands-length}
+use Rattle.labels.proofs.Standing.{stands-first, stands-kept, stands-length}
 use Rattle.labels.proofs.label_nodes.Statement.{statement}
 use Rattle.labels.proofs.label_nodes.Tie as tie
 
@@ -47,7 +47,8 @@ sweep-requires : tie.Need-sweep-requires Inv-loop μ-loop
 sweep-requires c κs =
     let l = c .before in
     let p = start l .pre in
-    (omega (arith, p .0), record { small = p .1 .1 .small; sized = stands-length (cabinet _ _) _ _ (l .loop .inv .stands) })
+    let T = l .loop .inv .stands in
+    (omega (arith, p .0), (stands-kept (cabinet _ _) _ _ T, record { small = p .1 .1 .small; sized = stands-length (cabinet _ _) _ _ T }))
 
 settle-requires : tie.Need-settle-requires Inv-loop μ-loop
 settle-requires c κs = search needs

@@ -6,15 +6,15 @@ use native.Mathlib.Omega.{arith}
 use lib.ListN.{length}
 use Rattle.cube.specs.Count.{count}
 use Rattle.cube.proofs.Count.{count-zero, count-bound}
-use Rattle.labels.specs.Passes.{fresh, oneWhere}
+use Rattle.labels.specs.Passes.{fresh, putWhere}
 use Rattle.cube.proofs.Filling.{Filled, fill-start, fill-end}
-use Rattle.labels.proofs.Marking.{sweep-here, sweep-not, fresh-seen}
+use Rattle.labels.proofs.Marking.{kept-on, sweep-here, sweep-not, fresh-seen}
 use Rattle.labels.proofs.sweep.Statement.{statement}
 use Rattle.labels.proofs.sweep.Tie as tie
 
 abbrev Inv-loop : tie.InvT-loop
 Inv-loop n rule labels₀ marked₀ x₀ labels marked x =
-    Filled (oneWhere (fresh n rule labels₀) labels₀) labels₀ labels x × (marked ≡ count x (fresh n rule labels₀))
+    Filled (putWhere 128 (fresh n rule labels₀) labels₀) labels₀ labels x × (marked ≡ count x (fresh n rule labels₀))
 
 abbrev μ-loop : tie.MeasureT-loop
 μ-loop n rule labels₀ marked₀ x₀ labels marked x = length labels₀ - x
@@ -23,7 +23,10 @@ loop-holds : tie.Need-loop-holds Inv-loop μ-loop
 loop-holds c = (fill-start _ _, sym (count-zero _))
 
 is-fresh-requires : tie.Need-is-fresh-requires Inv-loop μ-loop
-is-fresh-requires c κs = omega arith
+is-fresh-requires c κs =
+    let s = c .before .before in
+    let a = s .before .before in
+    (a .pre .0, (kept-on _ _ _ _ (s .loop .inv .0) (a .pre .1 .0), omega arith))
 
 slice-write-labels : tie.Need-slice-write-labels Inv-loop μ-loop
 slice-write-labels c = omega arith
@@ -45,8 +48,8 @@ loop-again c =
     let h : s .loop .x < length (s .before .before .args .labels .now) = omega arith in
     let e = c .before .is-fresh .ensures ∙ fresh-seen _ _ _ _ _ (s .loop .inv .0) in
     ⊎-elim
-    (λ w. rw (w .1, w .2) (sweep-here _ _ _ _ (s .loop .inv .0) _ (s .loop .inv .1) h (sym e ∙ w .0 .taken)))
-    (λ w. rw (w .1, w .2) (sweep-not _ _ _ _ (s .loop .inv .0) _ (s .loop .inv .1) h (sym e ∙ w .0 .left)))
+    (λ w. rw (w .1, w .2) (sweep-here _ _ _ _ _ (s .loop .inv .0) _ (s .loop .inv .1) h (sym e ∙ w .0 .taken)))
+    (λ w. rw (w .1, w .2) (sweep-not _ _ _ _ _ (s .loop .inv .0) _ (s .loop .inv .1) h (sym e ∙ w .0 .left)))
     (c .if1 .came)
 
 same-length : tie.Need-same-length Inv-loop μ-loop
