@@ -167,19 +167,6 @@ static void prepare(void)
     expect_alike(walk_all, "walk");
 }
 
-/* Bytes of the label table that one hop reads: fewest and most. */
-static void print_reads(void)
-{
-    unsigned long fewest = ~0ul, most = 0;
-    for (unsigned k = 0; k < PAIRS; k++) {
-        label_reads = 0;
-        counted_hop(n, from[k], to[k], labels, nodes);
-        fewest = label_reads < fewest ? label_reads : fewest;
-        most = label_reads > most ? label_reads : most;
-    }
-    printf("   %lu to %lu", fewest, most);
-}
-
 static void print_row(const char *name)
 {
     prepare();
@@ -187,7 +174,6 @@ static void print_row(const char *name)
     measure(label_once, 1);
     measure(hop_all, PAIRS);
     measure(walk_all, PAIRS);
-    print_reads();
     printf("\n");
     fflush(stdout);
 }
@@ -220,7 +206,7 @@ int main(int count, char **words)
 {
     static const char head[] =
         " n table     exchanges   label, ns ratio     hop, ns ratio    walk, ns"
-        " ratio   bytes a hop\n";
+        " ratio\n";
     repetitions = count > 1 ? (unsigned)atoi(words[1]) : 51;
     if (repetitions < 1 || repetitions > MOST_REPETITIONS)
         repetitions = 51;

@@ -1,7 +1,6 @@
 /*
  * plain.c: the library's algorithm in plain C, to measure the archive against.
- * PREFIX is the prefix of the functions' names; COUNT_READS counts the bytes
- * that are read of the label table.
+ * PREFIX is the prefix of the functions' names.
  */
 #include "plain.h"
 
@@ -11,15 +10,8 @@
 #define JOIN(a, b) JOIN2(a, b)
 #define NAME(name) JOIN(PREFIX, name)
 
-#ifdef COUNT_READS
-unsigned long label_reads;
-#define READ(table, k) (label_reads++, (table)[k])
-#else
-#define READ(table, k) ((table)[k])
-#endif
-
 enum { SAFE, ORDINARY, STRONG, FAULTY };
-enum { FRESH = ORDINARY, MARKED = STRONG }; /* while the exchanges go on */
+enum { MARKED = STRONG, FRESH = 128 }; /* while the exchanges go on */
 enum { DELIVER, HOP, HALTED };
 
 static uint32_t refused(uint32_t refusal)
@@ -29,29 +21,24 @@ static uint32_t refused(uint32_t refusal)
 
 /* ---- labelling, in the lent buffer */
 
-/* How many neighbours of k have this label or a larger one. */
-static unsigned count_from(uint32_t n, uint32_t k, const uint8_t *labels,
-                           uint8_t least)
-{
-    unsigned found = 0;
-    for (uint32_t i = 0, bit = 1; i < n; i++, bit *= 2)
-        found += READ(labels, k ^ bit) >= least;
-    return found;
-}
-
+/* Two faulty neighbours, or three that are faulty or marked: a byte is what it
+ * weighs, and 6 is enough. A fresh one, 128, leaves the bit that tells. */
 static int meets_rule(uint32_t n, uint32_t k, const uint8_t *labels)
 {
-    unsigned bad = count_from(n, k, labels, MARKED); /* or FAULTY */
-    if (bad != 2)
-        return bad >= 3;
-    return count_from(n, k, labels, FAULTY) >= 2;
+    unsigned weight = 64 - 6;
+    for (uint32_t bit = 1; bit < 1u << n; bit *= 2) {
+        weight += labels[k ^ bit];
+        if (weight & 64)
+            return 1;
+    }
+    return 0;
 }
 
 static int sweep(uint32_t n, uint8_t *labels, size_t nodes)
 {
     int something_new = 0;
     for (uint32_t k = 0; k < nodes; k++)
-        if (READ(labels, k) == SAFE && meets_rule(n, k, labels)) {
+        if (labels[k] == SAFE && meets_rule(n, k, labels)) {
             labels[k] = FRESH;
             something_new = 1;
         }
@@ -61,13 +48,13 @@ static int sweep(uint32_t n, uint8_t *labels, size_t nodes)
 static void settle(uint8_t *labels, size_t nodes)
 {
     for (size_t k = 0; k < nodes; k++)
-        labels[k] = READ(labels, k) == FRESH ? MARKED : READ(labels, k);
+        labels[k] = labels[k] == FRESH ? MARKED : labels[k];
 }
 
 static int has_safe_neighbour(uint32_t n, uint32_t k, const uint8_t *labels)
 {
     for (uint32_t i = 0; i < n; i++)
-        if (READ(labels, k ^ 1u << i) == SAFE)
+        if (labels[k ^ 1u << i] == SAFE)
             return 1;
     return 0;
 }
@@ -89,7 +76,7 @@ uint32_t NAME(label)(uint32_t n, const uint8_t *faults, size_t faults_len,
         exchanges++;
     }
     for (uint32_t k = 0; k < labels_len; k++)
-        if (READ(labels, k) == MARKED && has_safe_neighbour(n, k, labels))
+        if (labels[k] == MARKED && has_safe_neighbour(n, k, labels))
             labels[k] = ORDINARY;
     return exchanges;
 }
@@ -105,9 +92,9 @@ struct around {
 static int gather(uint32_t n, uint32_t c, const uint8_t *labels,
                   struct around *around)
 {
-    uint8_t bits = around->own = READ(labels, c);
+    uint8_t bits = around->own = labels[c];
     for (uint32_t i = 0, step = 1; i < n; i++, step += step)
-        bits |= around->neighbour[i] = READ(labels, c ^ step);
+        bits |= around->neighbour[i] = labels[c ^ step];
     return bits <= 3;
 }
 
@@ -167,7 +154,7 @@ static int all_labels(const uint8_t *labels, size_t nodes)
 {
     uint8_t bits = 0;
     for (size_t k = 0; k < nodes; k++)
-        bits |= READ(labels, k);
+        bits |= labels[k];
     return bits <= 3;
 }
 
@@ -185,9 +172,9 @@ uint32_t NAME(walk)(uint32_t n, uint32_t s, uint32_t d, const uint8_t *labels,
         return refused(5);
     if (!all_labels(labels, labels_len))
         return refused(4);
-    if (READ(labels, s) == FAULTY)
+    if (labels[s] == FAULTY)
         return refused(6);
-    if (READ(labels, d) == FAULTY)
+    if (labels[d] == FAULTY)
         return refused(7);
     places[0] = (uint16_t)s;
     while (c != d) {

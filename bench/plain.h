@@ -1,6 +1,6 @@
 /*
  * plain.h: labelling, hop and walk in plain C, compiled by two compilers (gcc_,
- * clang_) and once with the reads of the label table counted (counted_).
+ * clang_).
  */
 #ifndef PLAIN_H
 #define PLAIN_H
@@ -20,9 +20,5 @@
 
 DECLARE(gcc_)
 DECLARE(clang_)
-DECLARE(counted_)
-
-/* Reads of the label table by the counted_ functions. */
-extern unsigned long label_reads;
 
 #endif

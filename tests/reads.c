@@ -1,0 +1,259 @@
+/*
+ * reads.c: which labels the archive reads, watched while its machine code runs,
+ * against document 02's request A6: the test of a node reads its neighbours'
+ * labels one by one, lowest dimension first, and no more of them than settle it.
+ * Here all that is expected is worked out anew from the fault table.
+ *
+ *   reads           checks; prints `ok ..` and `FAIL ..`
+ *   reads table     how many labels were read, for docs/PERFORMANCE.md
+ */
+#include <stdio.h>
+#include <string.h>
+
+#include "../include/hcube.h"
+#include "cases.h"
+#include "watch.h"
+
+static uint32_t n;
+static uint8_t faults[512];
+
+/* ---- the rounds, by the fault table: 1 where a node is faulty, has a mark */
+
+static uint8_t faulty[4096], marked[4096], next_marked[4096];
+
+/* The first so many neighbours of x settle that it meets the rule. */
+static int settled(uint32_t x, uint32_t so_many)
+{
+    unsigned out = 0, bad = 0;
+    for (uint32_t i = 0; i < so_many; i++) {
+        out += faulty[x ^ 1u << i];
+        bad += faulty[x ^ 1u << i] || marked[x ^ 1u << i];
+    }
+    return out >= 2 || bad >= 3;
+}
+
+/* How many neighbours the test looks at: the least number that settles it. */
+static uint32_t looked(uint32_t x)
+{
+    uint32_t least = 0;
+    while (least < n && !settled(x, least))
+        least++;
+    return least;
+}
+
+/* The first dimension across which x has a safe neighbour; else n. */
+static uint32_t first_safe(uint32_t x)
+{
+    uint32_t i = 0;
+    while (i < n && (faulty[x ^ 1u << i] || marked[x ^ 1u << i]))
+        i++;
+    return i;
+}
+
+/* What the test read before A6: it counted the bad neighbours, all of them, and
+ * where two were bad it counted once more. */
+static uint32_t read_before(uint32_t x)
+{
+    unsigned bad = 0;
+    for (uint32_t i = 0; i < n; i++)
+        bad += faulty[x ^ 1u << i] || marked[x ^ 1u << i];
+    return bad == 2 ? 2 * n : n;
+}
+
+/* ---- what was noted, held against it */
+
+static size_t at;        /* the notes before this one were as expected */
+static char wrong[160];  /* what was not */
+static unsigned exchanges;
+/* tests of the rule in the sweeps, and the reads that were noted in them, that
+ * the definition gives, and that were made before A6 */
+static unsigned long tests, reads, defined, reads_before;
+
+static void expect_access(int write, uint32_t place, const char *what)
+{
+    if (*wrong)
+        return;
+    if (at == noted)
+        snprintf(wrong, sizeof wrong, "%s: no more accesses", what);
+    else if (notes[at].is_write != write || notes[at].place != place)
+        snprintf(wrong, sizeof wrong, "%s: %s at %u and not %s at %u", what,
+                 notes[at].is_write ? "write" : "read", notes[at].place,
+                 write ? "write" : "read", place);
+    else
+        at++;
+}
+
+static void expect_neighbours(uint32_t x, uint32_t so_many, const char *what)
+{
+    for (uint32_t i = 0; i < so_many; i++)
+        expect_access(0, x ^ 1u << i, what);
+}
+
+/* One sweep: each node's own label, and where it is plain the test of the rule.
+ * Whether it marked something. */
+static int expect_sweep(void)
+{
+    int something_new = 0;
+    memcpy(next_marked, marked, sizeof marked);
+    for (uint32_t x = 0; x < HCUBE_NODES(n); x++) {
+        size_t from;
+        expect_access(0, x, "a node of a sweep");
+        if (faulty[x] || marked[x])
+            continue;
+        from = at;
+        expect_neighbours(x, looked(x), "the test of the rule");
+        tests++;
+        reads += at - from;
+        defined += looked(x);
+        reads_before += read_before(x);
+        if (settled(x, n)) {
+            expect_access(1, x, "a mark");
+            next_marked[x] = something_new = 1;
+        }
+    }
+    memcpy(marked, next_marked, sizeof marked);
+    exchanges++;
+    return something_new;
+}
+
+/* The pass that ends a round goes once through the table, in whatever steps. */
+static void expect_pass(void)
+{
+    int last[2] = {-1, -1};
+    while (at < noted && notes[at].place > last[notes[at].is_write]) {
+        last[notes[at].is_write] = notes[at].place;
+        at++;
+    }
+}
+
+/* The last pass: each node's own label, and of an unsafe one the neighbours up
+ * to the first safe one. */
+static void expect_finish(void)
+{
+    for (uint32_t x = 0; x < HCUBE_NODES(n); x++) {
+        expect_access(0, x, "a node of the last pass");
+        if (faulty[x] || !marked[x])
+            continue;
+        if (first_safe(x) == n) {
+            expect_neighbours(x, n, "the test for a safe neighbour");
+        } else {
+            expect_neighbours(x, first_safe(x) + 1, "the test for a safe neighbour");
+            expect_access(1, x, "an ordinarily unsafe label");
+        }
+    }
+}
+
+static void expect_end(void)
+{
+    if (!*wrong && at < noted)
+        snprintf(wrong, sizeof wrong, "%u accesses too many", (unsigned)(noted - at));
+}
+
+/* Labels the fault table at hand under watch. */
+static void expect_labelling(void)
+{
+    uint8_t *labels = watched_table();
+    at = 0;
+    *wrong = 0;
+    exchanges = 0;
+    tests = reads = defined = reads_before = 0;
+    for (uint32_t x = 0; x < HCUBE_NODES(n); x++)
+        faulty[x] = faults[x / 8] >> (x % 8) & 1;
+    memset(marked, 0, sizeof marked);
+    watch_begin();
+    hcube_label(n, faults, HCUBE_FAULT_BYTES(n), labels, HCUBE_NODES(n));
+    watch_end();
+    while (at < noted && notes[at].is_write) /* the table before the first round */
+        at++;
+    while (expect_sweep())
+        expect_pass();
+    expect_finish();
+    expect_end();
+}
+
+/* A hop at c under watch: its own label, then each neighbour's, and no more. */
+static void expect_hop(uint32_t c, uint32_t d)
+{
+    at = 0;
+    *wrong = 0;
+    watch_begin();
+    hcube_hop(n, c, d, watched_table(), HCUBE_NODES(n));
+    watch_end();
+    expect_access(0, c, "a hop's own label");
+    expect_neighbours(c, n, "a hop's neighbours");
+    expect_end();
+}
+
+/* ---- the tables, by their faulty nodes per mille */
+
+static const unsigned densities[] = {0, 3, 10, 62, 250, 500, 1000};
+static const unsigned printed[] = {0, 10, 62, 250, 500};
+static int failed;
+
+static void result(const char *what, unsigned cases)
+{
+    if (*wrong)
+        printf("FAIL reads of %s, n = %u: %s\n", what, n, wrong);
+    else
+        printf("ok reads of %s, n = %u: %u cases\n", what, n, cases);
+    failed |= *wrong != 0;
+}
+
+/* Three tables of each density, or one where the cube is large. */
+static void check_labelling(void)
+{
+    unsigned cases = 0, tables = n <= 8 ? 3 : 1;
+    *wrong = 0;
+    for (unsigned k = 0; k < tables * COUNT(densities) && !*wrong; k++) {
+        random_faults(n, densities[k % COUNT(densities)], faults);
+        expect_labelling();
+        cases++;
+    }
+    result("labelling", cases);
+}
+
+static void check_hops(void)
+{
+    unsigned cases = 0;
+    random_labels(n, 3, watched_table());
+    *wrong = 0;
+    for (unsigned k = 0; k < 200 && !*wrong; k++) {
+        expect_hop(random_below(HCUBE_NODES(n)), random_below(HCUBE_NODES(n)));
+        cases++;
+    }
+    result("hops", cases);
+}
+
+static void print_row(unsigned per_mille)
+{
+    unsigned count = 0;
+    random_faults(n, per_mille, faults);
+    expect_labelling();
+    if (*wrong) {
+        printf("n = %u: %s\n", n, wrong);
+        failed = 1;
+        return;
+    }
+    for (uint32_t x = 0; x < HCUBE_NODES(n); x++)
+        count += faulty[x];
+    printf("%2u %6u %9u %9lu %8.2f %10.2f %9.2f\n", n, count, exchanges, tests,
+           (double)reads / (double)tests, (double)defined / (double)tests,
+           (double)reads_before / (double)tests);
+}
+
+int main(int count, char **words)
+{
+    random_seed(6);
+    if (count == 1 || strcmp(words[1], "table") != 0) {
+        for (n = 1; n <= 12; n++) {
+            check_labelling();
+            check_hops();
+        }
+        return failed;
+    }
+    printf(" n faults exchanges     tests  watched  definition  before A6\n");
+    for (n = 4; n <= 12; n += 4)
+        for (unsigned k = 0; k < COUNT(printed); k++)
+            print_row(printed[k]);
+    return failed;
+}
