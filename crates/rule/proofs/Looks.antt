@@ -11,7 +11,7 @@ use Rattle.cube.specs.Cube.{flip}
 use Rattle.cube.proofs.Bools.{clash, either}
 use Rattle.cube.proofs.Count.{count-up}
 use Rattle.cube.proofs.Search.{some-found, some-hit, the-least}
-use Rattle.rule.specs.Looks.{Looked, Looks, Near, looks, looksNear}
+use Rattle.rule.specs.Looks.{Looked, LooksLaws, Near, looks, looksNear}
 use Rattle.rule.specs.Rounds.{Unsafe}
 use Rattle.rule.specs.Rule.{meets}
 use Rattle.rule.proofs.Rounds.{meets-says}
@@ -93,7 +93,7 @@ unsafe-rises k F m x j i h (inr a) = inr (omega (arith, count-up j i (λ d. F (f
 pub near-rises : (S : ℕ → Bool) (x : ℕ) → Rises (Near S x)
 near-rises S x j i h w = (w .0, omega arith, w .2)
 
-pub looks-laws : Looks
+pub looks-laws : LooksLaws
 unfolding looks looksNear
 looks-laws =
     record {

@@ -31,6 +31,6 @@ pub record Looked (n : ℕ) (Enough : ℕ → Type 0) (holds : Bool) (looked : �
   -- and as soon as they do: no fewer would
   pub soonest : (j : ℕ) → j < looked → Enough j → ⊥
 
-pub record Looks : Type 0 where
+pub record LooksLaws : Type 0 where
   pub rule : (n k : ℕ) (F m : ℕ → Bool) (x : ℕ) → Looked n (λ j. Unsafe j k F m x) (meets n k F m x) (looks n k F m x)
   pub near : (n : ℕ) (S : ℕ → Bool) (x : ℕ) → Looked n (Near S x) (some n (λ i. S (flip i x))) (looksNear n S x)

@@ -1,4 +1,4 @@
--- The contracts give the verdict and the number of neighbours looked at, and `Looks` says what these are. What settles a test is a matter of the neighbours
+-- The contracts give the verdict and the number of neighbours looked at, and `LooksLaws` says what these are. What settles a test is a matter of the neighbours
 -- looked at alone, so two tables that agree on them part at none of them.
 use mathlib.Core.Path.{_≡_, sym, ap, _∙_}
 use mathlib.Core.Bool.{Bool}
