@@ -18,6 +18,10 @@ pub record Function (T : Ended) (A X B : Type 0) : Type 2 where
   pub answered : (κs : Lfts (T .signature .lifetimes)) → Res (T .signature) κs → X
   pub left : (κs : Lfts (T .signature .lifetimes)) → AtExit T κs → B
 
+-- the clauses at every model, from how the check writes them
+abbrev pub Written : Ended → Type 2
+Written T = (w : World) → Clauses (w .𝓤) T
+
 -- where nothing is lent to be written
 abbrev pub Nothing : Type 0
 Nothing = Unit {0}
@@ -51,3 +55,11 @@ module _ {T : Ended} {A X B : Type 0} (f : Function T A X B) where
     pub asked : (κs : Lfts (T .signature .lifetimes)) (a : Args (T .signature) κs) → f .asked κs a
     pub empty : (w : World) (κs : Lfts (T .signature .lifetimes)) (a : Args (T .signature) κs)
         → (g : f .clauses w κs a .ghost) × (f .clauses w κs a .requires g ≡ emp (w .𝓤))
+
+  -- these are its clauses, and these its claims: so it is the function of the code that they are taken from, and no copy of it
+  pub record Tied
+      (written : Written T) (asks : (κs : Lfts (T .signature .lifetimes)) → Args (T .signature) κs → Type 0)
+      (says : (κs : Lfts (T .signature .lifetimes)) → Args (T .signature) κs → Res (T .signature) κs → AtExit T κs → Type 0) : Type 2 where
+    pub clauses : (w : World) → f .clauses w ≡ written w
+    pub asked : f .asked ≡ asks
+    pub post : f .post ≡ says

@@ -6,3 +6,4 @@ pub mod Loop
 pub mod Refusal
 pub mod Functions
 pub mod Tests
+pub mod TestsTied

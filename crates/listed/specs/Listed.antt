@@ -4,9 +4,8 @@ use mathlib.Core.List.{List}
 use mathlib.Core.Path.{_≡_}
 use Prim.Native.Nat.{ℕ, _≤_}
 use lib.ListN.{take}
-use Rattle.cube.specs.Contracts.{AsksFor, May}
+use Rattle.cube.specs.Contracts.{AsksFor, May, Tied}
 use Rattle.notice.specs.Notice.{dimensionOf, noticeOf, tailAt}
-use Rattle.promises.specs.Tied.{Tied}
 use Rattle.printed.specs.Laws.{ListingLaws}
 use Rattle.printed.specs.Printed.{headLine, labelsIn, lineAt, nextAt}
 use Rattle.printed.specs.declared.Head.{Head}

@@ -6,9 +6,9 @@ use borrow.Fn.Claims.{AllOf}
 use borrow.Fn.Read.{ReadAt, no-know}
 use borrow.Fn.World.{World, w₀}
 use contract.Lifetimes.{Lfts}
-use denote.Triple.Clauses.{AtExit, Clauses, Ended}
+use denote.Triple.Clauses.{AtExit, Ended}
 use denote.Triple.Entry.{Args, Res}
-use Rattle.cube.specs.Contracts.{Function}
+use Rattle.cube.specs.Contracts.{Function, Tied, Written}
 use Rattle.cube.proofs.Functions as cube
 use Rattle.cube.proofs.distance as cube-distance
 use Rattle.cube.proofs.is_dimension as cube-is-dimension
@@ -41,19 +41,7 @@ use Rattle.hcube.proofs.hcube_label as hcube-label
 use Rattle.hcube.proofs.hcube_read_notice as hcube-read-notice
 use Rattle.hcube.proofs.hcube_walk as hcube-walk
 
--- the clauses at every model, from how the check writes them
-abbrev pub Written : Ended → Type 2
-Written T = (w : World) → Clauses (w .𝓤) T
-
 module _ {T : Ended} {A X B : Type 0} (f : Function T A X B) (written : Written T) where
-  -- these are its clauses, and these its claims
-  pub record Tied
-      (asks : (κs : Lfts (T .signature .lifetimes)) → Args (T .signature) κs → Type 0)
-      (says : (κs : Lfts (T .signature .lifetimes)) → Args (T .signature) κs → Res (T .signature) κs → AtExit T κs → Type 0) : Type 2 where
-    pub clauses : (w : World) → f .clauses w ≡ written w
-    pub asked : f .asked ≡ asks
-    pub post : f .post ≡ says
-
   -- a method that holds a borrow, of which the check makes no claims: these are its clauses, and the claim is what whoever has its `ensures` learns
   pub record TiedMethod : Type 2 where
     pub clauses : (w : World) → f .clauses w ≡ written w

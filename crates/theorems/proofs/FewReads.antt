@@ -14,6 +14,7 @@ use Rattle.rule.proofs.Looks.{Rises, looks-laws, near-rises, unread, unsafe-ris
 use Rattle.rule.proofs.Rounds.{meets-same, meets-says}
 use Rattle.labels.specs.Passes.{markIn, outIn, plainIn}
 use Rattle.labels.proofs.Tests.{meets-rule-says, plain-near-says}
+use Rattle.labels.proofs.TestsTied.{tests-tied}
 use Rattle.theorems.specs.FewReads.{Alike, NearTest, ReadsFew, RuleTest, TestsRead}
 
 module _
@@ -56,6 +57,7 @@ near-looks n x l b r m =
 pub tests-read : TestsRead
 tests-read =
     record {
+      tied = tests-tied;
       rule = λ n k x. reads-few n x (RuleTest n k x) (λ l j. Unsafe j k (outIn l) (markIn l) x) (rule-looks n k x)
           (λ l. unsafe-rises k (outIn l) (markIn l) x) (unsafe-same k x);
       near = λ n x. reads-few n x (NearTest n x) (λ l. Near (plainIn l) x) (near-looks n x) (λ l. near-rises (plainIn l) x) (near-same x);

@@ -11,6 +11,7 @@ use Rattle.rule.specs.Looks.{Looked, Near}
 use Rattle.rule.specs.Rounds.{Unsafe}
 use Rattle.labels.specs.Passes.{markIn, outIn, plainIn}
 use Rattle.labels.proofs.Tests.{meets-rule, plain-near}
+use Rattle.labels.proofs.TestsTied.{TestsTied}
 
 -- two tables have the same labels at the first j neighbours of x
 abbrev pub Alike : (l l′ : List ℕ) (x j : ℕ) → Type 0
@@ -31,7 +32,9 @@ RuleTest n k x l b r = May meets-rule (n, k, l, x) (b, r) tt
 abbrev pub NearTest : (n x : ℕ) (l : List ℕ) (b : Bool) (r : ℕ) → Type 0
 NearTest n x l b r = May plain-near (n, l, x) (b, r) tt
 
-pub record TestsRead : Type 0 where
+pub record TestsRead : Type 2 where
+  -- the contracts are the code's own
+  pub tied : TestsTied
   -- the test of the rule "stops as soon as two faulty or three non-safe neighbours have been seen" (k non-safe ones)
   pub rule : (n k x : ℕ) → ReadsFew n x (RuleTest n k x) (λ l j. Unsafe j k (outIn l) (markIn l) x)
   -- the test that tells ordinarily from strongly unsafe "stops at the first safe neighbour"
