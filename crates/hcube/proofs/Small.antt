@@ -1,4 +1,4 @@
--- Every part of an answer is small, so that the packed number does not wrap: a refusal is at most 12, a dimension below 12, a hop count at most 16.
+-- Every part of an answer is small, so that the packed number does not wrap: a refusal is at most 18, a dimension below 12, a hop count at most 16.
 -- A walk that is not refused was lent a row of 34 bytes.
 use mathlib.Core.Path.{_≡_, refl}
 use mathlib.Core.Bool.{true, false}

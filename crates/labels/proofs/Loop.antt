@@ -25,7 +25,7 @@ use Rattle.cube.proofs.Count.{below-suc, none-counted}
 use Rattle.cube.proofs.Search.{some-same}
 use Rattle.cube.proofs.Cube.{flip-lt}
 use Rattle.cube.proofs.Front.{length-tab, getD-tab, tab-cong}
-use Rattle.rule.specs.Cabinet.{Cabinet, exchangesOf, labelsOf, out, outByte, ruleOf}
+use Rattle.rule.specs.Cabinet.{Cabinet, exchangesOf, labelsOf, out, outByte}
 use Rattle.rule.specs.Rule.{quiet, working, rounds, exchanges, safe, labelOf, label}
 use Rattle.rule.proofs.Cabinet.{out-high}
 use Rattle.rule.proofs.Rounds.{marked-suc, newly-says, loud-le, rounds-is}
@@ -53,7 +53,7 @@ module _ (K : Cabinet) (l : List ℕ) (r : ℕ) (T : Stands K l r) where
   n = K .n
 
   -- the last pass, where the rounds have come to rest
-  end-byte : rounds n (ruleOf K) (out K) ≡ r → (x : ℕ) → x < 2 ^ n → putWhere 1 (ordinary n l) l x ≡ label n (ruleOf K) (out K) (outByte K) x
+  end-byte : rounds n (K .rule) (out K) ≡ r → (x : ℕ) → x < 2 ^ n → putWhere 1 (ordinary n l) l x ≡ label n (K .rule) (out K) (outByte K) x
   unfolding ordinary label labelOf safe putWhere
   end-byte e x h = rw e (go (kind K l r T x h))
     where
@@ -67,15 +67,15 @@ module _ (K : Cabinet) (l : List ℕ) (r : ℕ) (T : Stands K l r) where
       go (is-mark a b e) = rw (mark-is K l r T x h, b, near, e, a)
       go (is-plain a b e) = put-no 1 (ordinary n l) l x (rw (mark-is K l r T x h, b)) ∙ rw (a, b) e
 
-module _ (K : Cabinet) (l : List ℕ) (r : ℕ) (T : Stands K l r) (k : ℕ) (rule : k ≡ ruleOf K) where
+module _ (K : Cabinet) (l : List ℕ) (r : ℕ) (T : Stands K l r) where
   abbrev size : ℕ
   size = 2 ^ K .n
 
   abbrev swept : ℕ → ℕ
-  swept = putWhere 128 (fresh (K .n) k l) l
+  swept = putWhere 128 (fresh (K .n) (K .rule) l) l
 
   -- the sweep answered m and left the table l₁
-  module _ (m : ℕ) (l₁ : List ℕ) (em : m ≡ count size (fresh (K .n) k l)) (e₁ : l₁ ≡ tab size swept) where
+  module _ (m : ℕ) (l₁ : List ℕ) (em : m ≡ count size (fresh (K .n) (K .rule) l)) (e₁ : l₁ ≡ tab size swept) where
     pub swept-length : length l₁ ≡ size
     swept-length = ap length e₁ ∙ length-tab size swept
 
@@ -89,34 +89,34 @@ module _ (K : Cabinet) (l : List ℕ) (r : ℕ) (T : Stands K l r) (k : ℕ) (ru
     settled-is x h = go (either (new K r x)) (kind K l r T x h)
       where
         marks-on : marks K (suc r) x ≡ (marks K r x || new K r x)
-        marks-on = marked-suc (K .n) (ruleOf K) (out K) r x
+        marks-on = marked-suc (K .n) (K .rule) (out K) r x
 
         marked-now : new K r x ≡ true → labelIn l₁ x ≡ 128
-        marked-now t = swept-byte x h ∙ put-yes 128 (fresh (K .n) k l) l x (fresh-is K l r T k rule x h ∙ t)
+        marked-now t = swept-byte x h ∙ put-yes 128 (fresh (K .n) (K .rule) l) l x (fresh-is K l r T x h ∙ t)
 
         old : new K r x ≡ false → labelIn l₁ x ≡ labelIn l x
-        old t = swept-byte x h ∙ put-no 128 (fresh (K .n) k l) l x (fresh-is K l r T k rule x h ∙ t)
+        old t = swept-byte x h ∙ put-no 128 (fresh (K .n) (K .rule) l) l x (fresh-is K l r T x h ∙ t)
 
         go : (new K r x ≡ true) ⊎ (new K r x ≡ false) → Kind K l r T x → settled l₁ x ≡ held K (suc r) x
         go (inl t) _ =
             settle-new l₁ x (marked-now t)
-            ∙ sym (held-mark K (suc r) x (newly-says (K .n) (ruleOf K) (out K) (marks K r) x t .0) (marks-on ∙ or-right (marks K r x) t))
+            ∙ sym (held-mark K (suc r) x (newly-says (K .n) (K .rule) (out K) (marks K r) x t .0) (marks-on ∙ or-right (marks K r x) t))
         go (inr t) (is-out a b e) = settle-not l₁ x (outByte K x) (old t ∙ e) (λ q. omega (arith, out-high K x a)) ∙ sym (held-out K (suc r) x a)
         go (inr t) (is-mark a b e) =
             settle-not l₁ x 2 (old t ∙ e) (λ q. omega arith) ∙ sym (held-mark K (suc r) x a (marks-on ∙ or-left (new K r x) b))
         go (inr t) (is-plain a b e) = settle-not l₁ x 0 (old t ∙ e) (λ q. omega arith) ∙ sym (held-plain K (suc r) x a (marks-on ∙ rw (b, t)))
 
     module _ (some-new : m ≡ 0 → ⊥) where
-      still-loud : (j : ℕ) → j < r + 1 → quiet (K .n) (ruleOf K) (out K) j ≡ false
+      still-loud : (j : ℕ) → j < r + 1 → quiet (K .n) (K .rule) (out K) j ≡ false
       unfolding quiet
       still-loud j h =
           ⊎-elim
-          (λ (q : j ≡ r). rw q (ne-eqb (count size (new K r)) 0 (λ z. some-new (em ∙ marks-are K l r T k rule ∙ z))))
+          (λ (q : j ≡ r). rw q (ne-eqb (count size (new K r)) 0 (λ z. some-new (em ∙ marks-are K l r T ∙ z))))
           (λ (q : j < r). T .loud j q)
           (below-suc (omega arith))
 
       pub round-bound : r + 1 ≤ working (K .n) (out K)
-      round-bound = loud-le (K .n) (ruleOf K) (out K) (r + 1) still-loud
+      round-bound = loud-le (K .n) (K .rule) (out K) (r + 1) still-loud
 
       pub round-done : (l₂ : List ℕ) → l₂ ≡ tab (length l₁) (settled l₁) → Stands K l₂ (r + 1)
       round-done l₂ e₂ =
@@ -129,10 +129,10 @@ module _ (K : Cabinet) (l : List ℕ) (r : ℕ) (T : Stands K l r) (k : ℕ) (ru
     -- ---- the end
 
     module _ (none-new : m ≡ 0) where
-      end-rounds : rounds (K .n) (ruleOf K) (out K) ≡ r
+      end-rounds : rounds (K .n) (K .rule) (out K) ≡ r
       unfolding quiet
       end-rounds =
-          rounds-is (K .n) (ruleOf K) (out K) r (T .loud) (eq-eqb (count size (new K r)) 0 (sym (em ∙ marks-are K l r T k rule) ∙ none-new))
+          rounds-is (K .n) (K .rule) (out K) r (T .loud) (eq-eqb (count size (new K r)) 0 (sym (em ∙ marks-are K l r T) ∙ none-new))
 
       pub end-exchanges : exchangesOf K ≡ r + 1
       unfolding exchangesOf exchanges
@@ -143,9 +143,9 @@ module _ (K : Cabinet) (l : List ℕ) (r : ℕ) (T : Stands K l r) (k : ℕ) (ru
         where
           kept : (x : ℕ) → x < size → swept x ≡ held K r x
           kept x h =
-              put-no 128 (fresh (K .n) k l) l x (none-counted size (fresh (K .n) k l) (sym em ∙ none-new) x h) ∙ byte K l r T x h
+              put-no 128 (fresh (K .n) (K .rule) l) l x (none-counted size (fresh (K .n) (K .rule) l) (sym em ∙ none-new) x h) ∙ byte K l r T x h
 
       pub end-labels : (l₂ : List ℕ) → l₂ ≡ tab size (putWhere 1 (ordinary (K .n) l₁) l₁) → l₂ ≡ labelsOf K
       unfolding labelsOf
       end-labels l₂ e₂ =
-          e₂ ∙ tab-cong size (putWhere 1 (ordinary (K .n) l₁) l₁) (label (K .n) (ruleOf K) (out K) (outByte K)) (end-byte K l₁ r same end-rounds)
+          e₂ ∙ tab-cong size (putWhere 1 (ordinary (K .n) l₁) l₁) (label (K .n) (K .rule) (out K) (outByte K)) (end-byte K l₁ r same end-rounds)

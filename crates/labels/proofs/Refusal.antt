@@ -14,13 +14,15 @@ use Rattle.cube.specs.Tables.{isDimension, tableLen, unusedSet}
 use Rattle.cube.proofs.Bools.{by-cases, either}
 use Rattle.cube.proofs.Refusal.{first-le, first-none}
 use Rattle.cube.proofs.Tables.{dimension-is}
-use Rattle.rule.specs.Cabinet.{Cabinet, exchangesOf, labelsOf}
+use Rattle.rule.specs.Cabinet.{Cabinet, exchangesOf, isRule, labelsOf}
+use Rattle.rule.proofs.Cabinet.{is-rule, rule-is}
 use Rattle.labels.specs.Labelling.{labelRefusal, labelTests, labelled, labelsAfter}
 use Rattle.labels.specs.declared.Labelled.the-variants.{Exchanges, Refused}
 
 pub record Fitting (K : Cabinet) (m : ℕ) : Type 0 where
   pub dimension : isDimension (K .n) ≡ true
   pub small : K .n ≤ 12
+  pub rule : (2 ≤ K .rule) × (K .rule ≤ 3)
   pub faults : length (K .faults) ≡ tableLen (K .n)
   pub labels : m ≡ 2 ^ K .n
   pub unused : unusedSet (K .n) (K .faults) ≡ false
@@ -29,32 +31,35 @@ module _ (K : Cabinet) (m : ℕ) where
   pub fitting : labelRefusal K m ≡ 0 → Fitting K m
   unfolding labelRefusal
   fitting e =
-      let t = first-none 3 (labelTests K m) refl e in
+      let t = first-none 18 (labelTests K m) refl e in
       let dimension = not-false _ (t .0) in
       record {
         dimension = dimension;
         small = dimension-is (K .n) dimension .1;
-        faults = eqb-true _ _ (not-false _ (t .1 .0));
-        labels = eqb-true _ _ (not-false _ (t .1 .1 .0));
-        unused = t .1 .1 .1 .0;
+        rule = rule-is (K .rule) (not-false _ (t .1 .0));
+        faults = eqb-true _ _ (not-false _ (t .1 .1 .0));
+        labels = eqb-true _ _ (not-false _ (t .1 .1 .1 .0));
+        unused = t .1 .1 .1 .1 .0;
       }
 
   -- and where every test passes, nothing is refused
-  pub fits : (1 ≤ K .n) × (K .n ≤ 12) → length (K .faults) ≡ tableLen (K .n) → unusedSet (K .n) (K .faults) ≡ false → m ≡ 2 ^ K .n → labelRefusal K m ≡ 0
+  pub fits : (1 ≤ K .n) × (K .n ≤ 12) → (2 ≤ K .rule) × (K .rule ≤ 3) → length (K .faults) ≡ tableLen (K .n) → unusedSet (K .n) (K .faults) ≡ false
+      → m ≡ 2 ^ K .n → labelRefusal K m ≡ 0
   unfolding labelRefusal first isDimension
-  fits d f u l =
+  fits d r f u l =
       rw (
         le-leb 1 (K .n) (d .0),
         le-leb (K .n) 12 (d .1),
+        is-rule (K .rule) r,
         eq-eqb (length (K .faults)) (tableLen (K .n)) f,
         eq-eqb m (2 ^ K .n) l,
         u,
       )
 
-  -- no number is above 3
-  pub refusal-le : labelRefusal K m ≤ 3
+  -- no number is above 18
+  pub refusal-le : labelRefusal K m ≤ 18
   unfolding labelRefusal
-  refusal-le = first-le 3 (labelTests K m) refl
+  refusal-le = first-le 18 (labelTests K m) refl
 
 -- ---- the answer and the table, from what the code has, and what an answer says
 

@@ -16,7 +16,7 @@ use Rattle.cube.proofs.Bools.{either, clash}
 use Rattle.cube.proofs.Count.{count-same}
 use Rattle.cube.proofs.Cube.{flip-lt}
 use Rattle.cube.proofs.Front.{length-tab, getD-tab, tab-cong}
-use Rattle.rule.specs.Cabinet.{Cabinet, out, outByte, ruleOf}
+use Rattle.rule.specs.Cabinet.{Cabinet, out, outByte}
 use Rattle.rule.specs.Rule.{meets, newly, marked, quiet}
 use Rattle.rule.proofs.Cabinet.{out-high}
 use Rattle.rule.proofs.Rounds.{meets-same, marked-zero, marks-work}
@@ -24,10 +24,10 @@ use Rattle.labels.specs.Passes.{Kept, KeptByte, kept-plain, kept-mark, k
 
 -- the marks after r rounds, and what the next round adds
 abbrev pub marks : (K : Cabinet) (r x : ℕ) → Bool
-marks K = marked (K .n) (ruleOf K) (out K)
+marks K = marked (K .n) (K .rule) (out K)
 
 abbrev pub new : (K : Cabinet) (r x : ℕ) → Bool
-new K r = newly (K .n) (ruleOf K) (out K) (marks K r)
+new K r = newly (K .n) (K .rule) (out K) (marks K r)
 
 -- the byte of x after r rounds
 unfoldable pub held : (K : Cabinet) (r x : ℕ) → ℕ
@@ -36,7 +36,7 @@ held K r x = cond (out K x) (outByte K x) (cond (marks K r x) 2 0)
 pub record Stands (K : Cabinet) (l : List ℕ) (r : ℕ) : Type 0 where
   pub table : l ≡ tab (2 ^ K .n) (held K r)
   -- each of the r rounds marked something new
-  pub loud : (j : ℕ) → j < r → quiet (K .n) (ruleOf K) (out K) j ≡ false
+  pub loud : (j : ℕ) → j < r → quiet (K .n) (K .rule) (out K) j ≡ false
 
 neither : (a b c : Bool) → (not (a || b) && c) ≡ (not a && (not b && c))
 neither true b c = refl
@@ -58,11 +58,11 @@ module _ (K : Cabinet) where
   unfolding held
   held-plain r x a b = rw (a, b)
 
-  pub stands-first : (l : List ℕ) → l ≡ tab (2 ^ n) (started K) → Stands K l 0
+  pub stands-first : (l : List ℕ) → l ≡ tab (2 ^ n) (started (out K) (outByte K)) → Stands K l 0
   unfolding started held
   stands-first l e =
       record {
-        table = e ∙ tab-cong (2 ^ n) (started K) (held K 0) (λ x _. rw (marked-zero n (ruleOf K) (out K) x));
+        table = e ∙ tab-cong (2 ^ n) (started (out K) (outByte K)) (held K 0) (λ x _. rw (marked-zero n (K .rule) (out K) x));
         loud = λ j h. absurd (omega arith);
       }
 
@@ -84,7 +84,7 @@ module _ (K : Cabinet) where
     kind x h = go (either (out K x)) (either (marks K r x))
       where
         go : (out K x ≡ true) ⊎ (out K x ≡ false) → (marks K r x ≡ true) ⊎ (marks K r x ≡ false) → Kind x
-        go (inl a) (inl b) = absurd (clash a (marks-work n (ruleOf K) (out K) r x b))
+        go (inl a) (inl b) = absurd (clash a (marks-work n (K .rule) (out K) r x b))
         go (inl a) (inr b) = is-out a b (byte x h ∙ held-out r x a)
         go (inr a) (inl b) = is-mark a b (byte x h ∙ held-mark r x a b)
         go (inr a) (inr b) = is-plain a b (byte x h ∙ held-plain r x a b)
@@ -125,15 +125,13 @@ module _ (K : Cabinet) where
         go (is-plain a b e) = rw (a, b, e)
 
     -- the sweep marks what the round marks
-    module _ (k : ℕ) (rule : k ≡ ruleOf K) where
-      pub fresh-is : (x : ℕ) → x < 2 ^ n → fresh n k l x ≡ new K r x
-      unfolding fresh newly
-      fresh-is x h =
-          rw rule
-          (ap₂ _&&_ (plain-is x h)
-          (meets-same n (ruleOf K) (outIn l) (out K) (markIn l) (marks K r) x (λ i m. out-is (flip i x) (flip-lt n i x m h))
-          (λ i m. mark-is (flip i x) (flip-lt n i x m h)))
-          ∙ neither (out K x) (marks K r x) (meets n (ruleOf K) (out K) (marks K r) x))
+    pub fresh-is : (x : ℕ) → x < 2 ^ n → fresh n (K .rule) l x ≡ new K r x
+    unfolding fresh newly
+    fresh-is x h =
+        ap₂ _&&_ (plain-is x h)
+        (meets-same n (K .rule) (outIn l) (out K) (markIn l) (marks K r) x (λ i m. out-is (flip i x) (flip-lt n i x m h))
+        (λ i m. mark-is (flip i x) (flip-lt n i x m h)))
+        ∙ neither (out K x) (marks K r x) (meets n (K .rule) (out K) (marks K r) x)
 
-      pub marks-are : count (2 ^ n) (fresh n k l) ≡ count (2 ^ n) (new K r)
-      marks-are = count-same (2 ^ n) (fresh n k l) (new K r) fresh-is
+    pub marks-are : count (2 ^ n) (fresh n (K .rule) l) ≡ count (2 ^ n) (new K r)
+    marks-are = count-same (2 ^ n) (fresh n (K .rule) l) (new K r) fresh-is

@@ -6,7 +6,7 @@ use lib.Dec.{eqb}
 use lib.ListN.{length}
 use Rattle.cube.specs.Refusal.{Test, first, _⇒_}
 use Rattle.cube.specs.Tables.{isDimension, tableLen, unusedSet}
-use Rattle.rule.specs.Cabinet.{Cabinet, exchangesOf, labelsOf}
+use Rattle.rule.specs.Cabinet.{Cabinet, exchangesOf, isRule, labelsOf}
 use Rattle.labels.specs.declared.Labelled.{Labelled}
 use Rattle.labels.specs.declared.Labelled.the-variants.{Exchanges, Refused}
 
@@ -14,6 +14,7 @@ use Rattle.labels.specs.declared.Labelled.the-variants.{Exchanges, Refus
 abbrev pub labelTests : (K : Cabinet) (m : ℕ) → List Test
 labelTests K m =
     not (isDimension (K .n)) ⇒ 1
+    ∷ not (isRule (K .rule)) ⇒ 18
     ∷ not (eqb (length (K .faults)) (tableLen (K .n))) ⇒ 2
     ∷ not (eqb m (2 ^ K .n)) ⇒ 2
     ∷ unusedSet (K .n) (K .faults) ⇒ 3

@@ -10,7 +10,6 @@ use lib.ListN.{length}
 use Rattle.cube.specs.Count.{some}
 use Rattle.cube.specs.Cube.{flip}
 use Rattle.cube.specs.Tables.{labelIn}
-use Rattle.rule.specs.Cabinet.{Cabinet, out, outByte}
 use Rattle.rule.specs.Rule.{meets}
 
 -- l is a table of an n-cube; x is a node of it: what the functions inside the crate may assume
@@ -53,9 +52,9 @@ ordinary n l x = markIn l x && some n (λ i. plainIn l (flip i x))
 
 -- ---- the passes
 
--- before the first round
-unfoldable pub started : (K : Cabinet) (x : ℕ) → ℕ
-started K x = cond (out K x) (outByte K x) 0
+-- before the first round: F are the nodes that do not work, byte their bytes
+unfoldable pub started : (F : ℕ → Bool) (byte : ℕ → ℕ) (x : ℕ) → ℕ
+started F byte x = cond (F x) (byte x) 0
 
 -- b where p holds, elsewhere what stood there. A round puts 128 with p = fresh; in the end, with p = ordinary, 1 tells the ordinarily unsafe nodes from
 -- the strongly unsafe ones

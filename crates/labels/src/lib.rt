@@ -4,10 +4,10 @@
 ghost use Prim.Native.Nat.{_/_, _<_, _≤_, _^_};
 ghost use Rattle.cube.specs.Count.{count, some};
 ghost use Rattle.cube.specs.Cube.{flip};
-ghost use Rattle.cube.specs.Tables.{tab, tableLen};
+ghost use Rattle.cube.specs.Tables.{nodeBit, tab, tableLen};
 ghost use Rattle.labels.specs.Labelling.{labelRefusal, labelled, labelsAfter};
 ghost use Rattle.labels.specs.Passes.{Kept, NodeOf, Sized, fresh, markIn, ordinary, outIn, plainIn, putWhere, settled, started};
-ghost use Rattle.rule.specs.Cabinet.{cabinet, exchangesOf, labelsOf, ruleOf};
+ghost use Rattle.rule.specs.Cabinet.{cabinet, exchangesOf, isRule, labelsOf};
 ghost use Rattle.rule.specs.Looks.{looks, looksNear};
 ghost use Rattle.rule.specs.Rule.{meets};
 ghost use lib.Dec.{eqb};
@@ -30,8 +30,6 @@ const OUT: u8 = 3; // does not work
 
 const NEW: u8 = 128; // marked by this round
 
-const RULE: usize = 3; // so many neighbours that do not work or are marked make a node unsafe
-
 pub enum Labelled {
     Exchanges(usize),
     Refused(u32),
@@ -43,11 +41,22 @@ struct Tested {
     looked: usize,
 }
 
-fn label_refusal(n: usize, faults: &[u8], m: usize) -> u32
-    ensures { λ r. ⌜ r ≡ labelRefusal (cabinet n (now (faults .entry))) m ⌝ }
+// Whether k is the number of a rule: so many neighbours that do not work or are marked make a node unsafe. 2 is the rule of Lee and Hayes, 3 that of
+// Chiu and Wu.
+fn is_rule(k: usize) -> bool
+    ensures { λ r. ⌜ r ≡ isRule k ⌝ }
+{
+    (2 <= k) & (k <= 3)
+}
+
+fn label_refusal(n: usize, rule: usize, faults: &[u8], m: usize) -> u32
+    ensures { λ r. ⌜ r ≡ labelRefusal (cabinet n rule (now (faults .entry))) m ⌝ }
 {
     if !is_dimension(n) {
         return 1;
+    }
+    if !is_rule(rule) {
+        return 18;
     }
     if faults.len() != table_len(n) {
         return 2;
@@ -142,9 +151,9 @@ fn is_ordinary(n: usize, labels: &[u8], x: usize) -> bool
     test.holds
 }
 
-fn start_byte(n: usize, faults: &[u8], k: usize) -> u8
+fn start_byte(faults: &[u8], k: usize) -> u8
     requires { ⌜ k / 8 < length (now faults) ⌝ }
-    ensures { λ r. ⌜ r ≡ started (cabinet n (now (faults .entry))) k ⌝ }
+    ensures { λ r. ⌜ r ≡ started (nodeBit (now (faults .entry))) (λ _. 3) k ⌝ }
 {
     if node_bit(faults, k) { OUT } else { PLAIN }
 }
@@ -152,11 +161,11 @@ fn start_byte(n: usize, faults: &[u8], k: usize) -> u8
 // The table before the first round.
 fn start(n: usize, faults: &[u8], labels: &mut [u8])
     requires { ⌜ (length (now faults) ≡ tableLen n) × (length (now labels) ≡ 2 ^ n) ⌝ }
-    ensures { λ _. ⌜ now (labels .exit) ≡ tab (2 ^ n) (started (cabinet n (now (faults .entry)))) ⌝ }
+    ensures { λ _. ⌜ now (labels .exit) ≡ tab (2 ^ n) (started (nodeBit (now (faults .entry))) (λ _. 3)) ⌝ }
 {
     let mut k: usize = 0;
     while k < labels.len() {
-        labels[k] = start_byte(n, faults, k);
+        labels[k] = start_byte(faults, k);
         k = k + 1;
     }
 }
@@ -214,11 +223,11 @@ fn finish(n: usize, labels: &mut [u8])
 
 // Labels every node of an accepted table and answers the number of exchanges: each sweep is one, and the last is the first that marks nothing new.
 fn label_nodes(n: usize, rule: usize, faults: &[u8], labels: &mut [u8]) -> usize
-    requires { ⌜ rule ≡ ruleOf (cabinet n (now faults)) ⌝ }
+    requires { ⌜ (2 ≤ rule) × (rule ≤ 3) ⌝ }
     requires { ⌜ length (now faults) ≡ tableLen n ⌝ }
     requires { ⌜ Sized n (now labels) ⌝ }
-    ensures exchanges { λ r. ⌜ r ≡ exchangesOf (cabinet n (now (faults .entry))) ⌝ }
-    ensures labels { λ r. ⌜ now (labels .exit) ≡ labelsOf (cabinet n (now (faults .entry))) ⌝ }
+    ensures exchanges { λ r. ⌜ r ≡ exchangesOf (cabinet n rule (now (faults .entry))) ⌝ }
+    ensures labels { λ r. ⌜ now (labels .exit) ≡ labelsOf (cabinet n rule (now (faults .entry))) ⌝ }
 {
     start(n, faults, labels);
     let mut exchanges: usize = 1;
@@ -234,15 +243,15 @@ fn label_nodes(n: usize, rule: usize, faults: &[u8], labels: &mut [u8]) -> usize
     exchanges
 }
 
-// Labels every node and answers the number of exchanges, the quiet one included, or refuses and leaves the label table as it was.
-pub fn label(n: usize, faults: &[u8], labels: &mut [u8]) -> Labelled
-    ensures answer { λ r. ⌜ r ≡ labelled (cabinet n (now (faults .entry))) (length (now (labels .entry))) ⌝ }
-    ensures labels { λ r. ⌜ now (labels .exit) ≡ labelsAfter (cabinet n (now (faults .entry))) (now (labels .entry)) ⌝ }
+// Labels every node by the rule and answers the number of exchanges, the quiet one included, or refuses and leaves the label table as it was.
+pub fn label(n: usize, rule: usize, faults: &[u8], labels: &mut [u8]) -> Labelled
+    ensures answer { λ r. ⌜ r ≡ labelled (cabinet n rule (now (faults .entry))) (length (now (labels .entry))) ⌝ }
+    ensures labels { λ r. ⌜ now (labels .exit) ≡ labelsAfter (cabinet n rule (now (faults .entry))) (now (labels .entry)) ⌝ }
 {
-    let refusal = label_refusal(n, faults, labels.len());
+    let refusal = label_refusal(n, rule, faults, labels.len());
     if refusal != 0 {
         return Labelled::Refused(refusal);
     }
-    let exchanges = label_nodes(n, RULE, faults, labels);
+    let exchanges = label_nodes(n, rule, faults, labels);
     Labelled::Exchanges(exchanges)
 }

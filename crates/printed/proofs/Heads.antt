@@ -82,16 +82,16 @@ module _ (s t : List ℕ) (sized : length t ≡ wantedLen s) where
     same-length = let d = opened-notice (dimensionAt s) s n m taken is-notice .dimension in rw d at sized
 
     module _ {faults : List ℕ} (after : faults ≡ tableAfter s t) where
-      same-cabinet : cabinet n faults ≡ cabinetOf s n
+      same-cabinet : cabinet n 3 faults ≡ cabinetOf s n
       unfolding tableAfter
       same-cabinet =
-          ap (cabinet n) after ∙ rw e (ap (λ (k : ℕ). cabinet n (withBits (replicate k 0) (addressesOf s))) same-length)
+          ap (cabinet n 3) after ∙ rw e (ap (λ (k : ℕ). cabinet n 3 (withBits (replicate k 0) (addressesOf s))) same-length)
 
-      pub labels-fit : {size : ℕ} → size ≡ 2 ^ n → labelRefusal (cabinet n faults) size ≡ 0
-      labels-fit full = rw after (fits (cabinet n (tableAfter s t)) _ (read .dimension) (table .sized) (table .unused) full)
+      pub labels-fit : {size : ℕ} → size ≡ 2 ^ n → labelRefusal (cabinet n 3 faults) size ≡ 0
+      labels-fit full = rw after (fits (cabinet n 3 (tableAfter s t)) _ (read .dimension) (omega arith, omega arith) (table .sized) (table .unused) full)
 
       pub cube-head : {nodes end : ℕ} (labels rest out : List ℕ) → nodes ≡ 2 ^ n
-          → (take end out ≡ firstLine m (cabinet n faults)) × ((end ≤ room) × (labels ≡ labelsOf (cabinet n faults)))
+          → (take end out ≡ firstLine m (cabinet n 3 faults)) × ((end ≤ room) × (labels ≡ labelsOf (cabinet n 3 faults)))
           → Headed s (record { n = n; nodes = nodes; end = end }) (labels ++ rest) out
       unfolding headLine labelsIn
       cube-head {nodes} labels rest out full made = record {

@@ -21,9 +21,9 @@ use Rattle.printed.specs.declared.Head.{Head}
 unfoldable pub wantedLen : List ℕ → ℕ
 wantedLen s = onNumber (dimensionAt s) (λ k at. 1) (λ n at. tableLen n)
 
--- the cabinet of an accepted notice of dimension n
+-- the cabinet of an accepted notice of dimension n: the listing labels by document 01's rule
 abbrev pub cabinetOf : (s : List ℕ) (n : ℕ) → Cabinet
-cabinetOf s n = cabinet n (withBits (replicate (tableLen n) 0) (addressesOf s))
+cabinetOf s n = cabinet n 3 (withBits (replicate (tableLen n) 0) (addressesOf s))
 
 -- its labels; a refused notice has none
 unfoldable pub labelsIn : List ℕ → List ℕ

@@ -49,15 +49,15 @@ fn wanted_len(bytes: &[u8]) -> usize
     1
 }
 
-// Labels the nodes of an accepted notice, and makes its first line. Labelling never refuses such a table, so 0 is never answered.
+// Labels the nodes of an accepted notice by document 01's rule, 3, and makes its first line. Labelling never refuses such a table, so 0 is never answered.
 fn first_line(n: usize, faulty: usize, faults: &[u8], labels: &mut [u8], out: &mut [u8]) -> usize
-    requires { ⌜ labelRefusal (cabinet n (now faults)) (length (now labels)) ≡ 0 ⌝ }
+    requires { ⌜ labelRefusal (cabinet n 3 (now faults)) (length (now labels)) ≡ 0 ⌝ }
     requires { ⌜ length (now out) ≡ room ⌝ }
-    ensures line { λ r. ⌜ take r (now (out .exit)) ≡ firstLine faulty (cabinet n (now (faults .entry))) ⌝ }
+    ensures line { λ r. ⌜ take r (now (out .exit)) ≡ firstLine faulty (cabinet n 3 (now (faults .entry))) ⌝ }
     ensures near { λ r. ⌜ r ≤ room ⌝ }
-    ensures labels { λ r. ⌜ now (labels .exit) ≡ labelsOf (cabinet n (now (faults .entry))) ⌝ }
+    ensures labels { λ r. ⌜ now (labels .exit) ≡ labelsOf (cabinet n 3 (now (faults .entry))) ⌝ }
 {
-    let labelled = labels::label(n, faults, labels);
+    let labelled = labels::label(n, 3, faults, labels);
     let Labelled::Exchanges(exchanges) = labelled else {
         return 0;
     };

@@ -56,11 +56,11 @@ module _ (K : Cabinet) (before : List ℕ) where
   abbrev after : List ℕ
   after = labelsAfter K before
 
-  labels : May labels-crate.label (K .n, K .faults, before) answer after
-  labels = may labels-crate.label two (K .n, (lend (K .faults), (lend before, tt))) answer (K .n, (lend (K .faults), (lend after, tt))) (refl, refl)
+  labels : May labels-crate.label (K .n, K .rule, K .faults, before) answer after
+  labels = may labels-crate.label two (K .n, (K .rule, (lend (K .faults), (lend before, tt)))) answer (K .n, (K .rule, (lend (K .faults), (lend after, tt)))) (refl, refl)
 
-  c-labels : May hcube.label (K .n, K .faults, before) (labelNumber answer) after
-  c-labels = may hcube.label two (K .n, (lend (K .faults), (lend before, tt))) (labelNumber answer) (K .n, (lend (K .faults), (lend after, tt))) (refl, refl)
+  c-labels : May hcube.label (K .n, K .rule, K .faults, before) (labelNumber answer) after
+  c-labels = may hcube.label two (K .n, (K .rule, (lend (K .faults), (lend before, tt)))) (labelNumber answer) (K .n, (K .rule, (lend (K .faults), (lend after, tt)))) (refl, refl)
 
 module _ (n a b : ℕ) (l : List ℕ) where
   abbrev decided : Hopped

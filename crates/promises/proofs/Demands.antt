@@ -2,9 +2,10 @@
 use mathlib.Core.List.{List}
 use mathlib.Core.Logic.{_⊎_, ⊎-elim, inl, inr}
 use mathlib.Core.Path.{_≡_, sym, ap, subst, _∙_}
-use Prim.Native.Nat.{ℕ, _+_, _^_, _<_}
+use Prim.Native.Nat.{ℕ, _+_, _^_, _≤_, _<_}
+use native.Mathlib.Omega.{arith}
 use lib.ListN.{length, replicate}
-use Rattle.cube.specs.Cube.{flip}
+use Rattle.cube.specs.Cube.{dist, flip}
 use Rattle.cube.specs.Tables.{labelIn}
 use Rattle.rule.specs.Cabinet.{Cabinet, cabinet, exchangesOf, labelsOf}
 use Rattle.notice.specs.Laws.{TableOf}
@@ -27,14 +28,17 @@ use Rattle.theorems.specs.Demand2.{Demand2}
 use Rattle.theorems.specs.Demand3.{Walks}
 use Rattle.theorems.specs.Picked.{Picked}
 use Rattle.theorems.specs.Repeats.{Repeats}
-use Rattle.theorems.specs.Words.{Accepted, Works, place}
+use Rattle.theorems.specs.TwoRules.{NoneStrong, OnlyBetter, more}
+use Rattle.theorems.specs.Words.{Accepted, SomeSafe, Works, labelAt, place}
 use Rattle.theorems.proofs.Decision.{picked}
 use Rattle.theorems.proofs.Demand2.{demand2}
 use Rattle.theorems.proofs.Demand3.{demand3}
 use Rattle.theorems.proofs.Repeats.{walk-repeats}
+use Rattle.theorems.proofs.TwoRules.{two-rules}
 use Rattle.promises.specs.Demands.{Demands}
 use Rattle.promises.specs.Library.{Library, rattle, c}
-use Rattle.promises.specs.Refusals.{HopGiven, LabelGiven, NoticeGiven, WalkGiven}
+use Rattle.promises.specs.Refusals.{HopGiven, LabelGiven, NoticeGiven, Rule, WalkGiven}
+use Rattle.promises.proofs.Given.{rule-bounds}
 use Rattle.promises.proofs.Library.{Faithful, rattle-faithful, c-faithful}
 use Rattle.promises.proofs.Outcomes.{answered, labels-kept, of-blank, of-decided, of-ended}
 use Rattle.promises.proofs.Refusals.{refusals}
@@ -65,14 +69,15 @@ module _ (lib : Library) (F : Faithful lib) where
       subst (Demand2 K (labelIn table)) (l .count) (subst (λ (t : List ℕ). Demand2 K (labelIn t) (exchangesOf K)) (l .bytes) (demand2 K))
 
   notice-labels :
-      {bytes faults before after old : List ℕ} {n m taken : ℕ} {x : Labelled} → lib .reads bytes old (noticed.Notice n m taken) faults
-      → length before ≡ 2 ^ n → lib .labels (cabinet n faults) before x after → (exchanges : ℕ) × (x ≡ labelled.Exchanges exchanges)
-  notice-labels {bytes} {faults} {before} {after} {old} {n} {m} {taken} {x} r long l =
+      {bytes faults before after old : List ℕ} {n rule m taken : ℕ} {x : Labelled} → lib .reads bytes old (noticed.Notice n m taken) faults
+      → Rule rule → length before ≡ 2 ^ n → lib .labels (cabinet n rule faults) before x after → (exchanges : ℕ) × (x ≡ labelled.Exchanges exchanges)
+  notice-labels {bytes} {faults} {before} {after} {old} {n} {rule} {m} {taken} {x} r k long l =
       let f = F .reads r in
       let d = notice-laws .accepted bytes old n m taken (sym (f .0)) .dimension in
       let t = subst (TableOf n m (N.addressesOf bytes)) (sym (f .1)) (notice-laws .written bytes old n m taken (sym (f .0))) in (
-        exchangesOf (cabinet n faults),
-        F .labels l .0 ∙ answered (cabinet n faults) (length before) (fits (cabinet n faults) (length before) d (t .sized) (t .unused) long),
+        exchangesOf (cabinet n rule faults),
+        F .labels l .0
+            ∙ answered (cabinet n rule faults) (length before) (fits (cabinet n rule faults) (length before) d (rule-bounds k) (t .sized) (t .unused) long),
       )
 
   walks :
@@ -83,6 +88,38 @@ module _ (lib : Library) (F : Faithful lib) where
       subst (Walks K (labelIn table) s d) (sym (F .walks v))
       (subst (λ (t : List ℕ). Walks K (labelIn t) s d (W.walked (K .n) s d (length t) W.rowBytes (labelIn t))) (l .bytes)
       (demand3 K (l .accepted) s d hs hd))
+
+  -- ---- the two rules
+
+  moved : {n e e′ : ℕ} {faults before before′ old new : List ℕ} → lib .labels (cabinet n 2 faults) before (labelled.Exchanges e) old
+      → lib .labels (cabinet n 3 faults) before′ (labelled.Exchanges e′) new → OnlyBetter n (labelIn old) (labelIn new)
+  moved {n} {e} {e′} {faults} {before} {before′} {old} {new} a b =
+      subst (λ (t : List ℕ). OnlyBetter n (labelIn t) (labelIn new)) (left a .bytes)
+      (subst (λ (t : List ℕ). OnlyBetter n (labelAt (cabinet n 2 faults)) (labelIn t)) (left b .bytes) (two-rules .better n faults))
+
+  moved-walks : {n e e′ s d : ℕ} {faults before before′ old new : List ℕ} {w : Walked} → lib .labels (cabinet n 2 faults) before (labelled.Exchanges e) old
+      → lib .labels (cabinet n 3 faults) before′ (labelled.Exchanges e′) new → SomeSafe n (labelIn old) → Works (cabinet n 3 faults) s
+      → Works (cabinet n 3 faults) d → lib .walks n s d new W.rowBytes w → (w .ending ≡ ending.Delivered) × (w .hops ≤ dist s d + more (labelIn old) s d)
+  moved-walks {n} {e} {e′} {s} {d} {faults} {before} {before′} {old} {new} {w} a b some hs hd v =
+      let m = moved a b in
+      let W = walks b hs hd v in
+      let still : SomeSafe n (labelIn new) = (some .0, some .1, m .safe-stays (some .0) (some .1) (some .2)) in (
+        W .arrives still .ending,
+        omega (arith, two-rules .bound (cabinet n 3 faults) (labelIn new) s d w W still, m .bound-falls s d (hs .0) (hd .0)),
+      )
+
+  none-strong : {n e : ℕ} {faults before table : List ℕ} → lib .labels (cabinet n 2 faults) before (labelled.Exchanges e) table
+      → NoneStrong (cabinet n 2 faults) (labelIn table)
+  none-strong {n} {e} {faults} a =
+      subst (λ (t : List ℕ). NoneStrong (cabinet n 2 faults) (labelIn t)) (left a .bytes) (two-rules .none-strong n faults)
+
+  two-more : {n e s d : ℕ} {faults before table : List ℕ} {w : Walked} → lib .labels (cabinet n 2 faults) before (labelled.Exchanges e) table
+      → SomeSafe n (labelIn table) → Works (cabinet n 2 faults) s → Works (cabinet n 2 faults) d → lib .walks n s d table W.rowBytes w
+      → w .hops ≤ dist s d + 2
+  two-more {n} {e} {s} {d} {faults} a some hs hd v =
+      let W = walks a hs hd v in
+      let k = W .even (W .arrives some .ending) in
+      omega (arith, none-strong a some s hs, k .1, k .2)
 
   -- ---- a walk that is refused, and one that is not, on any table
 
@@ -142,6 +179,10 @@ module _ (lib : Library) (F : Faithful lib) where
         walk-few = λ v e. again v e .few;
         walk-unused = λ {n} {s} {d} {room} {k} v e h. again v e .unused k h;
         walk-enters = λ {n} {s} {d} {room} {k} v e h. again v e .enters k h;
+        moved = moved;
+        moved-walks = moved-walks;
+        none-strong = none-strong;
+        two-more = two-more;
       }
 
 pub rattle-demands : Demands rattle

@@ -15,7 +15,9 @@ use Rattle.cube.proofs.Bools.{and-both, and-true, clash, either, or-left, or-ri
 use Rattle.cube.proofs.Cube.{bit-none}
 use Rattle.cube.proofs.Search.{some-found, some-hit}
 use Rattle.cube.proofs.Tables.{dimension-is, len-large, len-small}
-use Rattle.promises.specs.Refusals.{Dimension, Given, Outside, TableLength, here, later, none}
+use Rattle.rule.specs.Cabinet.{isRule}
+use Rattle.rule.proofs.Cabinet.{is-rule, rule-is}
+use Rattle.promises.specs.Refusals.{Dimension, Given, Outside, Rule, TableLength, here, later, none}
 
 module _ {When : ℕ → Type 0} where
   pub given-one : {order : List ℕ} {j k : ℕ} → Given When order j → Given When order k → j ≡ k
@@ -71,6 +73,16 @@ dimension-says : (n : ℕ) → (isDimension n ≡ true) ↔ Dimension n
 unfolding isDimension
 dimension-says n = (dimension-is n, λ d. and-both (le-leb 1 n (d .0)) (le-leb n 12 (d .1)))
 
+pub rule-bounds : {k : ℕ} → Rule k → (2 ≤ k) × (k ≤ 3)
+rule-bounds r = ⊎-elim (λ e. (omega arith, omega arith)) (λ e. (omega arith, omega arith)) r
+
+rule-says : (k : ℕ) → (isRule k ≡ true) ↔ Rule k
+rule-says k = (λ e. two-or-three (rule-is k e) (either (leb 3 k)), λ r. is-rule k (rule-bounds r))
+  where
+    two-or-three : (2 ≤ k) × (k ≤ 3) → (leb 3 k ≡ true) ⊎ (leb 3 k ≡ false) → Rule k
+    two-or-three b (inl a) = inr (omega (arith, leb-true 3 k a))
+    two-or-three b (inr a) = inl (omega (arith, leb-false 3 k a))
+
 length-says : (n bytes : ℕ) → (eqb bytes (tableLen n) ≡ true) ↔ TableLength n bytes
 length-says n bytes = (λ e. said (eqb-true bytes (tableLen n) e) (either (leb n 3)), λ t. eq-eqb bytes (tableLen n) (given t))
   where
@@ -109,6 +121,9 @@ unused-says n t = (said, given)
 
 pub wrong-dimension : (n : ℕ) → (not (isDimension n) ≡ true) ↔ (¬ (Dimension n))
 wrong-dimension n = not-says (isDimension n) (dimension-says n)
+
+pub wrong-rule : (k : ℕ) → (not (isRule k) ≡ true) ↔ (¬ (Rule k))
+wrong-rule k = not-says (isRule k) (rule-says k)
 
 pub wrong-table : (n bytes : ℕ) → (not (eqb bytes (tableLen n)) ≡ true) ↔ (¬ (TableLength n bytes))
 wrong-table n bytes = not-says (eqb bytes (tableLen n)) (length-says n bytes)

@@ -7,6 +7,7 @@ use Rattle.rule.proofs.Exchanges.{exchanged}
 use Rattle.rule.proofs.Good.{labels-good}
 use Rattle.rule.proofs.Largest.{safe-largest}
 use Rattle.rule.proofs.Rounds.{marks, rested}
+use Rattle.rule.proofs.Rules.{rules}
 use Rattle.scans.proofs.Hit.{table-hits}
 use Rattle.scans.proofs.Progress.{scans-progress}
 use Rattle.hop.proofs.Local.{hop-local}
@@ -16,6 +17,7 @@ use Rattle.theorems.proofs.Decision.{hop-picked}
 use Rattle.theorems.proofs.Demand2.{demand2}
 use Rattle.theorems.proofs.Demand3.{demand3}
 use Rattle.theorems.proofs.Repeats.{walk-repeats}
+use Rattle.theorems.proofs.TwoRules.{two-rules}
 use Rattle.hcube.proofs.Decoded.{decodes}
 use Rattle.promises.specs.Promises.{Promises}
 use Rattle.promises.proofs.Answers.{c-answers, rattle-answers}
@@ -46,6 +48,8 @@ promises =
       rested = rested;
       exchanged = exchanged;
       good = labels-good;
+      rules = rules;
+      two-rules = two-rules;
       progress = scans-progress;
       refusals = refusals;
       marks = marks;

@@ -15,7 +15,7 @@ use Rattle.cube.specs.Cube.{flip}
 use Rattle.cube.specs.Refusal.{first}
 use Rattle.cube.specs.Tables.{highest, isDimension, tableLen, unusedSet}
 use Rattle.cube.proofs.Bools.{by-cases, clash, either}
-use Rattle.rule.specs.Cabinet.{Cabinet}
+use Rattle.rule.specs.Cabinet.{Cabinet, isRule}
 use Rattle.labels.specs.Labelling as L
 use Rattle.hop.specs.Hop as H
 use Rattle.hop.specs.declared.Decision.{Decision}
@@ -41,6 +41,7 @@ use Rattle.promises.specs.Refusals.{
   hop-5,
   hop-6,
   label-1,
+  label-18,
   label-2-faults,
   label-2-labels,
   label-3,
@@ -66,6 +67,7 @@ use Rattle.promises.proofs.Given.{
   two-tests,
   unused-says,
   wrong-dimension,
+  wrong-rule,
   wrong-length,
   wrong-table,
 }
@@ -82,14 +84,18 @@ module _ (K : Cabinet) (m : ℕ) where
   unfolding L.labelRefusal first
   label-given =
       one-test _ (λ e. label-1 (wrong-dimension (K .n) .0 e)) said-1
+      (one-test _ (λ e. label-18 (wrong-rule (K .rule) .0 e)) said-18
       (two-tests _ _ (λ e. label-2-faults (faults .0 e)) (λ e. label-2-labels (wrong-length (K .n) m .0 e)) said-2
-      (one-test _ (λ e. let r = unused-says (K .n) (K .faults) .0 e in label-3 (r .0) (r .1) (r .2)) said-3 none))
+      (one-test _ (λ e. let r = unused-says (K .n) (K .faults) .0 e in label-3 (r .0) (r .1) (r .2)) said-3 none)))
     where
       faults : (not (eqb (length (K .faults)) (tableLen (K .n))) ≡ true) ↔ (¬ (TableLength (K .n) (length (K .faults))))
       faults = wrong-table (K .n) (length (K .faults))
 
       said-1 : LabelWhen K m 1 → not (isDimension (K .n)) ≡ true
       said-1 (label-1 w) = wrong-dimension (K .n) .1 w
+
+      said-18 : LabelWhen K m 18 → not (isRule (K .rule)) ≡ true
+      said-18 (label-18 w) = wrong-rule (K .rule) .1 w
 
       said-2 : LabelWhen K m 2 → (not (eqb (length (K .faults)) (tableLen (K .n))) ≡ true) ⊎ (not (eqb m (2 ^ K .n)) ≡ true)
       said-2 (label-2-faults w) = inl (faults .1 w)

@@ -9,17 +9,18 @@ use Rattle.cube.specs.Count.{count, least, some}
 use Rattle.cube.specs.Cube.{bit, flip, apart, dist}
 use Rattle.cube.specs.Refusal.{first}
 use Rattle.cube.specs.Tables.{tab, isDimension, tableLen, nodeBit, unusedSet, labelIn}
-use Rattle.rule.specs.Cabinet.{Cabinet, exchangesOf, labelsOf, out, ruleOf}
+use Rattle.rule.specs.Cabinet.{Cabinet, exchangesOf, isRule, labelsOf, out}
 use Rattle.rule.specs.Rule.{meets, newly, marked, quiet, working, rounds, exchanges, safe, labelOf, label}
 use Rattle.scans.specs.Scans.{suits, takes, lowest, firstScan}
 use Rattle.rule.proofs.Exchanges.{exchanged}
 use Rattle.labels.specs.Labelling.{labelRefusal, labelled}
 use Rattle.labels.specs.declared.Labelled.the-variants.{Exchanges}
+use Rattle.labels.proofs.Refusal.{fitting}
 use Rattle.hop.specs.Hop.{answer, decide, hop}
 use Rattle.walk.specs.Walk.{onto, stops, spot, turn, hops, last, row, rowBytes, refused, walkFrom, walkRefusal, walked}
 use Rattle.walk.specs.declared.Walked.{Walked}
 use Rattle.theorems.specs.Words.{walkOf}
-use Rattle.promises.specs.Worked.{k4, q3, those, visited, Worked}
+use Rattle.promises.specs.Worked.{k4, k4-by, q3, those, visited, Worked}
 use Rattle.promises.proofs.Outcomes.{answered}
 use lib.ListN.{length}
 
@@ -31,6 +32,10 @@ q3-labels : labelsOf q3 ≡ 2 ∷ 3 ∷ 3 ∷ 2 ∷ 3 ∷ 2 ∷ 2 ∷ 2 ∷ []
 unfolding labelsOf label labelOf safe rounds working quiet newly meets marked count least some flip tab nodeBit bit
 q3-labels = refl
 
+k4-older-labels : labelsOf (k4-by 2) ≡ 2 ∷ 2 ∷ 3 ∷ 2 ∷ 3 ∷ 2 ∷ 2 ∷ 2 ∷ 3 ∷ 2 ∷ 2 ∷ 2 ∷ 2 ∷ 2 ∷ 2 ∷ 3 ∷ []
+unfolding labelsOf label labelOf safe rounds working quiet newly meets marked count least some flip tab nodeBit bit
+k4-older-labels = refl
+
 -- a walk on the labels of a cabinet is the walk on what they compute to
 on : {w : Walked} (K : Cabinet) (s d : ℕ) (labels : List ℕ) → labelsOf K ≡ labels → walked (K .n) s d (length labels) rowBytes (labelIn labels) ≡ w
     → walkOf K s d ≡ w
@@ -39,15 +44,16 @@ on K s d labels e f = ap (λ (l : List ℕ). walked (K .n) s d (length l) rowByt
 module _ (K : Cabinet) (m : ℕ) (accepted : labelRefusal K m ≡ 0) where
   no-faults : ((x : ℕ) → x < 2 ^ K .n → out K x ≡ false) → labelled K m ≡ Exchanges 1
   unfolding exchangesOf
-  no-faults f = answered K m accepted ∙ ap Exchanges (exchanged (K .n) (ruleOf K) (out K) .no-faults (omega arith) f)
+  no-faults f =
+      answered K m accepted ∙ ap Exchanges (exchanged (K .n) (K .rule) (out K) .no-faults (omega (arith, fitting K m accepted .rule .0)) f)
 
   all-faulty : ((x : ℕ) → x < 2 ^ K .n → out K x ≡ true) → labelled K m ≡ Exchanges 1
   unfolding exchangesOf
-  all-faulty f = answered K m accepted ∙ ap Exchanges (exchanged (K .n) (ruleOf K) (out K) .none-works f)
+  all-faulty f = answered K m accepted ∙ ap Exchanges (exchanged (K .n) (K .rule) (out K) .none-works f)
 
 pub worked : Worked
 unfolding those visited walked walkRefusal walkFrom refused first row last hops turn spot stops onto hop decide answer firstScan lowest takes suits apart dist
-    ones labelIn tab isDimension tableLen unusedSet nodeBit bit flip some least count labelled labelRefusal exchangesOf exchanges labelsOf label labelOf safe
+    ones labelIn tab isDimension isRule tableLen unusedSet nodeBit bit flip some least count labelled labelRefusal exchangesOf exchanges labelsOf label labelOf safe
     rounds working quiet newly meets marked
 worked =
     record {
@@ -73,4 +79,13 @@ worked =
       no-faults = no-faults;
       all-faulty = all-faulty;
       one-safe = refl;
+      k4-older-exchanges = refl;
+      k4-older-labels = k4-older-labels;
+      k4-older-13-0 = on (k4-by 2) 13 0 _ k4-older-labels refl;
+      c3-faulty = refl;
+      c3-older-exchanges = refl;
+      c3-older-labels = refl;
+      c3-labels = refl;
+      c4-older-labels = refl;
+      c4-labels = refl;
     }

@@ -5,7 +5,7 @@ use mathlib.Core.Logic.{_⊎_}
 use mathlib.Core.Path.{_≡_}
 use Prim.Native.Nat.{ℕ, _+_, _^_, _≤_, _<_}
 use lib.ListN.{length, replicate}
-use Rattle.cube.specs.Cube.{flip}
+use Rattle.cube.specs.Cube.{dist, flip}
 use Rattle.cube.specs.Tables.{labelIn}
 use Rattle.rule.specs.Cabinet.{Cabinet, cabinet, labelsOf}
 use Rattle.notice.specs.Laws.{ReadNotice, TableOf}
@@ -26,9 +26,10 @@ use Rattle.walk.specs.declared.Walked.{Walked}
 use Rattle.theorems.specs.Demand2.{Demand2}
 use Rattle.theorems.specs.Demand3.{Walks}
 use Rattle.theorems.specs.Picked.{Picked}
-use Rattle.theorems.specs.Words.{Works, place}
+use Rattle.theorems.specs.TwoRules.{NoneStrong, OnlyBetter, more}
+use Rattle.theorems.specs.Words.{SomeSafe, Works, place}
 use Rattle.promises.specs.Library.{Library}
-use Rattle.promises.specs.Refusals.{HopGiven, LabelGiven, NoticeGiven, WalkGiven}
+use Rattle.promises.specs.Refusals.{HopGiven, LabelGiven, NoticeGiven, Rule, WalkGiven}
 
 pub record Demands (lib : Library) : Type 0 where
   -- ---- 1. No input makes it misbehave
@@ -70,10 +71,10 @@ pub record Demands (lib : Library) : Type 0 where
       → labelIn table c ≡ labelIn table′ c → ((i : ℕ) → i < n → labelIn table (flip i c) ≡ labelIn table′ (flip i c)) → x ≡ x′
   -- ---- 3. Walks arrive
 
-  -- labelling accepts the table that an accepted notice left
+  -- labelling accepts the table that an accepted notice left, by either rule
   pub notice-labels :
-      {bytes faults before after old : List ℕ} {n m taken : ℕ} {x : Labelled} → lib .reads bytes old (noticed.Notice n m taken) faults
-      → length before ≡ 2 ^ n → lib .labels (cabinet n faults) before x after → (exchanges : ℕ) × (x ≡ labelled.Exchanges exchanges)
+      {bytes faults before after old : List ℕ} {n rule m taken : ℕ} {x : Labelled} → lib .reads bytes old (noticed.Notice n m taken) faults
+      → Rule rule → length before ≡ 2 ^ n → lib .labels (cabinet n rule faults) before x after → (exchanges : ℕ) × (x ≡ labelled.Exchanges exchanges)
   -- with the labels that labelling left, and two working nodes
   pub walks :
       {K : Cabinet} {before table : List ℕ} {exchanges s d : ℕ} {w : Walked} → lib .labels K before (labelled.Exchanges exchanges) table → Works K s → Works K d
@@ -99,3 +100,24 @@ pub record Demands (lib : Library) : Type 0 where
   pub walk-enters :
       {n s d room k : ℕ} {table : List ℕ} {w : Walked} → lib .walks n s d table room w → W.refusalOf (w .ending) ≡ 0 → k ≤ w .hops
       → labelIn table (place w k) ≤ 2
+  -- ---- the two rules (document 02, A13)
+
+  -- a site moves from rule 2 to rule 3: its labels only get better,
+  pub moved :
+      {n e e′ : ℕ} {faults before before′ old new : List ℕ} → lib .labels (cabinet n 2 faults) before (labelled.Exchanges e) old
+      → lib .labels (cabinet n 3 faults) before′ (labelled.Exchanges e′) new → OnlyBetter n (labelIn old) (labelIn new)
+  -- and a walk with the new labels arrives within the bound that the old ones gave it
+  pub moved-walks :
+      {n e e′ s d : ℕ} {faults before before′ old new : List ℕ} {w : Walked} → lib .labels (cabinet n 2 faults) before (labelled.Exchanges e) old
+      → lib .labels (cabinet n 3 faults) before′ (labelled.Exchanges e′) new → SomeSafe n (labelIn old)
+      → Works (cabinet n 3 faults) s → Works (cabinet n 3 faults) d → lib .walks n s d new W.rowBytes w
+      → (w .ending ≡ ending.Delivered) × (w .hops ≤ dist s d + more (labelIn old) s d)
+  -- with rule 2, where some node is safe no working node is strongly unsafe,
+  pub none-strong :
+      {n e : ℕ} {faults before table : List ℕ} → lib .labels (cabinet n 2 faults) before (labelled.Exchanges e) table
+      → NoneStrong (cabinet n 2 faults) (labelIn table)
+  -- so there no walk is longer than the distance and two more
+  pub two-more :
+      {n e s d : ℕ} {faults before table : List ℕ} {w : Walked} → lib .labels (cabinet n 2 faults) before (labelled.Exchanges e) table
+      → SomeSafe n (labelIn table) → Works (cabinet n 2 faults) s → Works (cabinet n 2 faults) d → lib .walks n s d table W.rowBytes w
+      → w .hops ≤ dist s d + 2

@@ -10,6 +10,7 @@ use Rattle.rule.specs.Closed.{Largest}
 use Rattle.rule.specs.Exchanges.{Exchanges}
 use Rattle.rule.specs.Good.{LabelsGood}
 use Rattle.rule.specs.Rounds.{Marks, Rested}
+use Rattle.rule.specs.Rules.{Rules}
 use Rattle.scans.specs.Hit.{TableHits}
 use Rattle.scans.specs.Progress.{ScansProgress}
 use Rattle.hop.specs.Local.{HopLocal}
@@ -19,6 +20,7 @@ use Rattle.theorems.specs.Demand2.{Demand2}
 use Rattle.theorems.specs.Demand3.{Demand3}
 use Rattle.theorems.specs.Picked.{HopPicked}
 use Rattle.theorems.specs.Repeats.{WalkRepeats}
+use Rattle.theorems.specs.TwoRules.{TwoRules}
 use Rattle.theorems.specs.Words.{labelAt}
 use Rattle.hcube.specs.Decoded.{Decodes}
 use Rattle.promises.specs.Answers.{Answers}
@@ -51,6 +53,8 @@ pub record Promises : Type 2 where
   pub rested : (n k : ℕ) (F : ℕ → Bool) → Rested n k F
   pub exchanged : (n k : ℕ) (F : ℕ → Bool) → Exchanges n k F
   pub good : LabelsGood
+  pub rules : (n : ℕ) (F : ℕ → Bool) → Rules n F
+  pub two-rules : TwoRules
   pub progress : ScansProgress
   -- document 01's words
   pub refusals : Refusals

@@ -29,6 +29,10 @@ pub data Given (When : ℕ → Type 0) : (order : List ℕ) (k : ℕ) → Type 0
 abbrev pub Dimension : (n : ℕ) → Type 0
 Dimension n = (1 ≤ n) × (n ≤ 12)
 
+-- the number of a rule, "2 or 3" (document 02, A13)
+abbrev pub Rule : (k : ℕ) → Type 0
+Rule k = (k ≡ 2) ⊎ (k ≡ 3)
+
 -- the length of a fault table: "one byte for n up to 3, otherwise 2^n/8 bytes"
 abbrev pub TableLength : (n bytes : ℕ) → Type 0
 TableLength n bytes = ((n ≤ 3) × (bytes ≡ 1)) ⊎ ((3 < n) × (bytes ≡ 2 ^ n / 8))
@@ -37,17 +41,18 @@ TableLength n bytes = ((n ≤ 3) × (bytes ≡ 1)) ⊎ ((3 < n) × (bytes ≡ 2 
 abbrev pub Outside : (n a b : ℕ) → Type 0
 Outside n a b = (2 ^ n ≤ a) ⊎ (2 ^ n ≤ b)
 
--- ---- labelling, of a cabinet and a label table of m bytes: "1, 2 (fault table, then label table), 3"
+-- ---- labelling, of a cabinet and a label table of m bytes: "1, 2 (fault table, then label table), 3", with 18 "directly after 1"
 
 pub data LabelWhen (K : Cabinet) (m : ℕ) : ℕ → Type 0 where
   label-1 : ¬ (Dimension (K .n)) → LabelWhen K m 1
+  label-18 : ¬ (Rule (K .rule)) → LabelWhen K m 18
   label-2-faults : ¬ (TableLength (K .n) (length (K .faults))) → LabelWhen K m 2
   label-2-labels : m ≢ 2 ^ K .n → LabelWhen K m 2
   -- "an unused bit is set in the fault table": one that stands for no node
   label-3 : (x : ℕ) → 2 ^ K .n ≤ x → nodeBit (K .faults) x ≡ true → LabelWhen K m 3
 
 abbrev pub LabelGiven : (K : Cabinet) (m : ℕ) → ℕ → Type 0
-LabelGiven K m = Given (LabelWhen K m) (1 ∷ 2 ∷ 3 ∷ [])
+LabelGiven K m = Given (LabelWhen K m) (1 ∷ 18 ∷ 2 ∷ 3 ∷ [])
 
 -- ---- a hop at c for d, with a label table of m bytes: "1, 2, 5, 4, 6"
 

@@ -1,5 +1,5 @@
 -- The numbers of document 01 that are proved of the definitions, with the counts of document 02's request A3. k4 is n = 4 with faulty 2, 4, 8, 15; q3 is
--- n = 3 with faulty 1, 2, 4.
+-- n = 3 with faulty 1, 2, 4. And numbers of our own for the older rule (A13): of k4, and of c3 and c4, n = 3 and n = 4 with faulty 0, 3, 4.
 use mathlib.Core.Bool.{Bool, true, false, cond}
 use mathlib.Core.List.{List, [], _∷_, _++_}
 use mathlib.Core.Path.{_≡_}
@@ -16,11 +16,20 @@ use Rattle.walk.specs.declared.Ending.the-variants.{Delivered, Halted}
 use Rattle.walk.specs.declared.Walked.{Walked}
 use Rattle.theorems.specs.Words.{labelAt, walkOf}
 
+abbrev pub k4-by : (rule : ℕ) → Cabinet
+k4-by rule = cabinet 4 rule (20 ∷ 129 ∷ [])
+
 abbrev pub k4 : Cabinet
-k4 = cabinet 4 (20 ∷ 129 ∷ [])
+k4 = k4-by 3
 
 abbrev pub q3 : Cabinet
-q3 = cabinet 3 (22 ∷ [])
+q3 = cabinet 3 3 (22 ∷ [])
+
+abbrev pub c3-by : (rule : ℕ) → Cabinet
+c3-by rule = cabinet 3 rule (25 ∷ [])
+
+abbrev pub c4-by : (rule : ℕ) → Cabinet
+c4-by rule = cabinet 4 rule (25 ∷ 0 ∷ [])
 
 -- the numbers below n that have p, rising
 unfoldable pub those : ℕ → (ℕ → Bool) → List ℕ
@@ -58,4 +67,18 @@ pub record Worked : Type 0 where
       (K : Cabinet) (m : ℕ) → labelRefusal K m ≡ 0 → ((x : ℕ) → x < 2 ^ K .n → out K x ≡ false) → labelled K m ≡ Exchanges 1
   pub all-faulty :
       (K : Cabinet) (m : ℕ) → labelRefusal K m ≡ 0 → ((x : ℕ) → x < 2 ^ K .n → out K x ≡ true) → labelled K m ≡ Exchanges 1
-  pub one-safe : safe 1 3 (out (cabinet 1 (1 ∷ []))) 1 ≡ true
+  pub one-safe : safe 1 3 (out (cabinet 1 3 (1 ∷ []))) 1 ≡ true
+  -- ---- the older rule
+
+  -- k4 by rule 2: no node is safe, and a walk that rule 3 delivers halts
+  pub k4-older-exchanges : labelled (k4-by 2) 16 ≡ Exchanges 5
+  pub k4-older-labels : labelsOf (k4-by 2) ≡ 2 ∷ 2 ∷ 3 ∷ 2 ∷ 3 ∷ 2 ∷ 2 ∷ 2 ∷ 3 ∷ 2 ∷ 2 ∷ 2 ∷ 2 ∷ 2 ∷ 2 ∷ 3 ∷ []
+  pub k4-older-13-0 : walkOf (k4-by 2) 13 0 ≡ visited (13 ∷ 12 ∷ []) 1 15 Halted
+  -- c3: by rule 2 no node is safe, by rule 3 three are
+  pub c3-faulty : those 8 (out (c3-by 3)) ≡ 0 ∷ 3 ∷ 4 ∷ []
+  pub c3-older-exchanges : labelled (c3-by 2) 8 ≡ Exchanges 4
+  pub c3-older-labels : labelsOf (c3-by 2) ≡ 3 ∷ 2 ∷ 2 ∷ 3 ∷ 3 ∷ 2 ∷ 2 ∷ 2 ∷ []
+  pub c3-labels : labelsOf (c3-by 3) ≡ 3 ∷ 1 ∷ 1 ∷ 3 ∷ 3 ∷ 0 ∷ 0 ∷ 0 ∷ []
+  -- c4: both leave safe nodes, and rule 3 leaves more
+  pub c4-older-labels : labelsOf (c4-by 2) ≡ (3 ∷ 1 ∷ 1 ∷ 3 ∷ 3 ∷ 1 ∷ 1 ∷ 1 ∷ []) ++ replicate 8 0
+  pub c4-labels : labelsOf (c4-by 3) ≡ (3 ∷ 1 ∷ 1 ∷ 3 ∷ 3 ∷ 0 ∷ 0 ∷ 0 ∷ []) ++ replicate 8 0

@@ -1,13 +1,16 @@
 -- The label bytes of a cabinet: there is one for each node, the byte of a node that does not work is 3 or more, no byte is above the highest label, and
--- the table is good.
+-- with a rule of at most 3 the table is good.
 use mathlib.Core.Bool.{true}
 use mathlib.Core.Path.{_≡_, sym}
 use Prim.Native.Nat.{ℕ, _^_, _≤_, _<_}
 use native.Mathlib.Omega.{arith}
+use lib.Dec.{leb}
 use lib.ListN.{length}
+use borrow.Author.Tests.{le-leb, leb-true}
 use Rattle.cube.specs.Tables.{highest, labelIn}
+use Rattle.cube.proofs.Bools.{and-both, and-true}
 use Rattle.cube.proofs.Front.{length-tab, getD-tab}
-use Rattle.rule.specs.Cabinet.{Cabinet, exchangesOf, labelsOf, out, outByte, ruleOf}
+use Rattle.rule.specs.Cabinet.{Cabinet, exchangesOf, labelsOf, out, outByte, isRule}
 use Rattle.rule.specs.Good.{Good}
 use Rattle.rule.specs.Rule.{label, safe}
 use Rattle.rule.proofs.Bytes.{bytes-le}
@@ -15,9 +18,18 @@ use Rattle.rule.proofs.Exchanges.{exchanged}
 use Rattle.rule.proofs.Good.{good-same, labels-good}
 use Rattle.rule.proofs.Rounds.{working-few}
 
+-- the numbers that are a rule's
+pub rule-is : (k : ℕ) → isRule k ≡ true → (2 ≤ k) × (k ≤ 3)
+unfolding isRule
+rule-is k e = let r = and-true (leb 2 k) (leb k 3) e in (leb-true 2 k (r .0), leb-true k 3 (r .1))
+
+pub is-rule : (k : ℕ) → (2 ≤ k) × (k ≤ 3) → isRule k ≡ true
+unfolding isRule
+is-rule k r = and-both (le-leb 2 k (r .0)) (le-leb k 3 (r .1))
+
 module _ (K : Cabinet) where
   abbrev labelled : ℕ → ℕ
-  labelled = label (K .n) (ruleOf K) (out K) (outByte K)
+  labelled = label (K .n) (K .rule) (out K) (outByte K)
 
   -- what labelling and routing ask of the byte of a node that does not work
   pub out-high : (x : ℕ) → out K x ≡ true → 3 ≤ outByte K x
@@ -34,14 +46,14 @@ module _ (K : Cabinet) where
   pub label-bytes : (x : ℕ) → x < 2 ^ K .n → labelIn (labelsOf K) x ≤ highest
   unfolding label
   label-bytes x h =
-      omega (arith, label-in x h, bytes-le (K .n) (out K) (outByte K) (safe (K .n) (ruleOf K) (out K)) highest (omega arith) x (omega arith))
+      omega (arith, label-in x h, bytes-le (K .n) (out K) (outByte K) (safe (K .n) (K .rule) (out K)) highest (omega arith) x (omega arith))
 
-  pub table-good : Good (K .n) (labelIn (labelsOf K))
-  table-good =
+  pub table-good : K .rule ≤ 3 → Good (K .n) (labelIn (labelsOf K))
+  table-good small =
       good-same (K .n) labelled (labelIn (labelsOf K)) (λ x h. sym (label-in x h))
-      (labels-good (K .n) (ruleOf K) (out K) (outByte K) out-high (omega arith))
+      (labels-good (K .n) (K .rule) (out K) (outByte K) out-high small)
 
   -- at most as many exchanges as a cube of 12 dimensions has nodes, and one more
   pub exchanges-few : K .n ≤ 12 → exchangesOf K ≤ 4097
   unfolding exchangesOf
-  exchanges-few h = omega (arith, exchanged (K .n) (ruleOf K) (out K) .ceiling, working-few (K .n) (out K) h)
+  exchanges-few h = omega (arith, exchanged (K .n) (K .rule) (out K) .ceiling, working-few (K .n) (out K) h)

@@ -4,4 +4,5 @@ pub mod Looks
 pub mod Largest
 pub mod Bytes
 pub mod Good
+pub mod Rules
 pub mod Cabinet

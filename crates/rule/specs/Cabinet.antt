@@ -1,23 +1,26 @@
 -- A cabinet: all that labelling is handed and a label can depend on, in one record, and what it then has for labels. Contracts and theorems speak of a
 -- cabinet, so another thing that labelling is handed is another field here.
-use mathlib.Core.Bool.{Bool}
+use mathlib.Core.Bool.{Bool, _&&_}
 use mathlib.Core.List.{List}
 use Prim.Native.Nat.{ℕ, _^_}
+use lib.Dec.{leb}
 use Rattle.cube.specs.Tables.{nodeBit, tab}
 use Rattle.rule.specs.Rule.{exchanges, label}
 
 pub record Cabinet : Type 0 where
   -- the dimension
   pub n : ℕ
+  -- the number of the rule: so many neighbours that are faulty or unsafe make a node unsafe
+  pub rule : ℕ
   -- the lent fault table
   pub faults : List ℕ
 
-abbrev pub cabinet : (n : ℕ) (faults : List ℕ) → Cabinet
-cabinet n faults = record { n = n; faults = faults }
+abbrev pub cabinet : (n rule : ℕ) (faults : List ℕ) → Cabinet
+cabinet n rule faults = record { n = n; rule = rule; faults = faults }
 
--- the number of the rule: three neighbours that are faulty or unsafe make a node unsafe
-abbrev pub ruleOf : Cabinet → ℕ
-ruleOf K = 3
+-- there are two rules (document 02, A13): 2, that of Lee and Hayes, and 3, document 01's
+unfoldable pub isRule : (k : ℕ) → Bool
+isRule k = leb 2 k && leb k 3
 
 -- the nodes that do not work
 abbrev pub out : Cabinet → ℕ → Bool
@@ -29,7 +32,7 @@ outByte K x = 3
 
 -- the number of exchanges, and the label bytes of all nodes
 unfoldable pub exchangesOf : Cabinet → ℕ
-exchangesOf K = exchanges (K .n) (ruleOf K) (out K)
+exchangesOf K = exchanges (K .n) (K .rule) (out K)
 
 unfoldable pub labelsOf : Cabinet → List ℕ
-labelsOf K = tab (2 ^ K .n) (label (K .n) (ruleOf K) (out K) (outByte K))
+labelsOf K = tab (2 ^ K .n) (label (K .n) (K .rule) (out K) (outByte K))

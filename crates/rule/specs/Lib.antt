@@ -4,4 +4,5 @@ pub mod Exchanges
 pub mod Looks
 pub mod Closed
 pub mod Good
+pub mod Rules
 pub mod Cabinet

@@ -11,12 +11,12 @@ use Rattle.cube.specs.Cube.{flip}
 use Rattle.cube.proofs.Bools.{either, clash, is-false, or-false}
 use Rattle.cube.proofs.Count.{count-same}
 use Rattle.cube.proofs.Cube.{flip-lt}
-use Rattle.rule.specs.Cabinet.{Cabinet, exchangesOf, out, outByte, ruleOf}
+use Rattle.rule.specs.Cabinet.{Cabinet, exchangesOf, out, outByte}
 use Rattle.rule.specs.Closed.{Closed, Largest}
 use Rattle.rule.specs.Exchanges.{Exchanges}
 use Rattle.rule.specs.Rule.{label, marked, rounds, exchanges, safe}
-use Rattle.rule.proofs.Bytes.{out-byte, zero-safe, safe-zero, byte-out}
-use Rattle.rule.proofs.Cabinet.{label-in, out-high, table-good}
+use Rattle.rule.proofs.Bytes.{byte-out, ordinary-near, out-byte, safe-zero, strong-none, zero-safe}
+use Rattle.rule.proofs.Cabinet.{label-in, out-high}
 use Rattle.rule.proofs.Exchanges.{exchanged}
 use Rattle.rule.proofs.Largest.{safe-largest}
 use Rattle.rule.proofs.Rounds.{rested}
@@ -28,18 +28,18 @@ module _ (K : Cabinet) where
   n = K .n
 
   abbrev S : ℕ → Bool
-  S = safe n (ruleOf K) (out K)
+  S = safe n (K .rule) (out K)
 
-  abbrev L : Largest n (ruleOf K) (out K)
-  L = safe-largest n (ruleOf K) (out K)
+  abbrev L : Largest n (K .rule) (out K)
+  L = safe-largest n (K .rule) (out K)
 
-  abbrev C : Closed n (ruleOf K) (out K) S
+  abbrev C : Closed n (K .rule) (out K) S
   C = L .closed
 
-  abbrev E : Exchanges n (ruleOf K) (out K)
-  E = exchanged n (ruleOf K) (out K)
+  abbrev E : Exchanges n (K .rule) (out K)
+  E = exchanged n (K .rule) (out K)
 
-  zero-is : (x : ℕ) → x < 2 ^ n → labelAt K x ≡ 0 → S x ≡ true
+  pub zero-is : (x : ℕ) → x < 2 ^ n → labelAt K x ≡ 0 → S x ≡ true
   unfolding label
   zero-is x h e = zero-safe n (out K) (outByte K) S (C .works) (out-high K) x (sym (label-in K x h) ∙ e)
 
@@ -64,20 +64,32 @@ module _ (K : Cabinet) where
       below : ¬ (3 ≤ labelAt K x)
       below l = clash (byte-out n (out K) (outByte K) S (C .works) (out-high K) x (omega (arith, label-in K x h))) e
 
+  ordinary : (x : ℕ) → x < 2 ^ n → labelAt K x ≡ 1 → (i : ℕ) × (i < n) × (labelAt K (flip i x) ≡ 0)
+  unfolding label
+  ordinary x h e =
+      let r = ordinary-near n (out K) (outByte K) S (C .works) (out-high K) x (sym (label-in K x h) ∙ e) in
+      (r .0, r .1, is-zero (flip (r .0) x) (flip-lt n (r .0) x (r .1) h) (r .2))
+
+  strong : (x i : ℕ) → x < 2 ^ n → i < n → labelAt K x ≡ 2 → labelAt K (flip i x) ≡ 0 → ⊥
+  unfolding label
+  strong x i h l e z =
+      clash (zero-is (flip i x) (flip-lt n i x l h) z)
+      (strong-none n (out K) (outByte K) S (C .works) (out-high K) x (sym (label-in K x h) ∙ e) i l)
+
   -- the quiet exchange leaves the marks of the last round as they are
-  marks-after : (x : ℕ) → x < 2 ^ n → marked n (ruleOf K) (out K) (exchangesOf K) x ≡ marked n (ruleOf K) (out K) (rounds n (ruleOf K) (out K)) x
+  marks-after : (x : ℕ) → x < 2 ^ n → marked n (K .rule) (out K) (exchangesOf K) x ≡ marked n (K .rule) (out K) (rounds n (K .rule) (out K)) x
   unfolding exchangesOf exchanges
   marks-after x h =
-      ap (λ (r : ℕ). marked n (ruleOf K) (out K) r x) (add-one (rounds n (ruleOf K) (out K)))
-      ∙ rested n (ruleOf K) (out K) .still (rounds n (ruleOf K) (out K)) (omega arith) x h
+      ap (λ (r : ℕ). marked n (K .rule) (out K) r x) (add-one (rounds n (K .rule) (out K)))
+      ∙ rested n (K .rule) (out K) .still (rounds n (K .rule) (out K)) (omega arith) x h
 
-  unmarked : (x : ℕ) → x < 2 ^ n → S x ≡ true → (out K x ≡ false) × (marked n (ruleOf K) (out K) (exchangesOf K) x ≡ false)
+  unmarked : (x : ℕ) → x < 2 ^ n → S x ≡ true → (out K x ≡ false) × (marked n (K .rule) (out K) (exchangesOf K) x ≡ false)
   unfolding safe
   unmarked x h e =
-      let s = or-false (out K x) (marked n (ruleOf K) (out K) (rounds n (ruleOf K) (out K)) x) (not-true _ e) in
+      let s = or-false (out K x) (marked n (K .rule) (out K) (rounds n (K .rule) (out K)) x) (not-true _ e) in
       (s .0, marks-after x h ∙ s .1)
 
-  makes-safe : (x : ℕ) → x < 2 ^ n → out K x ≡ false → marked n (ruleOf K) (out K) (exchangesOf K) x ≡ false → S x ≡ true
+  makes-safe : (x : ℕ) → x < 2 ^ n → out K x ≡ false → marked n (K .rule) (out K) (exchangesOf K) x ≡ false → S x ≡ true
   unfolding safe
   makes-safe x h f m = let r = sym (marks-after x h) ∙ m in rw (f, r)
 
@@ -97,8 +109,8 @@ module _ (K : Cabinet) where
         largest = λ H closed x h e. is-zero x h (L .largest H closed x h e);
         faulty = faulty;
         works = works;
-        ordinary = table-good K .ordinary;
-        strong = table-good K .strong;
+        ordinary = ordinary;
+        strong = strong;
         safe = λ x h. (λ e. unmarked x h (zero-is x h e), λ e. is-zero x h (makes-safe x h (e .0) (e .1)));
         counted = E .counted;
         still = E .still;

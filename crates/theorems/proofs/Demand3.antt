@@ -48,7 +48,7 @@ table K ok =
       dimension = f .dimension;
       small = f .small;
       sized = labels-length K;
-      good = table-good K;
+      good = table-good K (f .rule .1);
       faulty = faulty K;
       working = works K;
     }

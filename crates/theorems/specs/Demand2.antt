@@ -5,17 +5,17 @@ use mathlib.Core.Path.{_≡_}
 use Prim.Native.Nat.{ℕ, _+_, _^_, _≤_, _<_}
 use lib.Dec.{eqb}
 use Rattle.cube.specs.Cube.{flip}
-use Rattle.rule.specs.Cabinet.{Cabinet, out, ruleOf}
+use Rattle.rule.specs.Cabinet.{Cabinet, out}
 use Rattle.rule.specs.Closed.{Closed}
 use Rattle.rule.specs.Exchanges.{Exchanged}
 use Rattle.rule.specs.Rounds.{BringsNothing}
 use Rattle.rule.specs.Rule.{marked, working}
 
 pub record Demand2 (K : Cabinet) (lab : ℕ → ℕ) (exchanges : ℕ) : Type 0 where
-  -- of all sets of working nodes in which each has at most one faulty neighbour and at most two neighbours outside the set,
-  -- the safe nodes form the largest
-  pub closed : Closed (K .n) 3 (out K) (λ x. eqb (lab x) 0)
-  pub largest : (H : ℕ → Bool) → Closed (K .n) 3 (out K) H → (x : ℕ) → x < 2 ^ K .n → H x ≡ true → lab x ≡ 0
+  -- of all sets of working nodes in which each has at most one faulty neighbour and fewer neighbours outside the set than the rule's number (with rule 3:
+  -- at most two), the safe nodes form the largest
+  pub closed : Closed (K .n) (K .rule) (out K) (λ x. eqb (lab x) 0)
+  pub largest : (H : ℕ → Bool) → Closed (K .n) (K .rule) (out K) H → (x : ℕ) → x < 2 ^ K .n → H x ≡ true → lab x ≡ 0
   -- a faulty node has label 3 and a working one a lower label
   pub faulty : (x : ℕ) → x < 2 ^ K .n → out K x ≡ true → lab x ≡ 3
   pub works : (x : ℕ) → x < 2 ^ K .n → out K x ≡ false → lab x ≤ 2
@@ -23,9 +23,9 @@ pub record Demand2 (K : Cabinet) (lab : ℕ → ℕ) (exchanges : ℕ) : Type 0 
   pub ordinary : (x : ℕ) → x < 2 ^ K .n → lab x ≡ 1 → (i : ℕ) × (i < K .n) × (lab (flip i x) ≡ 0)
   pub strong : (x i : ℕ) → x < 2 ^ K .n → i < K .n → lab x ≡ 2 → lab (flip i x) ≡ 0 → ⊥
   -- "the labels are those reached when a round marks nothing new": the safe nodes are the working ones that have no mark then,
-  pub safe : (x : ℕ) → x < 2 ^ K .n → (lab x ≡ 0) ↔ ((out K x ≡ false) × (marked (K .n) (ruleOf K) (out K) exchanges x ≡ false))
+  pub safe : (x : ℕ) → x < 2 ^ K .n → (lab x ≡ 0) ↔ ((out K x ≡ false) × (marked (K .n) (K .rule) (out K) exchanges x ≡ false))
   -- "the number of exchanges, the quiet one included": each before the last brought something new, and the last did not;
-  pub counted : Exchanged (K .n) (ruleOf K) (out K) exchanges
+  pub counted : Exchanged (K .n) (K .rule) (out K) exchanges
   -- no later one would, and there are at most as many as working nodes, and one more
-  pub still : (r : ℕ) → exchanges ≤ r → BringsNothing (K .n) (ruleOf K) (out K) r
+  pub still : (r : ℕ) → exchanges ≤ r → BringsNothing (K .n) (K .rule) (out K) r
   pub ceiling : exchanges ≤ working (K .n) (out K) + 1

@@ -4,3 +4,4 @@ pub mod Repeats
 pub mod FewReads
 pub mod Demand2
 pub mod Demand3
+pub mod TwoRules

@@ -2,15 +2,15 @@
 use Prim.Native.Nat.{_-_}
 use native.Mathlib.Omega.{arith}
 use lib.ListN.{length}
+use Rattle.cube.specs.Tables.{nodeBit}
 use Rattle.cube.proofs.Tables.{node-room}
-use Rattle.rule.specs.Cabinet.{cabinet}
 use Rattle.labels.specs.Passes.{started}
 use Rattle.cube.proofs.Filling.{Filled, fill-start, fill-write, fill-end}
 use Rattle.labels.proofs.start.Statement.{statement}
 use Rattle.labels.proofs.start.Tie as tie
 
 abbrev Inv-loop : tie.InvT-loop
-Inv-loop n faults labels₀ k₀ labels k = Filled (started (cabinet n faults)) labels₀ labels k
+Inv-loop n faults labels₀ k₀ labels k = Filled (started (nodeBit faults) (λ _. 3)) labels₀ labels k
 
 abbrev μ-loop : tie.MeasureT-loop
 μ-loop n faults labels₀ k₀ labels k = length labels₀ - k

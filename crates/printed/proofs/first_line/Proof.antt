@@ -22,7 +22,7 @@ same-length c = search needs
 returns : tie.Need-returns
 returns c =
     let l = c .before .before .before .before in
-    let r = of-refused (cabinet _ _) _ _ (sym (l .label .ensures .0) ∙ c .enum-told .given .1) in
+    let r = of-refused (cabinet _ _ _) _ _ (sym (l .label .ensures .0) ∙ c .enum-told .given .1) in
     absurd (r .1 (r .0 ∙ l .before .before .before .before .before .pre .0))
 
 cube-line-requires : tie.Need-cube-line-requires
@@ -40,8 +40,8 @@ returns-2 c =
     let r = line .before .before .before .before in
     let l = r .before .before .before .before in
     let fit = l .before .before .before .before .before .pre .0 in
-    let count = of-exchanges (cabinet _ _) _ _ (sym (l .label .ensures .0) ∙ r .labelled .given .1) .1 in
-    let made = l .label .ensures .1 ∙ labels-written (cabinet _ _) _ fit in
+    let count = of-exchanges (cabinet _ _ _) _ _ (sym (l .label .ensures .0) ∙ r .labelled .given .1) .1 in
+    let made = l .label .ensures .1 ∙ labels-written (cabinet _ _ _) _ fit in
     (line .cube-line .ensures .0 ∙ ap₂ (cubeLine _ _) made (sym count), (line .cube-line .ensures .1, made))
 
 pub first-line-spec : {M : Type 1} → statement M
