@@ -19,11 +19,11 @@
 #define MOST_REPETITIONS 201
 #define PAIRS 512u
 
-static uint32_t n;
+static uint32_t n, rule;
 static size_t nodes, fault_bytes;
 static uint8_t faults[512], labels[4096], scratch[4096], row[34];
 static uint32_t from[PAIRS], to[PAIRS];
-static unsigned repetitions, above;
+static unsigned repetitions, above, rows;
 static double highest;
 static volatile uint32_t kept; /* so that no call is left out */
 
@@ -34,9 +34,10 @@ enum { ARCHIVE, GCC, CLANG, SIDES };
 static uint32_t label_once(int side)
 {
     switch (side) {
-    case ARCHIVE: return hcube_label(n, faults, fault_bytes, scratch, nodes);
-    case GCC: return gcc_label(n, faults, fault_bytes, scratch, nodes);
-    default: return clang_label(n, faults, fault_bytes, scratch, nodes);
+    case ARCHIVE:
+        return hcube_label(n, rule, faults, fault_bytes, scratch, nodes);
+    case GCC: return gcc_label(n, rule, faults, fault_bytes, scratch, nodes);
+    default: return clang_label(n, rule, faults, fault_bytes, scratch, nodes);
     }
 }
 
@@ -125,13 +126,18 @@ static void set_dimension(uint32_t dimension)
     memset(faults, 0, sizeof faults);
 }
 
+static void add_fault(uint32_t k)
+{
+    faults[k / 8] |= (uint8_t)(1u << (k % 8));
+}
+
 static void add_faults(unsigned count)
 {
     while (count) {
         uint32_t k = random_below((uint32_t)nodes);
         if (faults[k / 8] >> (k % 8) & 1)
             continue;
-        faults[k / 8] |= (uint8_t)(1u << (k % 8));
+        add_fault(k);
         count--;
     }
 }
@@ -157,7 +163,7 @@ static void expect_alike(uint32_t (*question)(int), const char *name)
 
 static void prepare(void)
 {
-    clang_label(n, faults, fault_bytes, labels, nodes);
+    clang_label(n, rule, faults, fault_bytes, labels, nodes);
     for (unsigned k = 0; k < PAIRS; k++) {
         from[k] = working_node();
         to[k] = working_node();
@@ -170,7 +176,8 @@ static void prepare(void)
 static void print_row(const char *name)
 {
     prepare();
-    printf("%2u %-12s %6u", n, name, label_once(ARCHIVE));
+    printf("%2u %4u %-12s %6u", n, rule, name, label_once(ARCHIVE));
+    rows++;
     measure(label_once, 1);
     measure(hop_all, PAIRS);
     measure(walk_all, PAIRS);
@@ -189,7 +196,11 @@ static void print_table(void)
         print_row(name);
     }
     set_dimension(12);
-    memcpy(faults, worst_table, sizeof worst_table);
+    if (rule == HCUBE_RULE_CHIU_WU)
+        memcpy(faults, worst_table, sizeof worst_table);
+    else
+        for (unsigned k = 0; k < COUNT(worst_by_2); k++)
+            add_fault(worst_by_2[k]);
     print_row("worst");
 }
 
@@ -205,16 +216,18 @@ static void print_scaling(void)
 int main(int count, char **words)
 {
     static const char head[] =
-        " n table     exchanges   label, ns ratio     hop, ns ratio    walk, ns"
+        " n rule table     exchanges   label, ns ratio     hop, ns ratio    walk, ns"
         " ratio\n";
     repetitions = count > 1 ? (unsigned)atoi(words[1]) : 51;
     if (repetitions < 1 || repetitions > MOST_REPETITIONS)
         repetitions = 51;
     random_seed(12);
     printf("%s", head);
-    print_table();
+    for (rule = HCUBE_RULE_CHIU_WU; rule >= HCUBE_RULE_LEE_HAYES; rule--)
+        print_table();
+    rule = HCUBE_RULE_CHIU_WU;
     printf("\nscaling\n%s", head);
     print_scaling();
-    printf("\nhighest ratio %.2f; above 1.0: %u of 30\n", highest, above);
+    printf("\nhighest ratio %.2f; above 1.0: %u of %u\n", highest, above, 3 * rows);
     return 0;
 }

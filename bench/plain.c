@@ -21,11 +21,13 @@ static uint32_t refused(uint32_t refusal)
 
 /* ---- labelling, in the lent buffer */
 
-/* Two faulty neighbours, or three that are faulty or marked: a byte is what it
- * weighs, and 6 is enough. A fresh one, 128, leaves the bit that tells. */
-static int meets_rule(uint32_t n, uint32_t k, const uint8_t *labels)
+/* Two faulty neighbours, or as many as the rule names that are faulty or marked:
+ * a byte is what it weighs, and twice the rule is enough. A fresh one, 128,
+ * leaves the bit that tells. */
+static int meets_rule(uint32_t n, uint32_t rule, uint32_t k,
+                      const uint8_t *labels)
 {
-    unsigned weight = 64 - 6;
+    unsigned weight = 64 - 2 * rule;
     for (uint32_t bit = 1; bit < 1u << n; bit *= 2) {
         weight += labels[k ^ bit];
         if (weight & 64)
@@ -34,11 +36,11 @@ static int meets_rule(uint32_t n, uint32_t k, const uint8_t *labels)
     return 0;
 }
 
-static int sweep(uint32_t n, uint8_t *labels, size_t nodes)
+static int sweep(uint32_t n, uint32_t rule, uint8_t *labels, size_t nodes)
 {
     int something_new = 0;
     for (uint32_t k = 0; k < nodes; k++)
-        if (labels[k] == SAFE && meets_rule(n, k, labels)) {
+        if (labels[k] == SAFE && meets_rule(n, rule, k, labels)) {
             labels[k] = FRESH;
             something_new = 1;
         }
@@ -59,19 +61,21 @@ static int has_safe_neighbour(uint32_t n, uint32_t k, const uint8_t *labels)
     return 0;
 }
 
-uint32_t NAME(label)(uint32_t n, const uint8_t *faults, size_t faults_len,
-                     uint8_t *labels, size_t labels_len)
+uint32_t NAME(label)(uint32_t n, uint32_t rule, const uint8_t *faults,
+                     size_t faults_len, uint8_t *labels, size_t labels_len)
 {
     uint32_t exchanges = 1;
     if (n < 1 || n > 12)
         return refused(1);
+    if (rule < 2 || rule > 3)
+        return refused(18);
     if (faults_len != ((1u << n) + 7) / 8 || labels_len != 1u << n)
         return refused(2);
     if (n < 3 && faults[0] >> (1u << n))
         return refused(3);
     for (size_t k = 0; k < labels_len; k++)
         labels[k] = faults[k / 8] >> (k % 8) & 1 ? FAULTY : SAFE;
-    while (sweep(n, labels, labels_len)) {
+    while (sweep(n, rule, labels, labels_len)) {
         settle(labels, labels_len);
         exchanges++;
     }

@@ -9,7 +9,7 @@
 #include <stdint.h>
 
 #define DECLARE(prefix)                                                        \
-    uint32_t prefix##label(uint32_t n, const uint8_t *faults,                  \
+    uint32_t prefix##label(uint32_t n, uint32_t rule, const uint8_t *faults,   \
                            size_t faults_len, uint8_t *labels,                 \
                            size_t labels_len);                                 \
     uint32_t prefix##hop(uint32_t n, uint32_t c, uint32_t d,                   \

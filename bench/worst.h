@@ -1,6 +1,6 @@
 /*
- * worst.h: a fault table of n = 12 with many exchanges, 109, found by
- * tests/most_exchanges.c (`most_exchanges 12 600000 1`).
+ * worst.h: fault tables of n = 12 with many exchanges: 109 by rule 3 and 37 by
+ * rule 2, found by tests/most_exchanges.c (`most_exchanges RULE 12 600000 1`).
  */
 #ifndef WORST_H
 #define WORST_H
@@ -51,6 +51,14 @@ static const uint8_t worst_table[512] = {
     0x00, 0x00, 0x00, 0x00, 0x00, 0x10, 0x20, 0x00, 0x00, 0x20, 0x00, 0x00,
     0x00, 0x00, 0x00, 0x00, 0x00, 0x01, 0x00, 0x00, 0x00, 0x00, 0x00, 0x00,
     0x00, 0x00, 0x00, 0x00, 0x20, 0x00, 0x00, 0x00,
+};
+
+/* That of rule 2, by its faulty nodes. */
+static const uint16_t worst_by_2[] = {
+    112, 114, 116, 120, 124, 126, 197, 199, 240, 242, 244, 246, 250, 254, 257,
+    428, 587, 624, 628, 638, 709, 760, 764, 903, 1312, 1366, 1372, 1376, 1458,
+    1531, 1533, 1552, 1572, 1580, 1686, 1717, 1721, 1725, 1808, 1905, 1970,
+    2022, 3994,
 };
 
 #endif

@@ -46,6 +46,11 @@ extern "C" {
 #define HCUBE_STRONG 2   /* strongly unsafe: no neighbour is safe */
 #define HCUBE_FAULTY 3
 
+/* Rules by which nodes are labelled. The number says how many faulty or unsafe
+ * neighbours make a node unsafe. */
+#define HCUBE_RULE_LEE_HAYES 2 /* the older one */
+#define HCUBE_RULE_CHIU_WU 3
+
 /* Refusals. 0 is none: the call was accepted. */
 #define HCUBE_ACCEPTED 0
 #define HCUBE_BAD_DIMENSION 1    /* dimension not 1 to 12 */
@@ -60,6 +65,7 @@ extern "C" {
 #define HCUBE_BAD_GROUP 10       /* second group zero or with its high bit */
 #define HCUBE_BAD_COUNT 11       /* count above 2^n */
 #define HCUBE_BAD_ADDRESS 12     /* an address is 2^n or more */
+#define HCUBE_BAD_RULE 18        /* the rule's number is not 2 or 3 */
 
 /* Kinds of a hop's answer. */
 #define HCUBE_DELIVER 0
@@ -84,21 +90,29 @@ extern "C" {
 /*
  * Labels every node of the cube whose faulty nodes `faults` gives.
  *
- * A working node is unsafe if it has two or more faulty neighbours, or three
+ * A working node is unsafe if it has two or more faulty neighbours, or `rule`
  * or more that are faulty or unsafe; this is applied to all nodes at once, in
  * one exchange of their states after the other, until one brings nothing new.
  * An unsafe node is strongly unsafe if none of its neighbours is safe, otherwise
- * ordinarily unsafe.
+ * ordinarily unsafe. Hop and walk go by the labels, whichever rule made them;
+ * all cards of a cabinet are labelled by one rule.
+ *
+ * From HCUBE_RULE_LEE_HAYES to HCUBE_RULE_CHIU_WU a node that is safe stays
+ * safe, and no label grows. With HCUBE_RULE_LEE_HAYES, where some node is safe no
+ * working node is strongly unsafe, and no walk is longer than the distance and
+ * two hops.
  *
  * Refusals, in order:
- *   1  n is not 1 to 12
- *   2  faults_len is not HCUBE_FAULT_BYTES(n), or labels_len not HCUBE_NODES(n)
- *   3  n is 1 or 2 and a bit for a node of 2^n or more is set in `faults`
+ *   1   n is not 1 to 12
+ *   18  rule is not HCUBE_RULE_LEE_HAYES or HCUBE_RULE_CHIU_WU
+ *   2   faults_len is not HCUBE_FAULT_BYTES(n), or labels_len not HCUBE_NODES(n)
+ *   3   n is 1 or 2 and a bit for a node of 2^n or more is set in `faults`
  * Accepted: kind 0, value the number of exchanges, the last of which brought
  * nothing new: 1 at least. All 2^n bytes of `labels` are written; what they held
  * before does not matter.
  */
-uint32_t hcube_label(uint32_t n, const uint8_t *faults, size_t faults_len,
+uint32_t hcube_label(uint32_t n, uint32_t rule,
+                     const uint8_t *faults, size_t faults_len,
                      uint8_t *labels, size_t labels_len);
 
 /*

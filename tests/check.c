@@ -87,15 +87,17 @@ static void count_one(unsigned long *counts, size_t room, const char *what,
 #define SEEN(counts, number)                                                   \
     count_one(seen.counts, COUNT(seen.counts), #counts, number)
 
-static void count_labels(uint32_t n, uint32_t answer, const uint8_t *labels)
+static void count_labels(struct label_question asked, uint32_t answer,
+                         const uint8_t *labels)
 {
     uint32_t exchanges = HCUBE_VALUE(answer);
     SEEN(refusal[LABEL], HCUBE_REFUSAL(answer));
     if (HCUBE_REFUSAL(answer))
         return;
-    SEEN(cube[LABEL], n);
+    SEEN(cube[LABEL], asked.n);
+    SEEN(rule, asked.rule);
     SEEN(exchanges, exchanges < 10 ? exchanges : 10);
-    for (uint32_t k = 0; k < 1u << n; k++)
+    for (uint32_t k = 0; k < 1u << asked.n; k++)
         SEEN(label, labels[k]);
 }
 
@@ -109,13 +111,15 @@ uint32_t check_label(struct label_question asked)
     lent.faults = read_only.bytes;
     lent.labels = writable.bytes;
     memcpy(wanted, asked.labels, asked.labels_len);
-    want = ref_label(asked.n, asked.faults, asked.faults_len, wanted,
+    want = ref_label(asked.n, asked.rule, asked.faults, asked.faults_len, wanted,
                      asked.labels_len);
     answer = ask_label(lent);
-    expect(answer == want, "label n=%u: %08x, not %08x", asked.n, answer, want);
+    expect(answer == want, "label n=%u by %u: %08x, not %08x", asked.n,
+           asked.rule, answer, want);
     same = lent_is(&read_only, asked.faults) && lent_is(&writable, wanted);
-    expect(same, "label n=%u (%08x): wrong bytes", asked.n, want);
-    count_labels(asked.n, want, wanted);
+    expect(same, "label n=%u by %u (%08x): wrong bytes", asked.n, asked.rule,
+           want);
+    count_labels(asked, want, wanted);
     memcpy(asked.labels, writable.bytes, asked.labels_len);
     return answer;
 }

@@ -40,6 +40,7 @@ struct seen {
     unsigned long walk_kind[2];        /* delivered, halted */
     unsigned long walk_hops[17];       /* of delivered walks */
     unsigned long longest[13];         /* delivered in n + 4 hops, by n */
+    unsigned long rule[4];             /* by which labels were made */
     unsigned long exchanges[11];       /* 10: ten or more */
     unsigned long label[MOST_LABEL + 1]; /* bytes that labelling wrote */
 };

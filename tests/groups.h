@@ -6,6 +6,7 @@ void check_worked_numbers(void);  /* worked.c */
 void check_small_cubes(void);     /* tables.c */
 void check_most_exchanges(void);
 void check_one_exchange(void);
+void check_moved(void);
 void check_random_tables(void);
 void check_random_labels(void);
 void check_hop_reads(void);

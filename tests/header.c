@@ -43,6 +43,8 @@ HOLDS(table_bytes_1, HCUBE_NODES(1) == 2 && HCUBE_FAULT_BYTES(1) == 1);
 HOLDS(table_bytes_3, HCUBE_NODES(3) == 8 && HCUBE_FAULT_BYTES(3) == 1);
 HOLDS(table_bytes_4, HCUBE_NODES(4) == 16 && HCUBE_FAULT_BYTES(4) == 2);
 HOLDS(table_bytes_12, HCUBE_NODES(12) == 4096 && HCUBE_FAULT_BYTES(12) == 512);
+HOLDS(rules, HCUBE_RULE_LEE_HAYES == 2 && HCUBE_RULE_CHIU_WU == 3 &&
+                 HCUBE_BAD_RULE == 18);
 HOLDS(labels, HCUBE_SAFE == 0 && HCUBE_ORDINARY == 1 && HCUBE_STRONG == 2 &&
                   HCUBE_FAULTY == 3);
 HOLDS(kinds, HCUBE_DELIVER == 0 && HCUBE_HOP == 1 && HCUBE_HALTED == 2 &&
@@ -63,8 +65,8 @@ uint64_t use_all(const uint8_t *bytes, uint8_t *faults, uint8_t *labels,
 {
     uint64_t notice = hcube_read_notice(bytes, 12, faults, HCUBE_FAULT_BYTES(4));
     uint32_t n = (uint32_t)HCUBE_NOTICE_DIMENSION(notice);
-    uint32_t all = hcube_label(n, faults, HCUBE_FAULT_BYTES(n), labels,
-                               HCUBE_NODES(n));
+    uint32_t all = hcube_label(n, HCUBE_RULE_CHIU_WU, faults,
+                               HCUBE_FAULT_BYTES(n), labels, HCUBE_NODES(n));
     all += hcube_hop(n, 0, 1, labels, HCUBE_NODES(n));
     all += hcube_walk(n, 0, 1, labels, HCUBE_NODES(n), row, HCUBE_ROW_BYTES);
     return all + HCUBE_REFUSAL(notice) + HCUBE_NOTICE_COUNT(notice) +

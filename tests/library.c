@@ -57,6 +57,7 @@ static void check_coverage(void)
     CAME_UP("kind of walk", walk_kind, 0, 1);
     CAME_UP("hops of a walk", walk_hops, 0, 16);
     CAME_UP("walk of n + 4 hops, n", longest, 4, 12);
+    CAME_UP("rule", rule, 2, 3);
     CAME_UP("exchanges", exchanges, 1, 10);
     CAME_UP("label", label, 0, LAST_LABEL);
     CAME_UP("labelled n", cube[LABEL], 1, 12);
@@ -77,6 +78,7 @@ int main(void)
     check_small_cubes();
     check_most_exchanges();
     check_one_exchange();
+    check_moved();
     check_random_tables();
     check_random_labels();
     check_long_walks();

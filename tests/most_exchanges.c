@@ -1,10 +1,10 @@
 /*
  * most_exchanges.c: looks for fault tables whose labelling takes many exchanges.
  *
- *   most_exchanges N            every table, for N up to 4
- *   most_exchanges N STEPS SEED hill climbing, dimension after dimension
+ *   most_exchanges RULE N            every table, for N up to 4
+ *   most_exchanges RULE N STEPS SEED hill climbing, dimension after dimension
  *
- * Prints dimension, exchanges and the table in hex. The tables that it found
+ * Prints rule, dimension, exchanges and the table in hex. The tables that it found
  * stand as literals in tests/tables.c and bench/worst.h.
  *
  * A set of nodes is an array of 64-bit words, so that an exchange is a few word
@@ -22,7 +22,7 @@ struct set {
     uint64_t word[MOST_WORDS];
 };
 
-static unsigned n, words;
+static unsigned rule, n, words;
 static uint64_t used; /* the bits of a word that are nodes */
 
 /* The nodes of word w whose neighbour across dimension i is in the set. */
@@ -53,7 +53,7 @@ static int exchange(const struct set *faulty, struct set *outside)
             two |= one & o;
             one |= o;
         }
-        outside->word[w] |= (faulty_two | three) & used;
+        outside->word[w] |= (faulty_two | (rule == 2 ? two : three)) & used;
         something_new |= outside->word[w] != before.word[w];
     }
     return something_new;
@@ -72,7 +72,7 @@ static unsigned exchanges_of(const struct set *faulty)
 static void print_table(const struct set *faulty, unsigned exchanges)
 {
     unsigned bytes = n <= 3 ? 1 : (1u << n) / 8;
-    printf("%u %u ", n, exchanges);
+    printf("%u %u %u ", rule, n, exchanges);
     for (unsigned k = 0; k < bytes; k++)
         printf("%02x", (unsigned)(faulty->word[k / 8] >> 8 * (k % 8) & 255));
     printf("\n");
@@ -137,18 +137,19 @@ static void climb_up(unsigned last, unsigned long steps)
 
 int main(int count, char **words_given)
 {
-    unsigned last = count > 1 ? (unsigned)atoi(words_given[1]) : 0;
-    if (last < 1 || last > 12 || (count == 2 && last > 4) ||
-        (count != 2 && count != 4)) {
-        fprintf(stderr, "usage: most_exchanges N, or most_exchanges N STEPS SEED\n");
+    unsigned last = count > 2 ? (unsigned)atoi(words_given[2]) : 0;
+    rule = count > 1 ? (unsigned)atoi(words_given[1]) : 0;
+    if (rule < 2 || rule > 3 || last < 1 || last > 12 ||
+        (count == 3 && last > 4) || (count != 3 && count != 5)) {
+        fprintf(stderr, "usage: most_exchanges RULE N [STEPS SEED]\n");
         return 2;
     }
-    if (count == 2) {
+    if (count == 3) {
         set_dimension(last);
         try_all();
         return 0;
     }
-    random_seed(strtoull(words_given[3], NULL, 10));
-    climb_up(last, strtoul(words_given[2], NULL, 10));
+    random_seed(strtoull(words_given[4], NULL, 10));
+    climb_up(last, strtoul(words_given[3], NULL, 10));
     return 0;
 }

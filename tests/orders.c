@@ -14,6 +14,7 @@
 struct order {
     unsigned first, second;
     uint32_t n, s, d;   /* s: the walk's source, or the hop's current node */
+    int rule_more;      /* for labelling: beyond rule 3 */
     uint8_t fault_byte; /* each byte of the fault table */
     const char *labels; /* for hop and walk: a digit a byte, x for no label */
     int faults_more, labels_more, row_more; /* bytes beyond what fits */
@@ -24,6 +25,9 @@ static uint8_t faults[MOST_LENT], labels[MOST_LENT], row[MOST_LENT];
 /* ---- labelling. 1 and 3 meet only where n is right once narrowed. */
 
 static const struct order label_orders[] = {
+    {.first = 1, .second = 18, .n = 0, .rule_more = 1},
+    {.first = 1, .second = 18, .n = 13, .rule_more = -2},
+    {.first = 1, .second = 18, .n = 260, .rule_more = -3},
     {.first = 1, .second = 2, .n = 0, .faults_more = 1},
     {.first = 1, .second = 2, .n = 0, .labels_more = 1},
     {.first = 1, .second = 2, .n = 13, .faults_more = -1, .labels_more = 1},
@@ -32,6 +36,12 @@ static const struct order label_orders[] = {
     {.first = 1, .second = 3, .n = 257, .fault_byte = 255},
     {.first = 1, .second = 3, .n = 258, .fault_byte = 255},
     {.first = 1, .second = 3, .n = 0, .fault_byte = 255},
+    {.first = 18, .second = 2, .n = 4, .rule_more = 1, .faults_more = 1},
+    {.first = 18, .second = 2, .n = 4, .rule_more = -2, .labels_more = -1},
+    {.first = 18, .second = 2, .n = 1, .rule_more = 256, .faults_more = -1},
+    {.first = 18, .second = 2, .n = 12, .rule_more = -3, .labels_more = 1},
+    {.first = 18, .second = 3, .n = 1, .rule_more = 1, .fault_byte = 4},
+    {.first = 18, .second = 3, .n = 2, .rule_more = -2, .fault_byte = 255},
     {.first = 2, .second = 3, .n = 1, .fault_byte = 4, .labels_more = 1},
     {.first = 2, .second = 3, .n = 1, .fault_byte = 128, .labels_more = -1},
     {.first = 2, .second = 3, .n = 1, .fault_byte = 4, .faults_more = 1},
@@ -48,6 +58,7 @@ static uint32_t label_answer(const struct order *order)
     struct label_question asked = fit_label(order->n & 255, faults, labels);
     memset(faults, order->fault_byte, sizeof faults);
     asked.n = order->n;
+    asked.rule += (uint32_t)order->rule_more;
     asked.faults_len += (size_t)order->faults_more;
     asked.labels_len += (size_t)order->labels_more;
     return check_label(asked);

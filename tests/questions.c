@@ -2,7 +2,7 @@
 #include "questions.h"
 
 const struct question questions[QUESTIONS] = {
-    [LABEL] = {"label", {1, 2, 3}},
+    [LABEL] = {"label", {1, 18, 2, 3}},
     [HOP] = {"hop", {1, 2, 5, 4, 6}},
     [WALK] = {"walk", {1, 2, 5, 4, 6, 7, 8}},
     [NOTICE] = {"notice", {9, 10, 1, 2, 11, 12}},
@@ -12,6 +12,7 @@ struct label_question fit_label(uint32_t n, const uint8_t *faults,
                                 uint8_t *labels)
 {
     struct label_question asked = {.n = n,
+                                   .rule = HCUBE_RULE_CHIU_WU,
                                    .faults = faults,
                                    .faults_len = ref_fault_bytes(n),
                                    .labels = labels,
@@ -45,8 +46,8 @@ struct walk_question fit_walk(uint32_t n, uint32_t s, uint32_t d,
 
 uint32_t ask_label(struct label_question asked)
 {
-    return hcube_label(asked.n, asked.faults, asked.faults_len, asked.labels,
-                       asked.labels_len);
+    return hcube_label(asked.n, asked.rule, asked.faults, asked.faults_len,
+                       asked.labels, asked.labels_len);
 }
 
 uint32_t ask_hop(struct hop_question asked)

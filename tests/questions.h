@@ -28,7 +28,7 @@ extern const struct question {
 
 /* What a question is handed. */
 struct label_question {
-    uint32_t n;
+    uint32_t n, rule;
     const uint8_t *faults;
     size_t faults_len;
     uint8_t *labels;
@@ -49,8 +49,8 @@ struct walk_question {
     size_t row_len;
 };
 
-/* Questions in which each length is the one that n asks for. A test of refusals
- * then changes what is to be refused. */
+/* Questions in which each length is the one that n asks for, and the rule is 3.
+ * A test of refusals then changes what is to be refused. */
 struct label_question fit_label(uint32_t n, const uint8_t *faults,
                                 uint8_t *labels);
 struct hop_question fit_hop(uint32_t n, uint32_t c, uint32_t d,

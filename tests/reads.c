@@ -14,7 +14,7 @@
 #include "cases.h"
 #include "watch.h"
 
-static uint32_t n;
+static uint32_t n, rule;
 static uint8_t faults[512];
 
 /* ---- the rounds, by the fault table: 1 where a node is faulty, has a mark */
@@ -29,7 +29,7 @@ static int settled(uint32_t x, uint32_t so_many)
         out += faulty[x ^ 1u << i];
         bad += faulty[x ^ 1u << i] || marked[x ^ 1u << i];
     }
-    return out >= 2 || bad >= 3;
+    return out >= 2 || bad >= rule;
 }
 
 /* How many neighbours the test looks at: the least number that settles it. */
@@ -161,7 +161,7 @@ static void expect_labelling(void)
         faulty[x] = faults[x / 8] >> (x % 8) & 1;
     memset(marked, 0, sizeof marked);
     watch_begin();
-    hcube_label(n, faults, HCUBE_FAULT_BYTES(n), labels, HCUBE_NODES(n));
+    hcube_label(n, rule, faults, HCUBE_FAULT_BYTES(n), labels, HCUBE_NODES(n));
     watch_end();
     while (at < noted && notes[at].is_write) /* the table before the first round */
         at++;
@@ -199,13 +199,14 @@ static void result(const char *what, unsigned cases)
     failed |= *wrong != 0;
 }
 
-/* Three tables of each density, or one where the cube is large. */
+/* By each rule three tables of each density, or one where the cube is large. */
 static void check_labelling(void)
 {
-    unsigned cases = 0, tables = n <= 8 ? 3 : 1;
+    unsigned cases = 0, tables = n <= 8 ? 6 : 2;
     *wrong = 0;
     for (unsigned k = 0; k < tables * COUNT(densities) && !*wrong; k++) {
         random_faults(n, densities[k % COUNT(densities)], faults);
+        rule = 2 + k / COUNT(densities) % 2;
         expect_labelling();
         cases++;
     }
@@ -227,6 +228,7 @@ static void check_hops(void)
 static void print_row(unsigned per_mille)
 {
     unsigned count = 0;
+    rule = HCUBE_RULE_CHIU_WU;
     random_faults(n, per_mille, faults);
     expect_labelling();
     if (*wrong) {

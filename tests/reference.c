@@ -30,8 +30,8 @@ static int is_faulty(const uint8_t *faults, uint32_t k)
     return faults[k / 8] >> (k % 8) & 1;
 }
 
-static int meets_rule(uint32_t n, const uint8_t *faults, const uint8_t *marked,
-                      uint32_t k)
+static int meets_rule(uint32_t n, uint32_t rule, const uint8_t *faults,
+                      const uint8_t *marked, uint32_t k)
 {
     unsigned faulty = 0, unsafe = 0;
     for (uint32_t i = 0; i < n; i++) {
@@ -41,20 +41,20 @@ static int meets_rule(uint32_t n, const uint8_t *faults, const uint8_t *marked,
         else if (marked[neighbour])
             unsafe++;
     }
-    return faulty >= 2 || faulty + unsafe >= 3;
+    return faulty >= 2 || faulty + unsafe >= rule;
 }
 
 /* One exchange, which is one round: the marks after it from those before.
  * Whether it brought something new. */
-static int exchange(uint32_t n, const uint8_t *faults, const uint8_t *marked,
-                    uint8_t *next)
+static int exchange(uint32_t n, uint32_t rule, const uint8_t *faults,
+                    const uint8_t *marked, uint8_t *next)
 {
     int something_new = 0;
     for (uint32_t k = 0; k < nodes_of(n); k++) {
         next[k] = marked[k];
         if (is_faulty(faults, k) || marked[k])
             continue;
-        if (meets_rule(n, faults, marked, k)) {
+        if (meets_rule(n, rule, faults, marked, k)) {
             next[k] = 1;
             something_new = 1;
         }
@@ -73,14 +73,15 @@ static int has_safe_neighbour(uint32_t n, const uint8_t *faults,
     return 0;
 }
 
-unsigned ref_exchanges(uint32_t n, const uint8_t *faults, uint8_t *labels)
+unsigned ref_exchanges(uint32_t n, uint32_t rule, const uint8_t *faults,
+                       uint8_t *labels)
 {
     uint8_t marked[MOST_NODES], next[MOST_NODES];
     unsigned exchanges = 0;
     int something_new;
     memset(marked, 0, sizeof marked);
     do {
-        something_new = exchange(n, faults, marked, next);
+        something_new = exchange(n, rule, faults, marked, next);
         exchanges++;
         memcpy(marked, next, nodes_of(n));
     } while (something_new);
@@ -97,11 +98,14 @@ unsigned ref_exchanges(uint32_t n, const uint8_t *faults, uint8_t *labels)
     return exchanges;
 }
 
-uint32_t ref_label(uint32_t n, const uint8_t *faults, size_t faults_len,
+uint32_t ref_label(uint32_t n, uint32_t rule,
+                   const uint8_t *faults, size_t faults_len,
                    uint8_t *labels, size_t labels_len)
 {
     if (n < 1 || n > 12)
         return packed(1, 0, 0);
+    if (rule != 2 && rule != 3)
+        return packed(18, 0, 0);
     if (faults_len != ref_fault_bytes(n))
         return packed(2, 0, 0);
     if (labels_len != nodes_of(n))
@@ -110,7 +114,7 @@ uint32_t ref_label(uint32_t n, const uint8_t *faults, size_t faults_len,
         return packed(3, 0, 0);
     if (n == 2 && faults[0] > 15)
         return packed(3, 0, 0);
-    return packed(0, 0, ref_exchanges(n, faults, labels));
+    return packed(0, 0, ref_exchanges(n, rule, faults, labels));
 }
 
 /* ---- one hop */

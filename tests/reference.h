@@ -1,5 +1,6 @@
 /*
- * reference.h: the rules of document 01 once more, in plain C, to hold the
+ * reference.h: the rules of document 01, with the older one of document 02's
+ * request A13 beside its own, once more, in plain C, to hold the
  * library and the listing program against. The first four functions have the
  * same interface as the library's.
  */
@@ -19,7 +20,8 @@
 /* The largest byte that is a label. */
 #define LAST_LABEL 3
 
-uint32_t ref_label(uint32_t n, const uint8_t *faults, size_t faults_len,
+uint32_t ref_label(uint32_t n, uint32_t rule,
+                   const uint8_t *faults, size_t faults_len,
                    uint8_t *labels, size_t labels_len);
 uint32_t ref_hop(uint32_t n, uint32_t c, uint32_t d,
                  const uint8_t *labels, size_t labels_len);
@@ -42,8 +44,10 @@ void ref_listing(const uint8_t *bytes, size_t len, FILE *out);
 unsigned ref_scan(uint32_t n, uint32_t c, uint32_t d, const uint8_t *labels,
                   uint32_t *dimension);
 
-/* Exchanges, the quiet one included, and final labels of a good fault table. */
-unsigned ref_exchanges(uint32_t n, const uint8_t *faults, uint8_t *labels);
+/* Exchanges, the quiet one included, and final labels of a good fault table, by
+ * rule 2 or 3. */
+unsigned ref_exchanges(uint32_t n, uint32_t rule, const uint8_t *faults,
+                       uint8_t *labels);
 
 /* Length of a fault table. */
 size_t ref_fault_bytes(uint32_t n);

@@ -155,6 +155,6 @@ void ref_listing(const uint8_t *bytes, size_t len, FILE *out)
         fprintf(out, "notice refused %u %u\n", refusal, (unsigned)place);
         return;
     }
-    print_first_line(n, labels, ref_exchanges(n, faults, labels), out);
+    print_first_line(n, labels, ref_exchanges(n, 3, faults, labels), out);
     print_pairs(bytes, len, place, n, labels, out);
 }

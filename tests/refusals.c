@@ -24,6 +24,14 @@ static uint32_t any_dimension(void)
                             : bad[random_below(COUNT(bad))];
 }
 
+static uint32_t any_rule(void)
+{
+    static const uint32_t bad[] = {0, 1, 4, 5, 130, 131, 256 + 2, 65536 + 3,
+                                   0x80000002u, 0xffffffffu};
+    return random_below(12) ? 2 + random_below(2)
+                            : bad[random_below(COUNT(bad))];
+}
+
 static uint32_t any_node(uint32_t n)
 {
     uint32_t nodes = 1u << (n - 1) % 12 << 1, k = random_below(nodes);
@@ -71,6 +79,7 @@ static void damaged_label(uint32_t n, uint32_t fitting)
     if (random_below(4) == 0)
         faults[0] |= (uint8_t)(1u << random_below(8));
     asked.n = n;
+    asked.rule = any_rule();
     asked.faults_len = any_length(asked.faults_len);
     asked.labels_len = any_length(asked.labels_len);
     check_label(asked);
@@ -187,10 +196,11 @@ void check_lengths(void)
 /* ---- numbers that would be good once narrowed to 8 or 16 bits */
 
 /* Asked with the tables of n = 4, whatever n is given: nobody is faulty. */
-static uint32_t label_at_4(uint32_t n)
+static uint32_t label_at_4(uint32_t n, uint32_t rule)
 {
     struct label_question asked = fit_label(4, faults, row);
     asked.n = n;
+    asked.rule = rule;
     return check_label(asked);
 }
 
@@ -216,7 +226,9 @@ void check_plain_numbers(void)
     memset(faults, 0, sizeof faults);
     memset(labels, 0, sizeof labels);
     for (unsigned k = 0; k < COUNT(more); k++) {
-        expect(label_at_4(4 + more[k]) == REFUSED(1), "label");
+        expect(label_at_4(4 + more[k], 3) == REFUSED(1), "label");
+        expect(label_at_4(4, 2 + more[k]) == REFUSED(18), "rule 2");
+        expect(label_at_4(4, 3 + more[k]) == REFUSED(18), "rule 3");
         expect(hop_at_4(4 + more[k], 0, 1) == REFUSED(1), "hop");
         expect(walk_at_4(4 + more[k], 0, 1) == REFUSED(1), "walk");
         expect(hop_at_4(4, more[k], 1) == REFUSED(5), "c");

@@ -14,11 +14,13 @@
 
 static uint8_t faults[MOST_FAULT_BYTES], labels[MOST_NODES];
 
-/* Labels the fault table at hand into a buffer that holds anything. */
-static uint32_t label_table(uint32_t n)
+/* Labels the fault table at hand by the rule into a buffer that holds anything. */
+static uint32_t label_table(uint32_t n, uint32_t rule)
 {
+    struct label_question asked = fit_label(n, faults, labels);
     random_bytes(labels, (size_t)1 << n);
-    return check_label(fit_label(n, faults, labels));
+    asked.rule = rule;
+    return check_label(asked);
 }
 
 static void hop_and_walk(uint32_t n, uint32_t s, uint32_t d)
@@ -54,11 +56,11 @@ static int put_labels(uint32_t n, unsigned number)
  * since an unused bit is set; every label table up to n = 2 with every pair. */
 void check_small_cubes(void)
 {
-    begin_group("all fault tables to n = 3, all pairs");
+    begin_group("all fault tables to n = 3, both rules, all pairs");
     for (uint32_t n = 1; n <= 3; n++)
-        for (unsigned table = 0; table < 256; table++) {
-            faults[0] = (uint8_t)table;
-            if (HCUBE_REFUSAL(label_table(n)) == 0)
+        for (unsigned table = 0; table < 512; table++) {
+            faults[0] = (uint8_t)(table / 2);
+            if (HCUBE_REFUSAL(label_table(n, 2 + table % 2)) == 0)
                 all_pairs(n);
         }
     end_group();
@@ -71,10 +73,12 @@ void check_small_cubes(void)
 
 /* The most exchanges there are, for n = 1 to 5, and a table that takes them
  * (found by tests/most_exchanges.c); for n = 6 to 8 the most known. */
-static const struct {
+struct most {
     uint32_t exchanges;
     uint8_t table[32];
-} most[9] = {
+};
+
+static const struct most most_by_3[9] = {
     {0, {0}},
     {1, {0x00}},
     {2, {0x06}},
@@ -90,31 +94,54 @@ static const struct {
           0x00, 0x00, 0x00, 0x40, 0x18, 0x00, 0x00, 0x00}},
 };
 
-static uint32_t most_of_all_tables(uint32_t n)
+static const struct most most_by_2[9] = {
+    {0, {0}},
+    {1, {0x00}},
+    {2, {0x06}},
+    {4, {0x19}},
+    {6, {0x18, 0x01}},
+    {9, {0x04, 0x10, 0x22, 0x02}},
+    {13, {0x04, 0x00, 0x20, 0x00, 0x02, 0x00, 0x20, 0x40}},
+    {17, {0x00, 0x00, 0x10, 0x00, 0x00, 0x02, 0x00, 0x00,
+          0x80, 0x00, 0x01, 0x00, 0x00, 0x00, 0x00, 0x10}},
+    {22, {0x20, 0x00, 0x80, 0x00, 0x00, 0x00, 0x10, 0x00,
+          0x00, 0x00, 0x00, 0x00, 0x40, 0x00, 0x00, 0x00,
+          0x00, 0x00, 0x00, 0x00, 0x00, 0x04, 0x00, 0x00,
+          0x00, 0x00, 0x00, 0x20, 0x00, 0x00, 0x00, 0x00}},
+};
+
+static uint32_t most_of_all_tables(uint32_t n, uint32_t rule)
 {
     uint32_t found = 0;
     for (uint32_t table = 0; table < 1u << (1u << n); table++) {
         uint32_t exchanges;
         faults[0] = (uint8_t)table;
         faults[1] = (uint8_t)(table >> 8);
-        exchanges = label_table(n);
+        exchanges = label_table(n, rule);
         if (exchanges > found)
             found = exchanges;
     }
     return found;
 }
 
-void check_most_exchanges(void)
+static void most_exchanges_by(uint32_t rule, const struct most *most)
 {
-    begin_group("most exchanges, all fault tables of n = 4");
     for (uint32_t n = 1; n <= 8; n++) {
         memcpy(faults, most[n].table, sizeof most[n].table);
-        expect(label_table(n) == most[n].exchanges, "n = %u: not %u exchanges",
-               n, most[n].exchanges);
+        expect(label_table(n, rule) == most[n].exchanges,
+               "n = %u by %u: not %u exchanges", n, rule, most[n].exchanges);
         if (n <= 4)
-            expect(most_of_all_tables(n) == most[n].exchanges,
-                   "n = %u: %u is not the most", n, most[n].exchanges);
+            expect(most_of_all_tables(n, rule) == most[n].exchanges,
+                   "n = %u by %u: %u is not the most", n, rule,
+                   most[n].exchanges);
     }
+}
+
+void check_most_exchanges(void)
+{
+    begin_group("most exchanges, all fault tables of n = 4, both rules");
+    most_exchanges_by(2, most_by_2);
+    most_exchanges_by(3, most_by_3);
     end_group();
 }
 
@@ -122,22 +149,71 @@ void check_most_exchanges(void)
 void check_one_exchange(void)
 {
     begin_group("one exchange: no faults, and all nodes faulty");
-    for (uint32_t n = 1; n <= 12; n++) {
+    for (unsigned k = 0; k < 24; k++) {
+        uint32_t n = 1 + k % 12, rule = 2 + k / 12;
         memset(faults, 0, sizeof faults);
-        expect(label_table(n) == 1, "n = %u, no faults: not 1 exchange", n);
+        expect(label_table(n, rule) == 1, "n = %u, no faults: not 1 exchange", n);
         memset(faults, n < 3 ? (1 << (1 << n)) - 1 : 255, sizeof faults);
-        expect(label_table(n) == 1, "n = %u, all faulty: not 1 exchange", n);
+        expect(label_table(n, rule) == 1, "n = %u, all faulty: not 1 exchange",
+               n);
+    }
+    end_group();
+}
+
+/* Walks with labels of rule 2 that have a safe node. */
+static void two_more(uint32_t n, uint32_t s, uint32_t d, const uint8_t *old)
+{
+    uint8_t row[ROW_BYTES] = {0};
+    uint32_t answer = check_walk(fit_walk(n, s, d, old, row)), distance = 0;
+    for (uint32_t i = 0; i < n; i++)
+        distance += (s ^ d) >> i & 1;
+    if (HCUBE_REFUSAL(answer))
+        expect(old[s] == HCUBE_FAULTY || old[d] == HCUBE_FAULTY,
+               "n = %u: walk %u to %u is refused", n, s, d);
+    else
+        expect(answer <= distance + 2, "n = %u: walk %u to %u takes %08x", n, s,
+               d, answer);
+}
+
+/* From rule 2 to rule 3 no label grows; by rule 2, where some node is safe none is
+ * strongly unsafe, and no walk is longer than the distance and two. */
+static void moved(uint32_t n)
+{
+    static uint8_t old[MOST_NODES];
+    unsigned grown = 0, safe = 0, strong = 0;
+    label_table(n, 2);
+    memcpy(old, labels, (size_t)1 << n);
+    label_table(n, 3);
+    for (uint32_t k = 0; k < 1u << n; k++) {
+        grown += labels[k] > old[k];
+        safe += old[k] == HCUBE_SAFE;
+        strong += old[k] == HCUBE_STRONG;
+    }
+    expect(grown == 0, "n = %u: %u labels grow", n, grown);
+    expect(safe == 0 || strong == 0, "n = %u: %u safe, %u strongly unsafe", n,
+           safe, strong);
+    for (unsigned k = 0; safe && k < 8; k++)
+        two_more(n, random_below(1u << n), random_below(1u << n), old);
+}
+
+void check_moved(void)
+{
+    begin_group("3,600 tables labelled by rule 2 and by rule 3");
+    for (unsigned k = 0; k < 3600; k++) {
+        uint32_t n = 1 + k % 12;
+        random_faults(n, random_density(n) / (1 + k / 12 % 3), faults);
+        moved(n);
     }
     end_group();
 }
 
 void check_random_tables(void)
 {
-    begin_group("24,000 random fault tables to n = 12");
+    begin_group("24,000 random fault tables to n = 12, by rules 2 and 3");
     for (unsigned k = 0; k < RANDOM_TABLES; k++) {
         uint32_t n = 1 + k % 12;
         random_faults(n, random_density(n), faults);
-        label_table(n);
+        label_table(n, 2 + k / 12 % 2);
         some_pairs(n, 8);
     }
     end_group();
@@ -191,12 +267,15 @@ void check_label_buffer(void)
     begin_group("labels whatever the buffer held");
     for (unsigned k = 0; k < 600; k++) {
         uint32_t n = 1 + k % 12, answer;
+        struct label_question asked = fit_label(n, faults, first);
+        asked.rule = 2 + k / 12 % 2;
         random_faults(n, random_density(n), faults);
         memset(first, 0, sizeof first);
-        answer = check_label(fit_label(n, faults, first));
+        answer = check_label(asked);
+        asked.labels = labels;
         for (unsigned fill = 1; fill <= 6; fill++) {
             memset(labels, fill < 6 ? (int)fill : 255, sizeof labels);
-            expect(check_label(fit_label(n, faults, labels)) == answer,
+            expect(check_label(asked) == answer,
                    "n = %u: another answer over %u", n, fill);
             expect(!memcmp(labels, first, (size_t)1 << n),
                    "n = %u: other labels over %u", n, fill);

@@ -1,7 +1,7 @@
 /*
  * worked.c: the numbers that document 01 gives ("Numbers on both sides"), with
- * the exchanges of document 02's request A3 for its rounds, each as a literal,
- * asked of the library.
+ * the exchanges of document 02's request A3 for its rounds, and numbers of our
+ * own for its older rule (A13), each as a literal, asked of the library.
  */
 #include <string.h>
 
@@ -14,17 +14,23 @@
 static uint8_t labels[64];
 static uint32_t n;
 
-/* Labels a table of one or two bytes and expects so many exchanges. */
-static void label(uint32_t dimension, unsigned faults, uint32_t exchanges)
+/* Labels a table of one or two bytes by the rule and expects so many exchanges. */
+static void label_by(uint32_t rule, uint32_t dimension, unsigned faults,
+                     uint32_t exchanges)
 {
-    uint8_t table[2];
+    uint8_t table[2] = {(uint8_t)faults, (uint8_t)(faults >> 8)};
+    struct label_question asked = fit_label(dimension, table, labels);
     uint32_t answer;
     n = dimension;
-    table[0] = (uint8_t)faults;
-    table[1] = (uint8_t)(faults >> 8);
+    asked.rule = rule;
     memset(labels, 0xee, sizeof labels);
-    answer = check_label(fit_label(n, table, labels));
+    answer = check_label(asked);
     expect(answer == exchanges, "labels of %04x: answer %08x", faults, answer);
+}
+
+static void label(uint32_t dimension, unsigned faults, uint32_t exchanges)
+{
+    label_by(HCUBE_RULE_CHIU_WU, dimension, faults, exchanges);
 }
 
 static void labels_are(const char *digits)
@@ -83,6 +89,23 @@ static void no_node_safe(void)
     hop(0, 7, 0x20000);
 }
 
+/* By the rule of Lee and Hayes: figure 1 has no safe node; faulty 0, 3, 4 leave
+ * none in n = 3, where rule 3 does, and some in n = 4. */
+static void older_rule(void)
+{
+    label_by(2, 4, 0x8114, 5);
+    labels_are("2232322232222223");
+    walk(13, 0, HALTED(1), "dc");
+    label_by(2, 3, 0x19, 4);
+    labels_are("32233222");
+    label(3, 0x19, 2);
+    labels_are("31133000");
+    label_by(2, 4, 0x19, 4);
+    labels_are("3113311100000000");
+    label(4, 0x19, 2);
+    labels_are("3113300000000000");
+}
+
 static void small_cubes(void)
 {
     label(1, 0x01, 1);
@@ -139,6 +162,7 @@ void check_worked_numbers(void)
     begin_group("worked numbers");
     figure_1();
     no_node_safe();
+    older_rule();
     small_cubes();
     swinging();
     none_and_all();

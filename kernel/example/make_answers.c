@@ -11,17 +11,19 @@ enum { NODES = 64, UNTOUCHED = 0xaa };
 
 struct cube {
 	const char *name;
-	uint32_t n;
+	uint32_t n, rule;
 	int count; /* of faulty nodes; below 0: the label bytes are given */
 	uint8_t given[NODES / 4];
 };
 
 static const struct cube cubes[] = {
-	{ "k4", 4, 4, { 2, 4, 8, 15 } },
-	{ "six", 6, 7, { 0, 13, 23, 38, 47, 48, 58 } }, /* every kind of node, and 18 exchanges */
-	{ "no_safe_node", 3, 3, { 1, 2, 4 } },
-	{ "swinging", 3, -1, { 0, 3, 3, 0, 0, 3, 3, 0 } },
-	{ "bad_byte", 3, -1, { 0, 0, 0, 3, 0, 9, 1, 2 } },
+	{ "k4", 4, 3, 4, { 2, 4, 8, 15 } },
+	{ "k4_older_rule", 4, 2, 4, { 2, 4, 8, 15 } },
+	{ "six", 6, 3, 7, { 0, 13, 23, 38, 47, 48, 58 } }, /* every kind of node, and 18 exchanges */
+	{ "six_older_rule", 6, 2, 4, { 4, 25, 44, 48 } }, /* half of the nodes safe, and 9 exchanges */
+	{ "no_safe_node", 3, 3, 3, { 1, 2, 4 } },
+	{ "swinging", 3, 3, -1, { 0, 3, 3, 0, 0, 3, 3, 0 } },
+	{ "bad_byte", 3, 3, -1, { 0, 0, 0, 3, 0, 9, 1, 2 } },
 };
 
 enum { CUBES = sizeof cubes / sizeof cubes[0] };
@@ -55,7 +57,7 @@ static uint32_t print_labels(const struct cube *cube, uint8_t *labels)
 	if (cube->count >= 0) {
 		for (k = 0; k < cube->count; k++)
 			faults[cube->given[k] / 8] |= 1 << cube->given[k] % 8;
-		answer = ref_label(cube->n, faults, faults_len, labels, size);
+		answer = ref_label(cube->n, cube->rule, faults, faults_len, labels, size);
 	}
 	print_table(cube->name, "faults", faults, faults_len);
 	print_table(cube->name, "labels", labels, size);
@@ -93,8 +95,8 @@ int main(void)
 	}
 	printf("static const struct hcube_cube hcube_cubes[] = {\n");
 	for (k = 0; k < CUBES; k++)
-		printf("{\"%s\", %u, %d, %u, %s_faults, sizeof(%s_faults), %s_labels, %s_answers},\n", cubes[k].name,
-		       cubes[k].n, cubes[k].count >= 0, answers[k], cubes[k].name, cubes[k].name, cubes[k].name,
+		printf("{\"%s\", %u, %u, %d, %u, %s_faults, sizeof(%s_faults), %s_labels, %s_answers},\n", cubes[k].name,
+		       cubes[k].n, cubes[k].rule, cubes[k].count >= 0, answers[k], cubes[k].name, cubes[k].name, cubes[k].name,
 		       cubes[k].name);
 	printf("};\n");
 	return 0;

@@ -44,6 +44,6 @@ bool hcube_labels_are_right(const struct hcube_cube *cube, uint8_t *labels)
 		return true;
 	}
 	memset(labels, HCUBE_UNTOUCHED, nodes);
-	return hcube_label(cube->n, cube->faults, cube->faults_len, labels, nodes) == cube->label &&
+	return hcube_label(cube->n, cube->rule, cube->faults, cube->faults_len, labels, nodes) == cube->label &&
 	       memcmp(labels, cube->labels, nodes) == 0;
 }

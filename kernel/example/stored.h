@@ -19,6 +19,7 @@ struct hcube_answer {
 struct hcube_cube {
 	const char *name;
 	uint32_t n;
+	uint32_t rule;
 	bool has_faults; /* else its labels are given, and there is nothing to label */
 	uint32_t label;
 	const uint8_t *faults;
