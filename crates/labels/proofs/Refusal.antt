@@ -14,7 +14,7 @@ use Rattle.cube.specs.Tables.{isDimension, tableLen, unusedSet}
 use Rattle.cube.proofs.Bools.{by-cases, either}
 use Rattle.cube.proofs.Refusal.{first-le, first-none}
 use Rattle.cube.proofs.Tables.{dimension-is}
-use Rattle.rule.specs.Cabinet.{Cabinet, exchangesOf, isRule, labelsOf}
+use Rattle.rule.specs.Cabinet.{Cabinet, exchangesOf, labelsOf}
 use Rattle.rule.proofs.Cabinet.{is-rule, rule-is}
 use Rattle.labels.specs.Labelling.{labelRefusal, labelTests, labelled, labelsAfter}
 use Rattle.labels.specs.declared.Labelled.the-variants.{Exchanges, Refused}

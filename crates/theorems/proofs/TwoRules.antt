@@ -1,7 +1,6 @@
 -- The two rules, of the bytes that labelling writes: what the crate rule proves of the safe nodes and the labels is read off them.
 use mathlib.Core.Logic.{inr, ⊎-elim}
 use mathlib.Core.Bool.{true, false}
-use mathlib.Core.List.{List}
 use mathlib.Core.Path.{_≡_}
 use Prim.Native.Nat.{ℕ, _+_, _^_, _≤_, _<_}
 use native.Mathlib.Omega.{arith}

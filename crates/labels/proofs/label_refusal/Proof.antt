@@ -1,15 +1,15 @@
 -- `label_refusal` tests in the order of `labelRefusal`.
-use mathlib.Core.Path.{_≡_, sym, _∙_}
-use mathlib.Core.Bool.{true}
+use mathlib.Core.Path.{_≡_, sym, ap, _∙_}
+use mathlib.Core.Bool.{true, cond}
 use Prim.Native.Nat.{_^_}
 use native.Mathlib.Omega.{arith}
 use lib.ListN.{length}
 use borrow.Author.Needs.{needs}
 use borrow.Author.Tests.{eq-eqb, ne-eqb, not-true, not-false}
-use Rattle.cube.specs.Tables.{isDimension, tableLen}
+use Rattle.cube.specs.Tables.{isDimension, tableLen, unusedSet}
 use Rattle.cube.proofs.Tables.{dimension-is}
 use Rattle.cube.specs.Refusal.{first}
-use Rattle.rule.specs.Cabinet.{isRule}
+use Rattle.rule.specs.Cabinet.{cabinet, isRule}
 use Rattle.labels.specs.Labelling.{labelRefusal}
 use Rattle.labels.proofs.label_refusal.Statement.{statement}
 use Rattle.labels.proofs.label_refusal.Tie as tie
@@ -68,33 +68,20 @@ returns-4 c =
 unused-set-requires : tie.Need-unused-set-requires
 unused-set-requires c κs = search needs
 
-returns-5 : tie.Need-returns-5
+-- where these have all passed, the last test decides
+last-test : (c : tie.Else4) → let a = c .before .before .before .before .before .before .before .before .before .args in
+    labelRefusal (cabinet (a .n) (a .rule) (a .faults .now)) (a .m) ≡ cond (unusedSet (a .n) (a .faults .now)) 3 0
 unfolding labelRefusal first
-returns-5 c =
-    let s = c .before .before in
-    let f = s .before .before in
+last-test c =
+    let f = c .before .before in
     let r = f .before .before in
-    rw (
-      dimension (r .before .before),
-      a-rule r,
-      eq-eqb _ _ (fault-length f),
-      eq-eqb _ _ (label-length s),
-      sym (c .before .unused-set .ensures) ∙ c .if5 .taken,
-    )
+    rw (dimension (r .before .before), a-rule r, eq-eqb _ _ (fault-length f), eq-eqb _ _ (label-length c))
+
+returns-5 : tie.Need-returns-5
+returns-5 c = sym (last-test (c .before .before) ∙ ap (λ b. cond b 3 0) (sym (c .before .unused-set .ensures) ∙ c .if5 .taken))
 
 returns-6 : tie.Need-returns-6
-unfolding labelRefusal first
-returns-6 c =
-    let s = c .before .before in
-    let f = s .before .before in
-    let r = f .before .before in
-    rw (
-      dimension (r .before .before),
-      a-rule r,
-      eq-eqb _ _ (fault-length f),
-      eq-eqb _ _ (label-length s),
-      sym (c .before .unused-set .ensures) ∙ c .if5 .left,
-    )
+returns-6 c = sym (last-test (c .before .before) ∙ ap (λ b. cond b 3 0) (sym (c .before .unused-set .ensures) ∙ c .if5 .left))
 
 pub label-refusal-spec : {M : Type 1} → statement M
 label-refusal-spec =
