@@ -199,14 +199,14 @@ static void result(const char *what, unsigned cases)
     failed |= *wrong != 0;
 }
 
-/* By each rule three tables of each density, or one where the cube is large. */
+/* Three tables of each density, or one where the cube is large; the rules in turn. */
 static void check_labelling(void)
 {
-    unsigned cases = 0, tables = n <= 8 ? 6 : 2;
+    unsigned cases = 0, tables = n <= 8 ? 3 : 1;
     *wrong = 0;
     for (unsigned k = 0; k < tables * COUNT(densities) && !*wrong; k++) {
         random_faults(n, densities[k % COUNT(densities)], faults);
-        rule = 2 + k / COUNT(densities) % 2;
+        rule = 2 + (k + n) % 2;
         expect_labelling();
         cases++;
     }
