@@ -98,9 +98,9 @@ extern "C" {
  * all cards of a cabinet are labelled by one rule.
  *
  * From HCUBE_RULE_LEE_HAYES to HCUBE_RULE_CHIU_WU a node that is safe stays
- * safe, and no label grows. With HCUBE_RULE_LEE_HAYES, where some node is safe no
- * working node is strongly unsafe, and no walk is longer than the distance and
- * two hops.
+ * safe, no label grows, and a walk that was delivered still is. With
+ * HCUBE_RULE_LEE_HAYES, where some node is safe no working node is strongly
+ * unsafe, and no walk is longer than the distance and two hops.
  *
  * Refusals, in order:
  *   1   n is not 1 to 12

@@ -71,8 +71,8 @@ void check_small_cubes(void)
     end_group();
 }
 
-/* The most exchanges there are, for n = 1 to 5, and a table that takes them
- * (found by tests/most_exchanges.c); for n = 6 to 8 the most known. */
+/* Exchanges, and a table that takes them (found by tests/most_exchanges.c): for
+ * n = 1 to 5 the most there are, by each rule; for n = 6 to 8 the most known. */
 struct most {
     uint32_t exchanges;
     uint8_t table[32];
@@ -160,23 +160,32 @@ void check_one_exchange(void)
     end_group();
 }
 
-/* Walks with labels of rule 2 that have a safe node. */
-static void two_more(uint32_t n, uint32_t s, uint32_t d, const uint8_t *old)
+static uint32_t walk_by(uint32_t n, uint32_t s, uint32_t d, const uint8_t *by)
 {
-    uint8_t row[ROW_BYTES] = {0};
-    uint32_t answer = check_walk(fit_walk(n, s, d, old, row)), distance = 0;
+    uint8_t row[ROW_BYTES];
+    random_bytes(row, sizeof row);
+    return check_walk(fit_walk(n, s, d, by, row));
+}
+
+/* A walk that the old labels delivered is delivered by the new; where the old ones
+ * have a safe node they deliver it, in the distance and two hops at most. */
+static void two_walks(uint32_t n, uint32_t s, uint32_t d, const uint8_t *old,
+                      int some_safe)
+{
+    uint32_t before = walk_by(n, s, d, old), after = walk_by(n, s, d, labels);
+    uint32_t distance = 0;
     for (uint32_t i = 0; i < n; i++)
         distance += (s ^ d) >> i & 1;
-    if (HCUBE_REFUSAL(answer))
-        expect(old[s] == HCUBE_FAULTY || old[d] == HCUBE_FAULTY,
-               "n = %u: walk %u to %u is refused", n, s, d);
-    else
-        expect(answer <= distance + 2, "n = %u: walk %u to %u takes %08x", n, s,
-               d, answer);
+    if (old[s] == HCUBE_FAULTY || old[d] == HCUBE_FAULTY)
+        return;
+    expect(before >> 16 || !(after >> 16), "n = %u: walk %u to %u is lost", n, s,
+           d);
+    expect(!some_safe || before <= distance + 2,
+           "n = %u: walk %u to %u takes %08x", n, s, d, before);
 }
 
 /* From rule 2 to rule 3 no label grows; by rule 2, where some node is safe none is
- * strongly unsafe, and no walk is longer than the distance and two. */
+ * strongly unsafe. */
 static void moved(uint32_t n)
 {
     static uint8_t old[MOST_NODES];
@@ -192,8 +201,9 @@ static void moved(uint32_t n)
     expect(grown == 0, "n = %u: %u labels grow", n, grown);
     expect(safe == 0 || strong == 0, "n = %u: %u safe, %u strongly unsafe", n,
            safe, strong);
-    for (unsigned k = 0; safe && k < 8; k++)
-        two_more(n, random_below(1u << n), random_below(1u << n), old);
+    for (unsigned k = 0; k < 8; k++)
+        two_walks(n, random_below(1u << n), random_below(1u << n), old,
+                  safe != 0);
 }
 
 void check_moved(void)

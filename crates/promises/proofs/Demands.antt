@@ -29,7 +29,7 @@ use Rattle.theorems.specs.Demand3.{Walks}
 use Rattle.theorems.specs.Picked.{Picked}
 use Rattle.theorems.specs.Repeats.{Repeats}
 use Rattle.theorems.specs.TwoRules.{NoneStrong, OnlyBetter, more}
-use Rattle.theorems.specs.Words.{Accepted, SomeSafe, Works, labelAt, place}
+use Rattle.theorems.specs.Words.{Accepted, SomeSafe, Works, labelAt, place, walkOf}
 use Rattle.theorems.proofs.Decision.{picked}
 use Rattle.theorems.proofs.Demand2.{demand2}
 use Rattle.theorems.proofs.Demand3.{demand3}
@@ -80,14 +80,18 @@ module _ (lib : Library) (F : Faithful lib) where
             ∙ answered (cabinet n rule faults) (length before) (fits (cabinet n rule faults) (length before) d (rule-bounds k) (t .sized) (t .unused) long),
       )
 
+  -- a walk with the labels that labelling left is the cabinet's
+  is-walk : {K : Cabinet} {before table : List ℕ} {exchanges s d : ℕ} {w : Walked} → lib .labels K before (labelled.Exchanges exchanges) table
+      → lib .walks (K .n) s d table W.rowBytes w → w ≡ walkOf K s d
+  is-walk {K} {before} {table} {exchanges} {s} {d} m v =
+      F .walks v ∙ ap (λ (t : List ℕ). W.walked (K .n) s d (length t) W.rowBytes (labelIn t)) (sym (left m .bytes))
+
   walks :
       {K : Cabinet} {before table : List ℕ} {exchanges s d : ℕ} {w : Walked} → lib .labels K before (labelled.Exchanges exchanges) table → Works K s → Works K d
       → lib .walks (K .n) s d table W.rowBytes w → Walks K (labelIn table) s d w
   walks {K} {before} {table} {exchanges} {s} {d} {w} m hs hd v =
-      let l = left m in
-      subst (Walks K (labelIn table) s d) (sym (F .walks v))
-      (subst (λ (t : List ℕ). Walks K (labelIn t) s d (W.walked (K .n) s d (length t) W.rowBytes (labelIn t))) (l .bytes)
-      (demand3 K (l .accepted) s d hs hd))
+      subst (Walks K (labelIn table) s d) (sym (is-walk m v))
+      (subst (λ (t : List ℕ). Walks K (labelIn t) s d (walkOf K s d)) (left m .bytes) (demand3 K (left m .accepted) s d hs hd))
 
   -- ---- the two rules
 
@@ -107,6 +111,15 @@ module _ (lib : Library) (F : Faithful lib) where
         W .arrives still .ending,
         omega (arith, two-rules .bound (cabinet n 3 faults) (labelIn new) s d w W still, m .bound-falls s d (hs .0) (hd .0)),
       )
+
+  still-arrives : {n e e′ s d : ℕ} {faults before before′ old new : List ℕ} {v w : Walked} → lib .labels (cabinet n 2 faults) before (labelled.Exchanges e) old
+      → lib .labels (cabinet n 3 faults) before′ (labelled.Exchanges e′) new → Works (cabinet n 3 faults) s → Works (cabinet n 3 faults) d
+      → lib .walks n s d old W.rowBytes v → lib .walks n s d new W.rowBytes w → v .ending ≡ ending.Delivered → w .ending ≡ ending.Delivered
+  still-arrives {n} {e} {e′} {s} {d} {faults} {before} {before′} {old} {new} {v} {w} a b hs hd p q f =
+      let was = is-walk a p in
+      let is = is-walk b q in
+      ap (λ (u : Walked). u .ending) is
+      ∙ two-rules .still-delivered n faults (left b .accepted) s d hs hd (ap (λ (u : Walked). u .ending) (sym was) ∙ f)
 
   none-strong : {n e : ℕ} {faults before table : List ℕ} → lib .labels (cabinet n 2 faults) before (labelled.Exchanges e) table
       → NoneStrong (cabinet n 2 faults) (labelIn table)
@@ -181,6 +194,7 @@ module _ (lib : Library) (F : Faithful lib) where
         walk-enters = λ {n} {s} {d} {room} {k} v e h. again v e .enters k h;
         moved = moved;
         moved-walks = moved-walks;
+        still-arrives = still-arrives;
         none-strong = none-strong;
         two-more = two-more;
       }

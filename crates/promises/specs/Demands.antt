@@ -112,6 +112,11 @@ pub record Demands (lib : Library) : Type 0 where
       → lib .labels (cabinet n 3 faults) before′ (labelled.Exchanges e′) new → SomeSafe n (labelIn old)
       → Works (cabinet n 3 faults) s → Works (cabinet n 3 faults) d → lib .walks n s d new W.rowBytes w
       → (w .ending ≡ ending.Delivered) × (w .hops ≤ dist s d + more (labelIn old) s d)
+  -- anywhere, a frame that arrived with the old labels arrives with the new
+  pub still-arrives :
+      {n e e′ s d : ℕ} {faults before before′ old new : List ℕ} {v w : Walked} → lib .labels (cabinet n 2 faults) before (labelled.Exchanges e) old
+      → lib .labels (cabinet n 3 faults) before′ (labelled.Exchanges e′) new → Works (cabinet n 3 faults) s → Works (cabinet n 3 faults) d
+      → lib .walks n s d old W.rowBytes v → lib .walks n s d new W.rowBytes w → v .ending ≡ ending.Delivered → w .ending ≡ ending.Delivered
   -- with rule 2, where some node is safe no working node is strongly unsafe,
   pub none-strong :
       {n e : ℕ} {faults before table : List ℕ} → lib .labels (cabinet n 2 faults) before (labelled.Exchanges e) table

@@ -1,23 +1,30 @@
--- The two rules, of the bytes that labelling writes: what the crate rule proves of the safe nodes and the labels is read off them.
-use mathlib.Core.Logic.{inr, ⊎-elim}
+-- The two rules, of the bytes that labelling writes: what the crate rule proves of the safe nodes and the labels is read off them. Where rule 3 leaves no
+-- node safe, rule 2 leaves none either, and both label every working node strongly unsafe: there the walks are the same.
+use mathlib.Core.Logic.{_⊎_, inl, inr, ⊎-elim}
 use mathlib.Core.Bool.{true, false}
-use mathlib.Core.Path.{_≡_}
+use mathlib.Core.List.{List}
+use mathlib.Core.Path.{_≡_, sym, ap, _∙_}
 use Prim.Native.Nat.{ℕ, _+_, _^_, _≤_, _<_}
 use native.Mathlib.Omega.{arith}
 use lib.Dec.{eqb}
 use borrow.Author.Tests.{eqb-false, eqb-true}
-use Rattle.cube.specs.Cube.{dist}
+use Rattle.cube.specs.Cube.{dist, flip}
 use Rattle.cube.specs.Tables.{nodeBit}
 use Rattle.cube.proofs.Bools.{either, is-false}
-use Rattle.rule.specs.Cabinet.{Cabinet, cabinet}
-use Rattle.rule.proofs.Cabinet.{label-in}
+use Rattle.cube.proofs.Cube.{flip-lt}
+use Rattle.cube.proofs.Search.{find}
+use Rattle.rule.specs.Cabinet.{Cabinet, cabinet, out}
+use Rattle.rule.proofs.Cabinet.{label-in, labels-length}
 use Rattle.rule.proofs.Rules.{rules}
-use Rattle.walk.specs.declared.Ending.the-variants as ending
+use Rattle.walk.specs.Walk.{rowBytes, walked}
+use Rattle.walk.specs.declared.Ending.the-variants.{Delivered}
 use Rattle.walk.specs.declared.Walked.{Walked}
+use Rattle.walk.proofs.Local.{walk-local}
 use Rattle.theorems.specs.Demand3.{Walks}
 use Rattle.theorems.specs.TwoRules.{OnlyBetter, TwoRules, more}
-use Rattle.theorems.specs.Words.{SomeSafe, labelAt}
-use Rattle.theorems.proofs.Demand2.{zero-is}
+use Rattle.theorems.specs.Words.{Accepted, SomeSafe, Works, labelAt, walkOf}
+use Rattle.theorems.proofs.Demand2.{demand2, faulty, works, zero-is}
+use Rattle.theorems.proofs.Demand3.{demand3}
 
 -- a label is never negative, so where none is larger a safe node stays safe and no bound grows
 better : (n : ℕ) (old new : ℕ → ℕ) → ((x : ℕ) → x < 2 ^ n → new x ≤ old x) → OnlyBetter n old new
@@ -40,16 +47,47 @@ within K lab s d w W some =
     (λ (a : eqb (lab d) 0 ≡ false). let e = W .even (W .arrives some .ending) in rw a (omega (arith, e .1, e .2)))
     (either (eqb (lab d) 0))
 
+module _ (n : ℕ) (faults : List ℕ) where
+  abbrev old : Cabinet
+  old = cabinet n 2 faults
+
+  abbrev new : Cabinet
+  new = cabinet n 3 faults
+
+  falls : (x : ℕ) → x < 2 ^ n → labelAt new x ≤ labelAt old x
+  falls x h = omega (arith, label-in old x h, label-in new x h, rules n (nodeBit faults) .label-falls 2 3 (omega arith) (λ _. 3) x h)
+
+  module _ (none : (x : ℕ) → x < 2 ^ n → eqb (labelAt new x) 0 ≡ false) where
+    same-labels : (x : ℕ) → x < 2 ^ n → labelAt old x ≡ labelAt new x
+    same-labels x h = go (either (out new x))
+      where
+        not-one : ¬ (labelAt new x ≡ 1)
+        not-one e =
+            let r = demand2 new .ordinary x h e in
+            eqb-false (labelAt new (flip (r .0) x)) 0 (none (flip (r .0) x) (flip-lt n (r .0) x (r .1) h)) (r .2)
+
+        go : (out new x ≡ true) ⊎ (out new x ≡ false) → labelAt old x ≡ labelAt new x
+        go (inl a) = faulty old x h a ∙ sym (faulty new x h a)
+        go (inr a) = omega (arith, eqb-false (labelAt new x) 0 (none x h), not-one, works old x h a, falls x h)
+
+    same-walk : (s d : ℕ) → walkOf old s d ≡ walkOf new s d
+    same-walk s d =
+        ap (λ (m : ℕ). walked n s d m rowBytes (labelAt old)) (labels-length old ∙ sym (labels-length new))
+        ∙ walk-local n s d _ rowBytes (labelAt old) (labelAt new) same-labels
+
+  still-delivered : Accepted new → (s d : ℕ) → Works new s → Works new d → walkOf old s d .ending ≡ Delivered → walkOf new s d .ending ≡ Delivered
+  still-delivered ok s d hs hd e = go (find (2 ^ n) (λ x. eqb (labelAt new x) 0))
+    where
+      go : ((x : ℕ) × (x < 2 ^ n) × (eqb (labelAt new x) 0 ≡ true)) ⊎ ((x : ℕ) → x < 2 ^ n → eqb (labelAt new x) 0 ≡ false)
+          → walkOf new s d .ending ≡ Delivered
+      go (inl r) = demand3 new ok s d hs hd .arrives (r .0, r .1, eqb-true (labelAt new (r .0)) 0 (r .2)) .ending
+      go (inr none) = ap (λ (w : Walked). w .ending) (sym (same-walk none s d)) ∙ e
+
 pub two-rules : TwoRules
 two-rules =
     record {
-      better = λ n faults. better n (labelAt (cabinet n 2 faults)) (labelAt (cabinet n 3 faults))
-          (λ x h. omega (
-            arith,
-            label-in (cabinet n 2 faults) x h,
-            label-in (cabinet n 3 faults) x h,
-            rules n (nodeBit faults) .label-falls 2 3 (omega arith) (λ _. 3) x h,
-          ));
+      better = λ n faults. better n (labelAt (cabinet n 2 faults)) (labelAt (cabinet n 3 faults)) (falls n faults);
+      still-delivered = λ n faults ok s d hs hd e. still-delivered n faults ok s d hs hd e;
       none-strong = λ n faults some x w. omega (
         arith,
         label-in (cabinet n 2 faults) x (w .0),

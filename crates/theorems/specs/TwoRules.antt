@@ -7,9 +7,10 @@ use Prim.Native.Nat.{ℕ, _+_, _*_, _^_, _≤_, _<_}
 use lib.Dec.{eqb}
 use Rattle.cube.specs.Cube.{dist}
 use Rattle.rule.specs.Cabinet.{Cabinet, cabinet}
+use Rattle.walk.specs.declared.Ending.the-variants.{Delivered}
 use Rattle.walk.specs.declared.Walked.{Walked}
 use Rattle.theorems.specs.Demand3.{Walks}
-use Rattle.theorems.specs.Words.{SomeSafe, Works, labelAt}
+use Rattle.theorems.specs.Words.{Accepted, SomeSafe, Works, labelAt, walkOf}
 
 -- how many hops more than the distance demand 3 allows a walk from s to d where some node is safe: none to or from a safe node, otherwise two from an
 -- ordinarily unsafe source and four from a strongly unsafe one
@@ -31,6 +32,10 @@ NoneStrong K lab = SomeSafe (K .n) lab → (x : ℕ) → Works K x → lab x ≤
 
 pub record TwoRules : Type 0 where
   pub better : (n : ℕ) (faults : List ℕ) → OnlyBetter n (labelAt (cabinet n 2 faults)) (labelAt (cabinet n 3 faults))
+  -- no frame is lost by it: a walk that was delivered still is
+  pub still-delivered :
+      (n : ℕ) (faults : List ℕ) → Accepted (cabinet n 3 faults) → (s d : ℕ) → Works (cabinet n 3 faults) s → Works (cabinet n 3 faults) d
+      → walkOf (cabinet n 2 faults) s d .ending ≡ Delivered → walkOf (cabinet n 3 faults) s d .ending ≡ Delivered
   pub none-strong : (n : ℕ) (faults : List ℕ) → NoneStrong (cabinet n 2 faults) (labelAt (cabinet n 2 faults))
   -- demand 3's bounds are that bound
   pub bound :
