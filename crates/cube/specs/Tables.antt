@@ -28,9 +28,9 @@ nodeBit t k = bit (k % 8) (getD t (k / 8) 0)
 unfoldable pub unusedSet : ℕ → List ℕ → Bool
 unusedSet n t = some (8 * length t) (λ k. leb (2 ^ n) k && nodeBit t k)
 
--- a label is 0 safe, 1 ordinarily unsafe, 2 strongly unsafe or 3 faulty, which is the highest
+-- a label is 0 safe, 1 ordinarily unsafe, 2 strongly unsafe, 3 faulty or 4 draining, which is the highest
 abbrev pub highest : ℕ
-highest = 3
+highest = 4
 
 -- the label of node x in a label table
 unfoldable pub labelIn : List ℕ → ℕ → ℕ

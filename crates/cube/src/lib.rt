@@ -6,7 +6,7 @@ ghost use Rattle.cube.specs.Tables.{isDimension, nodeBit, tableLen, unus
 ghost use lib.ListN.{length};
 ghost use mathlib.Core.Path.{_≡_};
 
-pub const HIGHEST: u8 = 3; // the highest label
+pub const HIGHEST: u8 = 4; // the highest label
 
 // How many nodes an n-cube has.
 pub fn nodes(n: usize) -> usize

@@ -8,9 +8,9 @@ use lib.Dec.{leb}
 use lib.ListN.{length}
 use borrow.Author.Tests.{le-leb, leb-true}
 use Rattle.cube.specs.Tables.{highest, labelIn}
-use Rattle.cube.proofs.Bools.{and-both, and-true}
+use Rattle.cube.proofs.Bools.{and-both, and-true, by-cases}
 use Rattle.cube.proofs.Front.{length-tab, getD-tab}
-use Rattle.rule.specs.Cabinet.{Cabinet, exchangesOf, labelsOf, out, outByte, isRule}
+use Rattle.rule.specs.Cabinet.{Cabinet, exchangesOf, faulty, labelsOf, out, outByte, isRule}
 use Rattle.rule.specs.Good.{Good}
 use Rattle.rule.specs.Rule.{label, safe}
 use Rattle.rule.proofs.Bytes.{bytes-le}
@@ -32,8 +32,11 @@ module _ (K : Cabinet) where
   labelled = label (K .n) (K .rule) (out K) (outByte K)
 
   -- what labelling and routing ask of the byte of a node that does not work
+  out-within : (x : ℕ) → (3 ≤ outByte K x) × (outByte K x ≤ highest)
+  out-within x = by-cases (λ b. (3 ≤ b) × (b ≤ highest)) (faulty K x) (λ _. (omega arith, omega arith)) (λ _. (omega arith, omega arith))
+
   pub out-high : (x : ℕ) → out K x ≡ true → 3 ≤ outByte K x
-  out-high x e = omega arith
+  out-high x e = out-within x .0
 
   pub labels-length : length (labelsOf K) ≡ 2 ^ K .n
   unfolding labelsOf
@@ -46,7 +49,7 @@ module _ (K : Cabinet) where
   pub label-bytes : (x : ℕ) → x < 2 ^ K .n → labelIn (labelsOf K) x ≤ highest
   unfolding label
   label-bytes x h =
-      omega (arith, label-in x h, bytes-le (K .n) (out K) (outByte K) (safe (K .n) (K .rule) (out K)) highest (omega arith) x (omega arith))
+      omega (arith, label-in x h, bytes-le (K .n) (out K) (outByte K) (safe (K .n) (K .rule) (out K)) highest (omega arith) x (out-within x .1))
 
   pub table-good : K .rule ≤ 3 → Good (K .n) (labelIn (labelsOf K))
   table-good small =

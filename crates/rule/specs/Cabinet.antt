@@ -1,6 +1,6 @@
 -- A cabinet: all that labelling is handed and a label can depend on, in one record, and what it then has for labels. Contracts and theorems speak of a
 -- cabinet, so another thing that labelling is handed is another field here.
-use mathlib.Core.Bool.{Bool, _&&_}
+use mathlib.Core.Bool.{Bool, cond, not, _&&_, _||_}
 use mathlib.Core.List.{List}
 use Prim.Native.Nat.{ℕ, _^_}
 use lib.Dec.{leb}
@@ -14,21 +14,30 @@ pub record Cabinet : Type 0 where
   pub rule : ℕ
   -- the lent fault table
   pub faults : List ℕ
+  -- the lent table of draining nodes, of the same layout (document 02, A4)
+  pub draining : List ℕ
 
-abbrev pub cabinet : (n rule : ℕ) (faults : List ℕ) → Cabinet
-cabinet n rule faults = record { n = n; rule = rule; faults = faults }
+abbrev pub cabinet : (n rule : ℕ) (faults draining : List ℕ) → Cabinet
+cabinet n rule faults draining = record { n = n; rule = rule; faults = faults; draining = draining }
 
 -- there are two rules (document 02, A13): 2, that of Lee and Hayes, and 3, document 01's
 unfoldable pub isRule : (k : ℕ) → Bool
 isRule k = leb 2 k && leb k 3
 
--- the nodes that do not work
-abbrev pub out : Cabinet → ℕ → Bool
-out K = nodeBit (K .faults)
+-- the faulty nodes, and those that drain: "a node in both is faulty"
+abbrev pub faulty : Cabinet → ℕ → Bool
+faulty K = nodeBit (K .faults)
 
--- the label byte of a node that does not work
+abbrev pub drains : Cabinet → ℕ → Bool
+drains K x = not (faulty K x) && nodeBit (K .draining) x
+
+-- the nodes that do not work: the faulty ones and those that drain
+abbrev pub out : Cabinet → ℕ → Bool
+out K x = faulty K x || nodeBit (K .draining) x
+
+-- the label byte of a node that does not work: 3 faulty, 4 draining
 abbrev pub outByte : Cabinet → ℕ → ℕ
-outByte K x = 3
+outByte K x = cond (faulty K x) 3 4
 
 -- the number of exchanges, and the label bytes of all nodes
 unfoldable pub exchangesOf : Cabinet → ℕ
