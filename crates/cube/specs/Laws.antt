@@ -19,3 +19,5 @@ pub record CubeLaws : Type 0 where
   pub differ : (i x y : ℕ) → (apart i x y ≡ true) ↔ (bit i x ≢ bit i y)
   -- the count of ones in the exclusive-or of two nodes is the number of dimensions in which they differ
   pub distance : (n x y : ℕ) → x < 2 ^ n → y < 2 ^ n → dist x y ≡ count n (λ i. apart i x y)
+  -- and the neighbour across dimension i is the node that differs in it and is at distance 1
+  pub one : (i x y : ℕ) → (flip i x ≡ y) ↔ ((apart i x y ≡ true) × (dist x y ≡ 1))

@@ -8,7 +8,7 @@ use borrow.Author.Tests.{ltb-true, ltb-false}
 use Rattle.cube.specs.Cube.{flip}
 use Rattle.cube.proofs.Bools.{clash}
 use Rattle.cube.proofs.Search.{Least, the-least}
-use Rattle.scans.specs.Hit.{Hit, scan1, scan2, scan3, scan4, scan5, takesAt}
+use Rattle.scans.specs.Hit.{Hit, scan0, scan1, scan2, scan3, scan4, scan5, takesAt}
 use Rattle.scans.specs.Picks.{Misses, NonePicks, Picks}
 use Rattle.scans.specs.Scans.{firstScan, lowest, noScan}
 use Rattle.scans.proofs.Hit.{table-hits}
@@ -50,6 +50,7 @@ module _ (n : ℕ) (lab : ℕ → ℕ) (c d : ℕ) where
 
   -- there is no scan but these
   hit-scan : {s i : ℕ} → Hit lab c d s i → s < noScan
+  hit-scan (scan0 _ _) = omega arith
   hit-scan (scan1 _ _) = omega arith
   hit-scan (scan2 _ _) = omega arith
   hit-scan (scan3 _ _ _) = omega arith

@@ -1,5 +1,5 @@
--- The five scans in document 01's words: what each asks of a dimension i at a node c on the way to d, with the labels lab. Nothing here rests on the
--- table that the scans are computed by; that the table says the same is proved in proofs/Hit.antt.
+-- The five scans in document 01's words, and the hop before them in those of document 02's request A4: what each asks of a dimension i at a node c on the
+-- way to d, with the labels lab. Nothing here rests on the table that the scans are computed by; that the table says the same is proved in proofs/Hit.antt.
 use mathlib.Core.Bool.{Bool, true}
 use mathlib.Core.Logic.{_⊎_, _≢_, _↔_}
 use mathlib.Core.Path.{_≡_}
@@ -14,7 +14,7 @@ Forward c d i = bit i c ≢ bit i d
 abbrev pub Spare : (c d i : ℕ) → Type 0
 Spare c d i = bit i c ≡ bit i d
 
--- "0 safe, 1 ordinarily unsafe, 2 strongly unsafe, 3 faulty"; a byte above 3 counts as faulty
+-- "0 safe, 1 ordinarily unsafe, 2 strongly unsafe, 3 faulty", and 4 draining, which "in all five scans counts as faulty", as would any byte above it
 abbrev pub Safe : (label : ℕ) → Type 0
 Safe label = label ≡ 0
 
@@ -27,12 +27,17 @@ Strong label = label ≡ 2
 abbrev pub NotFaulty : (label : ℕ) → Type 0
 NotFaulty label = label ≤ 2
 
+abbrev pub Draining : (label : ℕ) → Type 0
+Draining label = label ≡ 4
+
 -- "c strongly unsafe or l ≤ 2"
 abbrev pub MayEnterStrong : (lab : ℕ → ℕ) (c d : ℕ) → Type 0
 MayEnterStrong lab c d = Strong (lab c) ⊎ (dist c d ≤ 2)
 
 -- a scan hits a dimension
 pub data Hit (lab : ℕ → ℕ) (c d : ℕ) : (scan i : ℕ) → Type 0 where
+  -- "before the scans, a hop at distance 1 to a draining destination": the neighbour is the destination, and it drains
+  scan0 : {i : ℕ} → flip i c ≡ d → Draining (lab d) → Hit lab c d 0 i
   -- "forward, neighbour safe"
   scan1 : {i : ℕ} → Forward c d i → Safe (lab (flip i c)) → Hit lab c d 1 i
   -- "forward, neighbour safe or ordinarily unsafe"

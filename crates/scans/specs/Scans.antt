@@ -1,5 +1,6 @@
--- The five scans of Algorithm ROUTE at a node c on the way to d, as a table in document 01's order. own is c's label and near i the label of the
--- neighbour across dimension i: what the scans pick depends on these, on n, c and d, and on nothing else.
+-- The five scans of Algorithm ROUTE at a node c on the way to d, as a table in document 01's order, and before them, as scan 0, the hop to a draining
+-- destination (document 02, A4). own is c's label and near i the label of the neighbour across dimension i: what the scans pick depends on these, on
+-- n, c and d, and on nothing else.
 use mathlib.Core.Bool.{Bool, true, false, Bool·beq, _&&_, _||_}
 use mathlib.Core.List.{List, [], _∷_}
 use Prim.Native.Nat.{ℕ}
@@ -15,37 +16,38 @@ forward = true
 abbrev pub spare : Bool
 spare = false
 
--- a scan goes through the dimensions of one side and takes one whose neighbour's label is at most top (0: safe, 1: safe or ordinarily unsafe,
--- 2: not faulty), where it is allowed at all
+-- a scan goes through the dimensions of one side and takes one whose neighbour's label is from bottom to top (0 to 0: safe, to 1: safe or ordinarily
+-- unsafe, to 2: it works; 4 to 4: draining), where it is allowed at all
 pub record Scan : Type 0 where
   pub side : Bool
+  pub bottom : ℕ
   pub top : ℕ
   pub allowed : Bool
 
-abbrev pub scanOf : (side : Bool) (top : ℕ) (allowed : Bool) → Scan
-scanOf side top allowed = record { side = side; top = top; allowed = allowed }
+abbrev pub scanOf : (side : Bool) (bottom top : ℕ) (allowed : Bool) → Scan
+scanOf side bottom top allowed = record { side = side; bottom = bottom; top = top; allowed = allowed }
 
--- scans 1 to 5 at distance l from the destination; the line before them is empty
+-- scans 0 to 5 at distance l from the destination: at distance 1 the forward neighbour is the destination
 abbrev pub scans : (l own : ℕ) → List Scan
 scans l own =
-    scanOf forward 0 false
-    ∷ scanOf forward 0 true
-    ∷ scanOf forward 1 true
-    ∷ scanOf forward 2 (eqb own 2 || leb l 2)
-    ∷ scanOf spare 0 true
-    ∷ scanOf spare 1 true
+    scanOf forward 4 4 (eqb l 1)
+    ∷ scanOf forward 0 0 true
+    ∷ scanOf forward 0 1 true
+    ∷ scanOf forward 0 2 (eqb own 2 || leb l 2)
+    ∷ scanOf spare 0 0 true
+    ∷ scanOf spare 0 1 true
     ∷ []
 
 -- scan s, and the number that no scan has
 abbrev pub scanAt : (l own s : ℕ) → Scan
-scanAt l own s = getD (scans l own) s (scanOf forward 0 false)
+scanAt l own s = getD (scans l own) s (scanOf forward 0 0 false)
 
 abbrev pub noScan : ℕ
 noScan = 6
 
 -- dimension i suits a scan
 unfoldable pub suits : (c d : ℕ) (near : ℕ → ℕ) (z : Scan) (i : ℕ) → Bool
-suits c d near z i = z .allowed && (Bool·beq (apart i c d) (z .side) && leb (near i) (z .top))
+suits c d near z i = z .allowed && (Bool·beq (apart i c d) (z .side) && (leb (z .bottom) (near i) && leb (near i) (z .top)))
 
 -- scan s takes dimension i
 unfoldable pub takes : (c d own : ℕ) (near : ℕ → ℕ) (s i : ℕ) → Bool
