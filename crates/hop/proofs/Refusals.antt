@@ -46,7 +46,7 @@ placed n a b m other e = good-place n a b m other [] (first-none 5 (placeTests n
 
 module _ (n c d m : ℕ) (lab : ℕ → ℕ) where
   abbrev near : List Test
-  near = nearTests n (lab c) (λ i. lab (flip i c))
+  near = nearTests n c d (lab c) (λ i. lab (flip i c))
 
   pub hop-misplaced : (k : ℕ) → k ≡ placeRefusal n c d m false → (k ≡ 0 → ⊥) → hopRefusal n c d m lab ≡ k
   unfolding hopRefusal first

@@ -1,25 +1,25 @@
 -- The scans as the code makes them, one after the other: a scan that finds nothing is passed, and the first that finds a dimension picks it.
--- No scan has the number 0, so scan 1 is the first.
 use mathlib.Core.Path.{_≡_, refl, sym, ap, _∙_}
 use mathlib.Core.Logic.{⊎-elim, _≢_}
-use mathlib.Core.Bool.{true, false, cond, _||_}
+use mathlib.Core.Bool.{Bool·beq, true, false, cond, _&&_, _||_}
 use Prim.Native.Nat.{ℕ, suc, _+_, _*_, _%_, _-_, _^_, _≤_, _<_}
+use native.Mathlib.Decide.{ℕ-discrete}
 use native.Mathlib.Omega.{arith}
-use lib.Arith.{lt-one}
 use lib.Bits.{bitXor}
 use lib.Dec.{eqb, leb, ltb}
-use borrow.Author.Tests.{ne-eqb, lt-ltb, le-ltb, ltb-true, ltb-false}
+use borrow.Author.Tests.{eq-eqb, eqb-true, leb-true, ne-eqb, lt-ltb, le-ltb, ltb-true, ltb-false}
 use Rattle.cube.specs.Count.{least}
-use Rattle.cube.specs.Cube.{dist}
+use Rattle.cube.specs.Cube.{apart, dist, flip}
 use Rattle.cube.proofs.Count.{below-suc}
-use Rattle.cube.proofs.Bools.{either}
+use Rattle.cube.proofs.Bools.{and-both, and-true, beq-true, clash, either, is-false}
 use Rattle.cube.proofs.Search.{least-is, the-least, least-none}
-use Rattle.cube.proofs.Cube.{dist-self, dist-zero}
+use Rattle.cube.proofs.Cube.{apart-other, dist-self, dist-zero}
+use Rattle.cube.proofs.Laws.{across-one, agree-apart, one-across}
 use Rattle.scans.specs.Scans.{firstScan, forward, lowest, noScan, scanAt, scanOf, spare, suits, takes}
 use Rattle.hop.specs.Helpers.{across, inSet, chosen}
 use Rattle.hop.specs.Hop.{answer, decide}
 use Rattle.hop.specs.declared.Decision.the-variants.{Deliver, Hop, Halted}
-use Rattle.hop.proofs.Sets.{forward-set, spare-set}
+use Rattle.hop.proofs.Sets.{LowestOf, forward-set, spare-set}
 
 module _ (n c d own : ℕ) (near : ℕ → ℕ) where
   -- ---- what a scan finds
@@ -30,18 +30,63 @@ module _ (n c d own : ℕ) (near : ℕ → ℕ) where
   idle s f = least-none n (takes c d own near s) (λ i _. f i)
 
   -- scan s by its line: it is allowed, and the set is the dimensions of its side
-  pub forward-scan : (s t : ℕ) → scanAt (dist c d) own s ≡ scanOf forward t true → least n (inSet (bitXor c d) near t) ≡ lowest n c d own near s
+  pub forward-scan : (s t : ℕ) → scanAt (dist c d) own s ≡ scanOf forward 0 t true → least n (inSet (bitXor c d) near t) ≡ lowest n c d own near s
   unfolding lowest takes
   forward-scan s t e = forward-set n c d near t ∙ ap (λ z. least n (suits c d near z)) (sym e)
 
-  pub spare-scan : (s t : ℕ) → scanAt (dist c d) own s ≡ scanOf spare t true
+  pub spare-scan : (s t : ℕ) → scanAt (dist c d) own s ≡ scanOf spare 0 t true
       → least n (inSet (bitXor (bitXor c d) (2 ^ n - 1)) near t) ≡ lowest n c d own near s
   unfolding lowest takes
   spare-scan s t e = spare-set n c d near t ∙ ap (λ z. least n (suits c d near z)) (sym e)
 
+  -- scan 0 does not ask for c's label
+  pub last-scan : lowest n c d 0 near 0 ≡ lowest n c d own near 0
+  unfolding lowest takes
+  last-scan = refl
+
+  -- it takes the lowest forward dimension, where the neighbour across it is d and draining, and no other
+  last-suits : (i : ℕ) → flip i c ≡ d → near i ≡ 4 → takes c d own near 0 i ≡ true
+  unfolding takes suits
+  last-suits i e q = let r = across-one i c d e in rw (r .1, r .0, q)
+
+  suits-last : (i : ℕ) → takes c d own near 0 i ≡ true → (flip i c ≡ d) × (near i ≡ 4)
+  unfolding takes suits
+  suits-last i t =
+      let a = and-true (eqb (dist c d) 1) (Bool·beq (apart i c d) true && (leb 4 (near i) && leb (near i) 4)) t in
+      let b = and-true (Bool·beq (apart i c d) true) (leb 4 (near i) && leb (near i) 4) (a .1) in
+      let l = and-true (leb 4 (near i)) (leb (near i) 4) (b .1) in
+      (one-across i c d (beq-true (apart i c d) true (b .0)) (eqb-true (dist c d) 1 (a .0)), omega (arith, leb-true 4 (near i) (l .0), leb-true (near i) 4 (l .1)))
+
+  module _ (i : ℕ) (f : LowestOf n (bitXor c d) i) where
+    pub last-taken : (eqb (near i) 4 && eqb (flip i c) d) ≡ true → i ≡ lowest n c d own near 0
+    unfolding lowest apart
+    last-taken t =
+        let a = and-true (eqb (near i) 4) (eqb (flip i c) d) t in
+        sym (least-is n (takes c d own near 0) i (omega (arith, f .inside)) lower (λ _. last-suits i (eqb-true (flip i c) d (a .1)) (eqb-true (near i) 4 (a .0))))
+      where
+        lower : (j : ℕ) → j < i → takes c d own near 0 j ≡ false
+        lower j l = is-false (λ t. clash (across-one j c d (suits-last j t .0) .0) (f .before j l))
+
+    pub last-left : (eqb (near i) 4 && eqb (flip i c) d) ≡ false → n ≡ lowest n c d own near 0
+    unfolding apart
+    last-left t = sym (idle 0 none)
+      where
+        same : (j : ℕ) → flip j c ≡ d → j ≡ i
+        same j e =
+            elim (ℕ-discrete i j) [
+              | yes q ↦ sym q
+              | no k ↦ absurd (clash (f .has) (sym (apart-other i j c d k) ∙ ap (λ x. apart i x d) e ∙ agree-apart i d d refl))
+            ]
+
+        none : (j : ℕ) → takes c d own near 0 j ≡ false
+        none j = is-false (λ u.
+            let r = suits-last j u in
+            let q = same j (r .0) in
+            clash (and-both (eq-eqb (near i) 4 (ap near (sym q) ∙ r .1)) (eq-eqb (flip i c) d (ap (λ k. flip k c) (sym q) ∙ r .0))) t)
+
   -- the third, by its test
   pub third-open : (eqb own 2 || leb (dist c d) 2) ≡ true → least n (inSet (bitXor c d) near 2) ≡ lowest n c d own near 3
-  third-open e = forward-scan 3 2 (ap (scanOf forward 2) e)
+  third-open e = forward-scan 3 2 (ap (scanOf forward 0 2) e)
 
   pub third-shut : (eqb own 2 || leb (dist c d) 2) ≡ false → n ≡ lowest n c d own near 3
   unfolding takes suits
@@ -53,9 +98,8 @@ module _ (n c d own : ℕ) (near : ℕ → ℕ) where
   abbrev pub Past : ℕ → Type 0
   Past s = (t : ℕ) → t < s → n ≤ lowest n c d own near t
 
-  pub past-none : Past 1
-  unfolding takes suits
-  past-none t h = omega (arith, idle 0 (λ i. refl), ap (lowest n c d own near) (lt-one h))
+  pub past-none : Past 0
+  past-none t h = absurd (omega arith)
 
   -- scan s gives i: none, and the next one is due
   pub pass : (s i : ℕ) → Past s → i ≡ lowest n c d own near s → n ≤ i → Past (suc s)
@@ -72,7 +116,7 @@ module _ (n c d own : ℕ) (near : ℕ → ℕ) where
   unfolding chosen
   take s i h p e l = rw (first-at s (omega arith) p (λ _. omega arith)) (omega arith)
 
-  -- all five find nothing
+  -- all of them find nothing
   pub take-none : Past noScan → noScan * 16 + n ≡ chosen n c d own near
   unfolding chosen takes suits
   take-none p = rw (first-at noScan (omega arith) p (λ l. absurd (omega arith))) (omega (arith, idle noScan (λ i. refl)))

@@ -16,7 +16,7 @@ use Rattle.cube.specs.Count.{least}
 use Rattle.cube.specs.Cube.{bit, flip, apart}
 use Rattle.cube.proofs.Bools.{and-both, beq-no, beq-yes, by-cases, xor-not}
 use Rattle.cube.proofs.Search.{Least, the-least, least-found, least-is, least-same, find, least-none}
-use Rattle.cube.proofs.Cube.{bit-low, bit-suc, bit-none, bit-xor, bit-flip-other, bits-same}
+use Rattle.cube.proofs.Cube.{bit-low, bit-suc, bit-none, bit-xor, bit-flip-other, bits-same, none-apart}
 use Rattle.hop.specs.Helpers.{inSet}
 use Rattle.scans.specs.Scans.{forward, spare, scanOf, suits}
 
@@ -104,6 +104,11 @@ lowest-of n x small h more = go (find n (λ i. bit i x))
         rw e (record { inside = l; has = low .hit l; before = low .before; rest = rw e at (without 64 x (omega arith)) })
     go (inr none) = absurd (more (bits-same n x 0 h (pow-pos n) (λ i l. none i l ∙ sym (bit-none i))))
 
+-- two nodes that are not one have a forward dimension
+pub some-forward : (n c d : ℕ) → c < 2 ^ n → d < 2 ^ n → (c ≡ d → ⊥) → bitXor c d ≡ 0 → ⊥
+unfolding apart
+some-forward n c d hc hd far e = far (none-apart n c d hc hd (λ i _. ap (bit i) e ∙ bit-none i))
+
 -- ---- the search in a set
 
 module _ (n x : ℕ) (near : ℕ → ℕ) (t : ℕ) where
@@ -138,17 +143,17 @@ full (suc n) (suc i) h =
     bit-suc i (2 ^ suc n - 1) ∙ ap (bit i) e ∙ full n i (omega arith)
 
 module _ (n c d : ℕ) (near : ℕ → ℕ) (t : ℕ) where
-  pub forward-set : least n (inSet (bitXor c d) near t) ≡ least n (suits c d near (scanOf forward t true))
+  pub forward-set : least n (inSet (bitXor c d) near t) ≡ least n (suits c d near (scanOf forward 0 t true))
   unfolding inSet suits apart
   forward-set =
-      least-same n (inSet (bitXor c d) near t) (suits c d near (scanOf forward t true))
-      (λ i _. ap (λ (b : Bool). b && leb (near i) t) (sym (beq-yes (bit i (bitXor c d)))))
+      least-same n (inSet (bitXor c d) near t) (suits c d near (scanOf forward 0 t true))
+      (λ i _. rw (le-leb 0 (near i) (omega arith)) (ap (λ (b : Bool). b && leb (near i) t) (sym (beq-yes (bit i (bitXor c d))))))
 
-  pub spare-set : least n (inSet (bitXor (bitXor c d) (2 ^ n - 1)) near t) ≡ least n (suits c d near (scanOf spare t true))
+  pub spare-set : least n (inSet (bitXor (bitXor c d) (2 ^ n - 1)) near t) ≡ least n (suits c d near (scanOf spare 0 t true))
   unfolding inSet suits apart
   spare-set =
-      least-same n (inSet (bitXor (bitXor c d) (2 ^ n - 1)) near t) (suits c d near (scanOf spare t true))
-      (λ i h. ap (λ (b : Bool). b && leb (near i) t) (other i h))
+      least-same n (inSet (bitXor (bitXor c d) (2 ^ n - 1)) near t) (suits c d near (scanOf spare 0 t true))
+      (λ i h. rw (le-leb 0 (near i) (omega arith)) (ap (λ (b : Bool). b && leb (near i) t) (other i h)))
     where
       other : (i : ℕ) → i < n → bit i (bitXor (bitXor c d) (2 ^ n - 1)) ≡ Bool·beq (bit i (bitXor c d)) false
       other i h = bit-xor i (bitXor c d) (2 ^ n - 1) ∙ rw (full n i h) (xor-not (bit i (bitXor c d)) ∙ sym (beq-no (bit i (bitXor c d))))

@@ -1,7 +1,7 @@
 -- One hop: the decision that Algorithm ROUTE takes at a node, and its refusals.
 -- The decision is a function of n, c, d, c's own label and the labels of its n neighbours, and of nothing else: `hop` takes these from the labels
 -- of all nodes. The question `hopped` is asked of any label table: m is its length, and lab x the byte of node x.
-use mathlib.Core.Bool.{cond, not, _||_}
+use mathlib.Core.Bool.{cond, not, _&&_, _||_}
 use mathlib.Core.List.{List, [], _∷_, _++_}
 use Prim.Native.Nat.{ℕ, _^_}
 use lib.Dec.{eqb, leb, ltb}
@@ -30,7 +30,8 @@ hop n lab c d = decide n c d (lab c) (λ i. lab (flip i c))
 
 -- ---- the question
 
--- its refusals, by parts: of the dimension and a label table of m bytes; of two nodes; of c's label and those of its neighbours
+-- its refusals, by parts: of the dimension and a label table of m bytes; of two nodes; of c's label and those of its neighbours: at a faulty node nothing
+-- is decided, and at a draining one only that what is addressed to it has arrived
 abbrev pub sizeTests : (n m : ℕ) → List Test
 sizeTests n m =
     not (isDimension n) ⇒ 1
@@ -40,15 +41,16 @@ sizeTests n m =
 abbrev pub nodeTests : (n a b : ℕ) → List Test
 nodeTests n a b = (leb (2 ^ n) a || leb (2 ^ n) b) ⇒ 5 ∷ []
 
-abbrev pub nearTests : (n own : ℕ) (near : ℕ → ℕ) → List Test
-nearTests n own near =
+abbrev pub nearTests : (n c d own : ℕ) (near : ℕ → ℕ) → List Test
+nearTests n c d own near =
     (ltb highest own || some n (λ i. ltb highest (near i))) ⇒ 4
     ∷ eqb own 3 ⇒ 6
+    ∷ (eqb own 4 && not (eqb c d)) ⇒ 6
     ∷ []
 
 -- and in order: 1, 2, 5, 4, 6
 abbrev pub hopTests : (n c d m : ℕ) (lab : ℕ → ℕ) → List Test
-hopTests n c d m lab = sizeTests n m ++ (nodeTests n c d ++ nearTests n (lab c) (λ i. lab (flip i c)))
+hopTests n c d m lab = sizeTests n m ++ (nodeTests n c d ++ nearTests n c d (lab c) (λ i. lab (flip i c)))
 
 unfoldable pub hopRefusal : (n c d m : ℕ) (lab : ℕ → ℕ) → ℕ
 hopRefusal n c d m lab = first (hopTests n c d m lab)

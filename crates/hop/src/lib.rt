@@ -9,17 +9,21 @@ ghost use Rattle.hop.specs.Hop as spec;
 ghost use Rattle.scans.specs.Scans as scans;
 ghost use lib.Dec.{ltb};
 ghost use lib.ListN.{getD, length, replicate};
+ghost use mathlib.Core.Logic.{_≢_};
 ghost use mathlib.Core.Path.{_≡_};
 use cube::HIGHEST;
 use cube::distance;
 use cube::is_dimension;
+use cube::neighbour;
 use cube::nodes;
 
-const SLACK: usize = 0; // what raises the highest label to a number that is all ones
+const DRAINING: u8 = 4; // the label of a draining node
 
-const ONES: usize = 3; // that number: HIGHEST + SLACK
+const SLACK: usize = 3; // what raises the highest label to a number that is all ones
 
-const NO_SCAN: usize = 6; // the scans are 1 to 5
+const ONES: usize = 7; // that number: HIGHEST + SLACK
+
+const NO_SCAN: usize = 6; // the scans are 0 to 5
 
 const NO_CHOICE: usize = 96; // from here on a choice has no scan: NO_SCAN * 16
 
@@ -98,6 +102,18 @@ fn lowest(n: usize, set: usize, near: &[u8; 12], top: u8) -> usize
     n
 }
 
+// The hop before the scans: to d itself, where it is c's neighbour across the lowest forward dimension, and draining. n where it is not.
+fn last_hop(n: usize, c: usize, d: usize, near: &[u8; 12]) -> usize
+    requires { ⌜ (n ≤ 12) × (c < 2 ^ n) × (d < 2 ^ n) × (c ≢ d) ⌝ }
+    ensures { λ r. ⌜ r ≡ scans.lowest n c d 0 (λ i. getD (now (near .entry)) i 0) 0 ⌝ }
+{
+    let i = usize::trailing_zeros(c ^ d) as usize;
+    if (near[i] == DRAINING) & (neighbour(c, i) == d) {
+        return i;
+    }
+    n
+}
+
 // The third scan: a strongly unsafe node is entered from another, or near the destination.
 fn third(n: usize, c: usize, d: usize, own: u8, near: &[u8; 12]) -> usize
     requires { ⌜ (n ≤ 12) × (c < 2 ^ n) × (d < 2 ^ n) ⌝ }
@@ -117,12 +133,16 @@ fn choice(scan: usize, dimension: usize) -> usize
     scan * 16 + dimension
 }
 
-// What the first of the five scans that takes a dimension picks at c, whose label is own and whose neighbours' labels are near; NO_SCAN and n where none
+// What the first of the scans that takes a dimension picks at c, whose label is own and whose neighbours' labels are near; NO_SCAN and n where none
 // takes one.
 fn chosen(n: usize, c: usize, d: usize, own: u8, near: &[u8; 12]) -> usize
-    requires { ⌜ (n ≤ 12) × (c < 2 ^ n) × (d < 2 ^ n) ⌝ }
+    requires { ⌜ (n ≤ 12) × (c < 2 ^ n) × (d < 2 ^ n) × (c ≢ d) ⌝ }
     ensures { λ r. ⌜ r ≡ chosen n c d own (λ i. getD (now (near .entry)) i 0) ⌝ }
 {
+    let i0 = last_hop(n, c, d, near);
+    if i0 < n {
+        return choice(0, i0);
+    }
     let forward = c ^ d;
     let i1 = lowest(n, forward, near, 0);
     if i1 < n {
@@ -173,6 +193,9 @@ pub fn hop(n: usize, c: usize, d: usize, labels: &[u8]) -> Hopped
         return Hopped::Refused(4);
     }
     if own == 3 {
+        return Hopped::Refused(6);
+    }
+    if (own == DRAINING) & (c != d) {
         return Hopped::Refused(6);
     }
     if c != d {

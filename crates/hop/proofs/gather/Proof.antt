@@ -23,7 +23,7 @@ use Rattle.hop.proofs.gather.Tie as tie
 abbrev Inv-loop : tie.InvT-loop
 Inv-loop n labels c near₀ any₀ step₀ i₀ near any step i =
     (i ≤ n) × (step ≡ 2 ^ i) × (near ≡ front (λ k. labelIn labels (flip k c)) i (replicate 12 0))
-    × (ltb 3 any ≡ some i (λ k. ltb highest (labelIn labels (flip k c))))
+    × (ltb 7 any ≡ some i (λ k. ltb highest (labelIn labels (flip k c))))
 
 abbrev μ-loop : tie.MeasureT-loop
 μ-loop n labels c near₀ any₀ step₀ i₀ near any step i = n - i
@@ -63,7 +63,7 @@ loop-again c =
       omega arith,
       rw (add-one, pow-suc) (omega arith),
       front-write f (l .i) (replicate 12 0) (l .near) _ (omega arith) (l .inv .2) e,
-      joined-next 3 2 refl highest slack refl f (l .any) _ (l .i) (l .inv .3) (c .raised .ensures ∙ rw e),
+      joined-next 7 3 refl highest slack refl f (l .any) _ (l .i) (l .inv .3) (c .raised .ensures ∙ rw e),
     )
 
 returns : tie.Need-returns Inv-loop μ-loop

@@ -1,0 +1,35 @@
+-- `last_hop` asks of the lowest forward dimension what scan 0 asks of each: no other can lead to d.
+use mathlib.Core.Path.{_∙_}
+use native.Mathlib.Omega.{arith}
+use borrow.Author.Needs.{needs}
+use lib.Bits.{bitXor, xor-lt}
+use lib.Count.{trailingZeros}
+use Rattle.hop.proofs.Scanning.{last-left, last-taken}
+use Rattle.hop.proofs.Sets.{LowestOf, lowest-of, some-forward}
+use Rattle.hop.proofs.last_hop.Statement.{statement}
+use Rattle.hop.proofs.last_hop.Tie as tie
+
+-- the forward dimensions are not none, and i is the lowest of them
+here : (a : tie.Start) → let x = bitXor (a .args .c) (a .args .d) in LowestOf (a .args .n) x (trailingZeros 64 x)
+here a =
+    let p = a .pre in
+    lowest-of _ _ (omega arith) (xor-lt _ _ _ (p .1) (p .2)) (some-forward _ _ _ (p .1) (p .2) (p .3))
+
+cast-i : tie.Need-cast-i
+cast-i c = omega (arith, here c)
+
+element-copy-out-if1 : tie.Need-element-copy-out-if1
+element-copy-out-if1 c = omega (arith, here c)
+
+neighbour-requires : tie.Need-neighbour-requires
+neighbour-requires c κs = omega (arith, here (c .before))
+
+returns : tie.Need-returns
+returns c = last-taken _ _ _ _ _ _ (here (c .before .before .before)) (rw (c .before .neighbour .ensures) at (c .if1 .taken))
+
+returns-2 : tie.Need-returns-2
+returns-2 c = last-left _ _ _ _ _ _ (here (c .before .before .before)) (rw (c .before .neighbour .ensures) at (c .if1 .left))
+
+pub last-hop-spec : {M : Type 1} → statement M
+last-hop-spec =
+    tie.close (tie.spec cast-i element-copy-out-if1 neighbour-requires returns returns-2)
