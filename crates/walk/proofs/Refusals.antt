@@ -7,7 +7,7 @@ use mathlib.Core.List.{List, [], _∷_, _++_}
 use Prim.Native.Nat.{ℕ, _^_, _≤_, _<_}
 use native.Mathlib.Omega.{arith}
 use lib.Dec.{eqb, ltb}
-use borrow.Author.Tests.{eqb-false, eqb-true, ltb-false, ne-eqb, not-false}
+use borrow.Author.Tests.{eqb-false, eqb-true, leb-false, ltb-false, ne-eqb, not-false}
 use Rattle.cube.specs.Refusal.{Test, first, _⇒_}
 use Rattle.cube.specs.Tables.{highest, isDimension}
 use Rattle.cube.proofs.Bools.{by-cases, either}
@@ -67,7 +67,8 @@ pub record WalkGood (n s d m room : ℕ) (lab : ℕ → ℕ) : Type 0 where
   pub placed : Placed n s d m
   pub lent : room ≡ rowBytes
   pub low : (x : ℕ) → x < 2 ^ n → lab x ≤ highest
-  pub source : lab s ≢ 3
+  pub source : lab s ≤ 2
+  pub target : lab d ≢ 3
   pub stops : stops (last n lab d s) ≡ true
 
 module _ (n s d m room : ℕ) (lab : ℕ → ℕ) where
@@ -80,7 +81,8 @@ module _ (n s d m room : ℕ) (lab : ℕ → ℕ) where
         placed = good-place n s d m (not (eqb room rowBytes)) (tableTests n s d lab ++ eight n s d m room lab) t;
         lent = eqb-true _ _ (not-false _ (t .1 .1 .0));
         low = λ x h. ltb-false highest (lab x) (none-some (2 ^ n) (λ y. ltb highest (lab y)) (t .1 .1 .1 .1 .0) x h);
-        source = eqb-false (lab s) 3 (t .1 .1 .1 .1 .1 .0);
+        source = let l = leb-false 3 (lab s) (t .1 .1 .1 .1 .1 .0) in omega arith;
+        target = eqb-false (lab d) 3 (t .1 .1 .1 .1 .1 .1 .0);
         stops = not-false _ (t .1 .1 .1 .1 .1 .1 .1 .0);
       }
 

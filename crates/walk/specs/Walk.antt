@@ -57,11 +57,11 @@ row n lab d s = tab 17 (λ k. cond (leb k (hops n lab d s)) (spot n lab d s k) 0
 abbrev pub rowBytes : ℕ
 rowBytes = 34
 
--- the refusals that the labels give
+-- the refusals that the labels give: no walk begins at a node that does not work, and none goes to a faulty one
 abbrev pub tableTests : (n s d : ℕ) (lab : ℕ → ℕ) → List Test
 tableTests n s d lab =
     some (2 ^ n) (λ x. ltb highest (lab x)) ⇒ 4
-    ∷ eqb (lab s) 3 ⇒ 6
+    ∷ leb 3 (lab s) ⇒ 6
     ∷ eqb (lab d) 3 ⇒ 7
     ∷ []
 

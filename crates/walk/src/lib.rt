@@ -133,7 +133,7 @@ fn start_refusal(n: usize, s: usize, d: usize, labels: &[u8], room: usize) -> u3
     if HIGHEST < largest(labels) {
         return 4;
     }
-    if labels[s] == 3 {
+    if 3 <= labels[s] {
         return 6;
     }
     if labels[d] == 3 {

@@ -4,7 +4,7 @@ use mathlib.Core.Bool.{Bool, true, false}
 use Prim.Native.Nat.{ℕ, _^_}
 use native.Mathlib.Omega.{arith}
 use borrow.Author.Needs.{needs}
-use borrow.Author.Tests.{eq-eqb, ne-eqb, le-ltb, lt-ltb}
+use borrow.Author.Tests.{eq-eqb, ne-eqb, le-leb, le-ltb, lt-leb, lt-ltb}
 use lib.Dec.{ltb}
 use lib.ListN.{length}
 use Rattle.cube.specs.Count.{some}
@@ -77,7 +77,7 @@ returns-3 : tie.Need-returns-3
 unfolding labelIn first
 returns-3 c =
     let h = c .before .before in
-    sym (table-is (placed-at (read-at h)) ∙ rw (low h, eq-eqb _ _ (c .if3 .taken)))
+    sym (table-is (placed-at (read-at h)) ∙ rw (low h, le-leb _ _ (c .if3 .taken)))
 
 shared-slice-read-if4 : tie.Need-shared-slice-read-if4
 shared-slice-read-if4 c = omega (arith, good (placed-at (read-at (low-at (c .before)))))
@@ -87,14 +87,14 @@ unfolding labelIn first
 returns-4 c =
     let e = c .before .before in
     let h = low-at e in
-    sym (table-is (placed-at (read-at h)) ∙ rw (low h, ne-eqb _ _ (e .if3 .left), eq-eqb _ _ (c .if4 .taken)))
+    sym (table-is (placed-at (read-at h)) ∙ rw (low h, lt-leb _ _ (e .if3 .left), eq-eqb _ _ (c .if4 .taken)))
 
 returns-5 : tie.Need-returns-5
 unfolding labelIn first
 returns-5 c =
     let e = c .before .before in
     let h = low-at e in
-    sym (table-is (placed-at (read-at h)) ∙ rw (low h, ne-eqb _ _ (e .if3 .left), ne-eqb _ _ (c .if4 .left)))
+    sym (table-is (placed-at (read-at h)) ∙ rw (low h, lt-leb _ _ (e .if3 .left), ne-eqb _ _ (c .if4 .left)))
 
 pub start-refusal-spec : {M : Type 1} → statement M
 start-refusal-spec =
