@@ -178,19 +178,19 @@ module _ (n s d : ℕ) (labels before : List ℕ) where
   walk-k = W.walkRefusal n s d (length labels) (length before) lab
 
   -- every node of it is in the cube
-  row-back : walk-k ≡ 0 → tab 17 (nodeAt (tab W.rowBytes (rowByte (W.row n lab d s)))) ≡ W.row n lab d s
+  row-back : walk-k ≡ 0 → tab 17 (nodeAt (tab W.rowBytes (rowByte (W.row n (W.route n lab d) s)))) ≡ W.row n (W.route n lab d) s
   unfolding W.row
   row-back e =
       let p = walk-good n s d (length labels) (length before) lab e .placed in
-      row-decoded (λ k. cond (leb k (W.hops n lab d s)) (W.spot n lab d s k) 0)
-      (λ k _. by-cases (λ x. x < 65536) (leb k (W.hops n lab d s))
+      row-decoded (λ k. cond (leb k (W.hops n (W.route n lab d) s)) (W.spot (W.route n lab d) s k) 0)
+      (λ k _. by-cases (λ x. x < 65536) (leb k (W.hops n (W.route n lab d) s))
       (λ _. omega (arith, spot-lt n lab d s (p .first) k, nodes-few n (p .small))) (λ _. omega arith))
 
   walk-decoded : walkedFrom (walkNumber (walkedBy n s d labels before)) (rowAfter (walkedBy n s d labels before) before) ≡ walkedBy n s d labels before
   unfolding W.walked W.walkFrom W.refused
   walk-decoded =
       by-cases (λ w. WalkFits w → walkedFrom (walkNumber w) (rowAfter w before) ≡ w) (eqb walk-k 0)
-      (λ e f. ended-decoded (W.walkFrom n lab d s) (f .0) (f .1) before
+      (λ e f. ended-decoded (W.walkFrom n (W.route n lab d) s) (f .0) (f .1) before
       (has-row n s d (length labels) (length before) lab (eqb-true walk-k 0 e)) (row-back (eqb-true walk-k 0 e)))
       (λ e f. refused-decoded before walk-k (f .0) (eqb-false walk-k 0 e))
       (walk-small n s d (length labels) (length before) lab)

@@ -76,9 +76,9 @@ module _ (n s d m room : ℕ) (lab : ℕ → ℕ) where
   walk-refusal = first-le 12 (W.walkTests n s d m room lab) refl
 
   -- where nothing is refused, the last decision is no hop, so the walk has a row to write
-  pub has-row : W.walkRefusal n s d m room lab ≡ 0 → hasRow (W.walkFrom n lab d s .ending) ≡ true
+  pub has-row : W.walkRefusal n s d m room lab ≡ 0 → hasRow (W.walkFrom n (W.route n lab d) s .ending) ≡ true
   unfolding W.walkFrom
-  has-row e = ends-well (W.last n lab d s) (walk-good n s d m room lab e .stops)
+  has-row e = ends-well (W.last n (W.route n lab d) s) (walk-good n s d m room lab e .stops)
 
   ending-few : (x : Decision) → W.refusalOf (W.endingOf x) < 256
   ending-few Deliver = omega arith
@@ -88,7 +88,7 @@ module _ (n s d m room : ℕ) (lab : ℕ → ℕ) where
   pub walk-small : WalkFits (W.walked n s d m room lab)
   unfolding W.walked W.walkFrom W.refused
   walk-small = (
-    by-cases (λ (w : Walked). W.refusalOf (w .ending) < 256) (eqb (W.walkRefusal n s d m room lab) 0) (λ _. ending-few (W.last n lab d s))
+    by-cases (λ (w : Walked). W.refusalOf (w .ending) < 256) (eqb (W.walkRefusal n s d m room lab) 0) (λ _. ending-few (W.last n (W.route n lab d) s))
         (λ _. omega (arith, walk-refusal)),
     omega (arith, hops-few n s d m room lab),
   )

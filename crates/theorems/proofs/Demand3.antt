@@ -62,7 +62,7 @@ module _ (K : Cabinet) (T : Table K) (s d : ℕ) (hs : Works K s) (hd : Works K 
 
   -- ---- the walk is not refused, where its last decision is no hop
 
-  not-refused : stops (last n lab d s) ≡ true → walkRefusal n s d (length (labelsOf K)) rowBytes lab ≡ 0
+  not-refused : stops (last n (route n lab d) s) ≡ true → walkRefusal n s d (length (labelsOf K)) rowBytes lab ≡ 0
   unfolding walkRefusal first
   not-refused e =
       rw (
@@ -79,14 +79,14 @@ module _ (K : Cabinet) (T : Table K) (s d : ℕ) (hs : Works K s) (hd : Works K 
   -- ---- the answer, by its last decision
 
   abbrev ended : Ending → Walked
-  ended e = record { row = row n lab d s; hops = hops n lab d s; ending = e }
+  ended e = record { row = row n (route n lab d) s; hops = hops n (route n lab d) s; ending = e }
 
-  is-walk : (x : Decision) → last n lab d s ≡ x → stops x ≡ true → walkOf K s d ≡ ended (endingOf x)
+  is-walk : (x : Decision) → last n (route n lab d) s ≡ x → stops x ≡ true → walkOf K s d ≡ ended (endingOf x)
   unfolding walked walkFrom
   is-walk x e t = rw (not-refused (ap stops e ∙ t), e)
 
   -- the row's places
-  place-used : (e : Ending) (k : ℕ) → k ≤ hops n lab d s → place (ended e) k ≡ spot n lab d s k
+  place-used : (e : Ending) (k : ℕ) → k ≤ hops n (route n lab d) s → place (ended e) k ≡ spot (route n lab d) s k
   place-used e = row-used n lab d s (T .small)
 
   works-at : (x : ℕ) → Inside n lab x → Works K x
@@ -101,15 +101,15 @@ module _ (K : Cabinet) (T : Table K) (s d : ℕ) (hs : Works K s) (hd : Works K 
           r .0,
           r .1,
           rw (place-used e k (omega arith)) (r .2),
-          place-used e (k + 1) (omega arith) ∙ ap (spot n lab d s) (add-one k) ∙ r .3
+          place-used e (k + 1) (omega arith) ∙ ap (spot (route n lab d) s) (add-one k) ∙ r .3
               ∙ ap (flip (r .0)) (sym (place-used e k (omega arith))),
         );
-        works = λ k h. rw (place-used e k h) (works-at (spot n lab d s k) (W .works k h));
+        works = λ k h. rw (place-used e k h) (works-at (spot (route n lab d) s k) (W .works k h));
         unused = row-unused n lab d s;
       }
 
-  abbrev end-place : (e : Ending) → place (ended e) (hops n lab d s) ≡ spot n lab d s (hops n lab d s)
-  end-place e = place-used e (hops n lab d s) (omega arith)
+  abbrev end-place : (e : Ending) → place (ended e) (hops n (route n lab d) s) ≡ spot (route n lab d) s (hops n (route n lab d) s)
+  end-place e = place-used e (hops n (route n lab d) s) (omega arith)
 
   -- a walk that delivers
   module _ (m : ℕ) (D : Delivers n lab d s m) where
@@ -143,10 +143,10 @@ module _ (K : Cabinet) (T : Table K) (s d : ℕ) (hs : Works K s) (hd : Works K 
     halted-stuck =
         rw is-halted (record { ending = refl; decided = rw (end-place ending.Halted) (H .ended); why = rw (end-place ending.Halted) why })
       where
-        why : (i : ℕ) → i < n → apart i (spot n lab d s (hops n lab d s)) d ≡ true → out K (flip i (spot n lab d s (hops n lab d s))) ≡ true
+        why : (i : ℕ) → i < n → apart i (spot (route n lab d) s (hops n (route n lab d) s)) d ≡ true → out K (flip i (spot (route n lab d) s (hops n (route n lab d) s))) ≡ true
         why i h a =
-            let x = flip i (spot n lab d s (hops n lab d s)) in
-            let l : x < 2 ^ n = flip-lt n i (spot n lab d s (hops n lab d s)) h (H .kept .works (hops n lab d s) (omega arith) .0) in
+            let x = flip i (spot (route n lab d) s (hops n (route n lab d) s)) in
+            let l : x < 2 ^ n = flip-lt n i (spot (route n lab d) s (hops n (route n lab d) s)) h (H .kept .works (hops n (route n lab d) s) (omega arith) .0) in
             ⊎-elim (λ (t : out K x ≡ true). t) (λ (t : out K x ≡ false). absurd (omega (arith, H .why i h a, T .working x l t)))
             (either (out K x))
 

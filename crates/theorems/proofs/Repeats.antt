@@ -47,11 +47,11 @@ onto-works n lab c d x h (arrived _) = h
 onto-works n lab c d x h (took _ _ p) = hit-works (p .hits)
 onto-works n lab c d x h (stopped _ _) = h
 
-spot-works : (n : ℕ) (lab : ℕ → ℕ) (d s : ℕ) → lab s ≤ 2 → (k : ℕ) → lab (spot n lab d s k) ≤ 2
+spot-works : (n : ℕ) (lab : ℕ → ℕ) (d s : ℕ) → lab s ≤ 2 → (k : ℕ) → lab (spot (route n lab d) s k) ≤ 2
 unfolding spot
 spot-works n lab d s h zero = h
 spot-works n lab d s h (suc k) =
-    onto-works n lab (spot n lab d s k) d (hop n lab (spot n lab d s k) d) (spot-works n lab d s h k) (picked n lab (spot n lab d s k) d)
+    onto-works n lab (spot (route n lab d) s k) d (hop n lab (spot (route n lab d) s k) d) (spot-works n lab d s h k) (picked n lab (spot (route n lab d) s k) d)
 
 -- ---- a walk that is not refused
 
@@ -60,7 +60,7 @@ module _ (n s d m room : ℕ) (lab : ℕ → ℕ) (ok : walkRefusal n s d m room
   G = walk-good n s d m room lab ok
 
   abbrev at : ℕ → ℕ
-  at = spot n lab d s
+  at = spot (route n lab d) s
 
   inside : (k : ℕ) → at k < 2 ^ n
   inside = spot-lt n lab d s (G .placed .first)
@@ -83,23 +83,23 @@ module _ (n s d m room : ℕ) (lab : ℕ → ℕ) (ok : walkRefusal n s d m room
       )
 
   -- the question after k hops
-  decides : (k : ℕ) (x : Decision) → turn n lab d s k ≡ x → Decides n d m lab (at k) x
+  decides : (k : ℕ) (x : Decision) → turn (route n lab d) s k ≡ x → Decides n d m lab (at k) x
   unfolding turn
   decides k x e = sym (hop-decides n (at k) d m lab x (unrefused k) (sym e))
 
   abbrev w : Walked
-  w = walkFrom n lab d s
+  w = walkFrom n (route n lab d) s
 
-  used : (k : ℕ) → k ≤ hops n lab d s → place w k ≡ at k
+  used : (k : ℕ) → k ≤ hops n (route n lab d) s → place w k ≡ at k
   unfolding walkFrom
   used = row-used n lab d s (G .placed .small)
 
-  steps : (k : ℕ) → k < hops n lab d s
+  steps : (k : ℕ) → k < hops n (route n lab d) s
       → (i : ℕ) × (i < n) × Decides n d m lab (place w k) (Hop i) × (place w (k + 1) ≡ flip i (place w k))
   unfolding turn stops
-  steps k h = go (turn n lab d s k) refl (hops-on n lab d s k h)
+  steps k h = go (turn (route n lab d) s k) refl (hops-on n lab d s k h)
     where
-      go : (x : Decision) → turn n lab d s k ≡ x → stops x ≡ false
+      go : (x : Decision) → turn (route n lab d) s k ≡ x → stops x ≡ false
           → (i : ℕ) × (i < n) × Decides n d m lab (place w k) (Hop i) × (place w (k + 1) ≡ flip i (place w k))
       go Deliver e f = absurd (clash refl f)
       go Halted e f = absurd (clash refl f)
@@ -110,17 +110,17 @@ module _ (n s d m room : ℕ) (lab : ℕ → ℕ) (ok : walkRefusal n s d m room
         used (k + 1) (omega arith) ∙ spot-next n lab d s k i e ∙ ap (flip i) (sym (used k (omega arith))),
       )
 
-  ends : (Decides n d m lab (place w (hops n lab d s)) Deliver × (endingOf (last n lab d s) ≡ ending.Delivered))
-      ⊎ (Decides n d m lab (place w (hops n lab d s)) Halted × (endingOf (last n lab d s) ≡ ending.Halted))
+  ends : (Decides n d m lab (place w (hops n (route n lab d) s)) Deliver × (endingOf (last n (route n lab d) s) ≡ ending.Delivered))
+      ⊎ (Decides n d m lab (place w (hops n (route n lab d) s)) Halted × (endingOf (last n (route n lab d) s) ≡ ending.Halted))
   unfolding last stops
-  ends = go (last n lab d s) refl (G .stops)
+  ends = go (last n (route n lab d) s) refl (G .stops)
     where
-      here : (x : Decision) → last n lab d s ≡ x → Decides n d m lab (place w (hops n lab d s)) x
-      here x e = rw (used (hops n lab d s) (omega arith)) (decides (hops n lab d s) x e)
+      here : (x : Decision) → last n (route n lab d) s ≡ x → Decides n d m lab (place w (hops n (route n lab d) s)) x
+      here x e = rw (used (hops n (route n lab d) s) (omega arith)) (decides (hops n (route n lab d) s) x e)
 
-      go : (x : Decision) → last n lab d s ≡ x → stops x ≡ true
-          → (Decides n d m lab (place w (hops n lab d s)) Deliver × (endingOf (last n lab d s) ≡ ending.Delivered))
-          ⊎ (Decides n d m lab (place w (hops n lab d s)) Halted × (endingOf (last n lab d s) ≡ ending.Halted))
+      go : (x : Decision) → last n (route n lab d) s ≡ x → stops x ≡ true
+          → (Decides n d m lab (place w (hops n (route n lab d) s)) Deliver × (endingOf (last n (route n lab d) s) ≡ ending.Delivered))
+          ⊎ (Decides n d m lab (place w (hops n (route n lab d) s)) Halted × (endingOf (last n (route n lab d) s) ≡ ending.Halted))
       go Deliver e f = inl (here Deliver e, ap endingOf e)
       go Halted e f = inr (here Halted e, ap endingOf e)
       go (Hop i) e f = absurd (clash f refl)

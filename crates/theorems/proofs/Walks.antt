@@ -28,17 +28,17 @@ use Rattle.theorems.proofs.Decision.{picked}
 -- ---- any walk: its steps are the decisions' own
 
 module _ (n : ℕ) (lab : ℕ → ℕ) (d s : ℕ) where
-  spot-suc : (k i : ℕ) → turn n lab d s k ≡ Hop i → spot n lab d s (suc k) ≡ flip i (spot n lab d s k)
-  spot-suc k i e = ap (spot n lab d s) (sym (add-one k)) ∙ spot-next n lab d s k i e
+  spot-suc : (k i : ℕ) → turn (route n lab d) s k ≡ Hop i → spot (route n lab d) s (suc k) ≡ flip i (spot (route n lab d) s k)
+  spot-suc k i e = ap (spot (route n lab d) s) (sym (add-one k)) ∙ spot-next n lab d s k i e
 
-  the-hops : Least (n + 4) (λ k. stops (turn n lab d s k))
-  the-hops = the-least (n + 4) (λ k. stops (turn n lab d s k))
+  the-hops : Least (n + 4) (λ k. stops (turn (route n lab d) s k))
+  the-hops = the-least (n + 4) (λ k. stops (turn (route n lab d) s k))
 
-  pub hops-on : (k : ℕ) → k < hops n lab d s → stops (turn n lab d s k) ≡ false
+  pub hops-on : (k : ℕ) → k < hops n (route n lab d) s → stops (turn (route n lab d) s k) ≡ false
   unfolding hops
   hops-on = the-hops .before
 
-  pub hops-end : hops n lab d s < n + 4 → stops (last n lab d s) ≡ true
+  pub hops-end : hops n (route n lab d) s < n + 4 → stops (last n (route n lab d) s) ≡ true
   unfolding hops last
   hops-end = the-hops .hit
 
@@ -66,30 +66,30 @@ module _ (n : ℕ) (lab : ℕ → ℕ) (d : ℕ) (hd : d < 2 ^ n) (measure : ℕ
     (s : ℕ) (ps : Inside n lab s) (fuel : measure s ≤ n + 4) where
   -- after k hops
   record On (k : ℕ) : Type 0 where
-    inside : Inside n lab (spot n lab d s k)
-    room : k + measure (spot n lab d s k) ≤ measure s
+    inside : Inside n lab (spot (route n lab d) s k)
+    room : k + measure (spot (route n lab d) s k) ≤ measure s
     extra : ℕ
-    even : k + dist (spot n lab d s k) d ≡ dist s d + 2 * extra
+    even : k + dist (spot (route n lab d) s k) d ≡ dist s d + 2 * extra
 
   -- what one hop does
   record Made (k : ℕ) : Type 0 where
     i : ℕ
     dim : i < n
-    decided : turn n lab d s k ≡ Hop i
-    inside : Inside n lab (flip i (spot n lab d s k))
-    falls : measure (flip i (spot n lab d s k)) < measure (spot n lab d s k)
-    is : spot n lab d s (suc k) ≡ flip i (spot n lab d s k)
+    decided : turn (route n lab d) s k ≡ Hop i
+    inside : Inside n lab (flip i (spot (route n lab d) s k))
+    falls : measure (flip i (spot (route n lab d) s k)) < measure (spot (route n lab d) s k)
+    is : spot (route n lab d) s (suc k) ≡ flip i (spot (route n lab d) s k)
 
-  made : (k : ℕ) → k < hops n lab d s → On k → Made k
+  made : (k : ℕ) → k < hops n (route n lab d) s → On k → Made k
   unfolding turn stops
-  made k h o = go (next n lab d hd measure Stuck P (spot n lab d s k) (o .inside))
+  made k h o = go (next n lab d hd measure Stuck P (spot (route n lab d) s k) (o .inside))
     where
-      go : Next n lab d hd measure Stuck P (spot n lab d s k) → Made k
+      go : Next n lab d hd measure Stuck P (spot (route n lab d) s k) → Made k
       go (arrive _ e) = absurd (clash (stops-is Deliver e refl) (hops-on n lab d s k h))
       go (stuck e _) = absurd (clash (stops-is Halted e refl) (hops-on n lab d s k h))
       go (move i hi e q l) = record { i = i; dim = hi; decided = e; inside = q; falls = l; is = spot-suc n lab d s k i e }
 
-  on : (k : ℕ) → k ≤ hops n lab d s → On k
+  on : (k : ℕ) → k ≤ hops n (route n lab d) s → On k
   on zero h =
       record {
         inside = rw (spot-zero n lab d s) ps;
@@ -101,55 +101,55 @@ module _ (n : ℕ) (lab : ℕ → ℕ) (d : ℕ) (hd : d < 2 ^ n) (measure : ℕ
     where
       go : On k → Made k → On (suc k)
       go o r =
-          let m = left (either (apart (r .i) (spot n lab d s k) d)) in
+          let m = left (either (apart (r .i) (spot (route n lab d) s k) d)) in
           record { inside = rw (r .is) (r .inside); room = omega (arith, ap measure (r .is)); extra = m .0; even = m .1 }
         where
-          left : (apart (r .i) (spot n lab d s k) d ≡ true) ⊎ (apart (r .i) (spot n lab d s k) d ≡ false)
-              → (m : ℕ) × (suc k + dist (spot n lab d s (suc k)) d ≡ dist s d + 2 * m)
+          left : (apart (r .i) (spot (route n lab d) s k) d ≡ true) ⊎ (apart (r .i) (spot (route n lab d) s k) d ≡ false)
+              → (m : ℕ) × (suc k + dist (spot (route n lab d) s (suc k)) d ≡ dist s d + 2 * m)
           left (inl a) =
-              let f = dist-fall n (r .i) (spot n lab d s k) d (o .inside .0) hd (r .dim) a in
+              let f = dist-fall n (r .i) (spot (route n lab d) s k) d (o .inside .0) hd (r .dim) a in
               (o .extra, omega (arith, o .even, ap (λ x. dist x d) (r .is)))
           left (inr a) =
-              let f = dist-rise n (r .i) (spot n lab d s k) d (o .inside .0) hd (r .dim) a in
+              let f = dist-rise n (r .i) (spot (route n lab d) s k) d (o .inside .0) hd (r .dim) a in
               (suc (o .extra), omega (arith, o .even, ap (λ x. dist x d) (r .is)))
 
   -- how it ends
-  end : ((last n lab d s ≡ Deliver) × (spot n lab d s (hops n lab d s) ≡ d)) ⊎ ((last n lab d s ≡ Halted) × Stuck (spot n lab d s (hops n lab d s)))
+  end : ((last n (route n lab d) s ≡ Deliver) × (spot (route n lab d) s (hops n (route n lab d) s) ≡ d)) ⊎ ((last n (route n lab d) s ≡ Halted) × Stuck (spot (route n lab d) s (hops n (route n lab d) s)))
   unfolding last turn stops
-  end = go (next n lab d hd measure Stuck P (spot n lab d s (hops n lab d s)) (o .inside)) (either (ltb (hops n lab d s) (n + 4)))
+  end = go (next n lab d hd measure Stuck P (spot (route n lab d) s (hops n (route n lab d) s)) (o .inside)) (either (ltb (hops n (route n lab d) s) (n + 4)))
     where
-      o : On (hops n lab d s)
-      o = on (hops n lab d s) (omega arith)
+      o : On (hops n (route n lab d) s)
+      o = on (hops n (route n lab d) s) (omega arith)
 
-      go : Next n lab d hd measure Stuck P (spot n lab d s (hops n lab d s))
-          → (ltb (hops n lab d s) (n + 4) ≡ true) ⊎ (ltb (hops n lab d s) (n + 4) ≡ false)
-          → ((last n lab d s ≡ Deliver) × (spot n lab d s (hops n lab d s) ≡ d)) ⊎ ((last n lab d s ≡ Halted) × Stuck (spot n lab d s (hops n lab d s)))
+      go : Next n lab d hd measure Stuck P (spot (route n lab d) s (hops n (route n lab d) s))
+          → (ltb (hops n (route n lab d) s) (n + 4) ≡ true) ⊎ (ltb (hops n (route n lab d) s) (n + 4) ≡ false)
+          → ((last n (route n lab d) s ≡ Deliver) × (spot (route n lab d) s (hops n (route n lab d) s) ≡ d)) ⊎ ((last n (route n lab d) s ≡ Halted) × Stuck (spot (route n lab d) s (hops n (route n lab d) s)))
       go (arrive q e) _ = inl (e, q)
       go (stuck e q) _ = inr (e, q)
-      go (move i hi e q l) (inl a) = absurd (clash (hops-end n lab d s (ltb-true (hops n lab d s) (n + 4) a)) (stops-is (Hop i) e refl))
-      go (move i hi e q l) (inr a) = absurd (omega (arith, o .room, ltb-false (hops n lab d s) (n + 4) a))
+      go (move i hi e q l) (inl a) = absurd (clash (hops-end n lab d s (ltb-true (hops n (route n lab d) s) (n + 4) a)) (stops-is (Hop i) e refl))
+      go (move i hi e q l) (inr a) = absurd (omega (arith, o .room, ltb-false (hops n (route n lab d) s) (n + 4) a))
 
 -- ---- the theorems
 
 -- the nodes of the walk work, and each hop is its decision's
 pub record Kept (n : ℕ) (lab : ℕ → ℕ) (d s : ℕ) : Type 0 where
-  pub works : (k : ℕ) → k ≤ hops n lab d s → Inside n lab (spot n lab d s k)
+  pub works : (k : ℕ) → k ≤ hops n (route n lab d) s → Inside n lab (spot (route n lab d) s k)
   pub steps :
-      (k : ℕ) → k < hops n lab d s → (i : ℕ) × (i < n) × (turn n lab d s k ≡ Hop i) × (spot n lab d s (suc k) ≡ flip i (spot n lab d s k))
+      (k : ℕ) → k < hops n (route n lab d) s → (i : ℕ) × (i < n) × (turn (route n lab d) s k ≡ Hop i) × (spot (route n lab d) s (suc k) ≡ flip i (spot (route n lab d) s k))
 
 -- delivered, with at most `most` pairs of hops more than the distance
 pub record Delivers (n : ℕ) (lab : ℕ → ℕ) (d s most : ℕ) : Type 0 where
-  pub ended : last n lab d s ≡ Deliver
-  pub there : spot n lab d s (hops n lab d s) ≡ d
+  pub ended : last n (route n lab d) s ≡ Deliver
+  pub there : spot (route n lab d) s (hops n (route n lab d) s) ≡ d
   pub extra : ℕ
   pub few : extra ≤ most
-  pub exact : hops n lab d s ≡ dist s d + 2 * extra
+  pub exact : hops n (route n lab d) s ≡ dist s d + 2 * extra
   pub kept : Kept n lab d s
 
 -- halted where no neighbour nearer the destination works
 pub record Halts (n : ℕ) (lab : ℕ → ℕ) (d s : ℕ) : Type 0 where
-  pub ended : last n lab d s ≡ Halted
-  pub why : (i : ℕ) → i < n → apart i (spot n lab d s (hops n lab d s)) d ≡ true → 2 < lab (flip i (spot n lab d s (hops n lab d s)))
+  pub ended : last n (route n lab d) s ≡ Halted
+  pub why : (i : ℕ) → i < n → apart i (spot (route n lab d) s (hops n (route n lab d) s)) d ≡ true → 2 < lab (flip i (spot (route n lab d) s (hops n (route n lab d) s)))
   pub kept : Kept n lab d s
 
 dist-le : (n s d : ℕ) → s < 2 ^ n → d < 2 ^ n → dist s d ≤ n
@@ -158,7 +158,7 @@ dist-le n s d hs hd = omega (arith, dist-count n s d hs hd, count-bound n (λ i.
 module _ (n : ℕ) (lab : ℕ → ℕ) (G : Good n lab) (d : ℕ) (hd : d < 2 ^ n) (wd : lab d ≤ 2) (s : ℕ) (hs : s < 2 ^ n) (ws : lab s ≤ 2) where
   -- what each theorem takes from its measure
   module _ (measure : ℕ → ℕ) (Stuck : ℕ → Type 0) (P : Progress n lab d measure Stuck) (fuel : measure s ≤ n + 4) where
-    abbrev here : (k : ℕ) → k ≤ hops n lab d s → On n lab d hd measure Stuck P s (hs, ws) fuel k
+    abbrev here : (k : ℕ) → k ≤ hops n (route n lab d) s → On n lab d hd measure Stuck P s (hs, ws) fuel k
     here = on n lab d hd measure Stuck P s (hs, ws) fuel
 
     kept : Kept n lab d s
@@ -168,9 +168,9 @@ module _ (n : ℕ) (lab : ℕ → ℕ) (G : Good n lab) (d : ℕ) (hd : d < 2 ^ 
           steps = λ k h. let r = made n lab d hd measure Stuck P s (hs, ws) fuel k h (here k (omega arith)) in (r .i, r .dim, r .decided, r .is);
         }
 
-    delivered : (m : ℕ) → measure s ≤ dist s d + (m + m + 1) → last n lab d s ≡ Deliver → spot n lab d s (hops n lab d s) ≡ d → Delivers n lab d s m
+    delivered : (m : ℕ) → measure s ≤ dist s d + (m + m + 1) → last n (route n lab d) s ≡ Deliver → spot (route n lab d) s (hops n (route n lab d) s) ≡ d → Delivers n lab d s m
     delivered m h e t =
-        let o = here (hops n lab d s) (omega arith) in
+        let o = here (hops n (route n lab d) s) (omega arith) in
         record {
           ended = e;
           there = t;
@@ -182,10 +182,10 @@ module _ (n : ℕ) (lab : ℕ → ℕ) (G : Good n lab) (d : ℕ) (hd : d < 2 ^ 
 
     -- it is delivered, or stuck
     outcome : (m : ℕ) → measure s ≤ dist s d + (m + m + 1)
-        → Delivers n lab d s m ⊎ ((last n lab d s ≡ Halted) × Stuck (spot n lab d s (hops n lab d s)))
+        → Delivers n lab d s m ⊎ ((last n (route n lab d) s ≡ Halted) × Stuck (spot (route n lab d) s (hops n (route n lab d) s)))
     outcome m h =
-        ⊎-elim (λ (e : (last n lab d s ≡ Deliver) × (spot n lab d s (hops n lab d s) ≡ d)). inl (delivered m h (e .0) (e .1)))
-        (λ (e : (last n lab d s ≡ Halted) × Stuck (spot n lab d s (hops n lab d s))). inr e)
+        ⊎-elim (λ (e : (last n (route n lab d) s ≡ Deliver) × (spot (route n lab d) s (hops n (route n lab d) s) ≡ d)). inl (delivered m h (e .0) (e .1)))
+        (λ (e : (last n (route n lab d) s ≡ Halted) × Stuck (spot (route n lab d) s (hops n (route n lab d) s))). inr e)
         (end n lab d hd measure Stuck P s (hs, ws) fuel)
 
   progress : GoodProgress n lab d
@@ -198,20 +198,20 @@ module _ (n : ℕ) (lab : ℕ → ℕ) (G : Good n lab) (d : ℕ) (hd : d < 2 ^ 
   pub delivers : (x : ℕ) → x < 2 ^ n → lab x ≡ 0 → Delivers n lab d s (lab s)
   delivers x hx ex =
       let far = rank-le lab d s in
-      ⊎-elim (λ (D : Delivers n lab d s (lab s)). D) (λ (e : (last n lab d s ≡ Halted) × ⊥). absurd (e .1))
+      ⊎-elim (λ (D : Delivers n lab d s (lab s)). D) (λ (e : (last n (route n lab d) s ≡ Halted) × ⊥). absurd (e .1))
       (outcome (rank lab d) (λ _. ⊥) (progress .by-rank x hx ex) (omega (arith, dist-le n s d hs hd)) (lab s) (omega arith))
 
   -- the destination is safe: delivered in exactly the distance
   pub delivers-safe : lab d ≡ 0 → Delivers n lab d s 0
   delivers-safe ed =
-      ⊎-elim (λ (D : Delivers n lab d s 0). D) (λ (e : (last n lab d s ≡ Halted) × ⊥). absurd (e .1))
+      ⊎-elim (λ (D : Delivers n lab d s 0). D) (λ (e : (last n (route n lab d) s ≡ Halted) × ⊥). absurd (e .1))
       (outcome (λ x. dist x d) (λ _. ⊥) (progress .to-safe ed) near 0 (omega arith))
 
   -- no node is safe: delivered in exactly the distance, or halted
   pub delivers-or-halts : ((x : ℕ) → x < 2 ^ n → lab x ≢ 0) → Delivers n lab d s 0 ⊎ Halts n lab d s
   delivers-or-halts none =
       ⊎-elim (λ (D : Delivers n lab d s 0). inl D)
-      (λ (e : (last n lab d s ≡ Halted) × Stuck (spot n lab d s (hops n lab d s))).
+      (λ (e : (last n (route n lab d) s ≡ Halted) × Stuck (spot (route n lab d) s (hops n (route n lab d) s))).
       inr (record { ended = e .0; why = e .1; kept = kept (λ x. dist x d) Stuck dark near }))
       (outcome (λ x. dist x d) Stuck dark near 0 (omega arith))
     where

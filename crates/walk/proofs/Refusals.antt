@@ -16,7 +16,7 @@ use Rattle.cube.proofs.Search.{none-some}
 use Rattle.hop.specs.Helpers.{Placed, placeRefusal, placeTests}
 use Rattle.hop.proofs.Refusals.{good-place, misplaced, well-placed}
 use Rattle.walk.specs.Helpers.{startRefusal, walkOrRefusal}
-use Rattle.walk.specs.Walk.{last, refused, rowBytes, stops, tableTests, walkFrom, walkRefusal, walkTests, walked}
+use Rattle.walk.specs.Walk.{last, refused, route, rowBytes, stops, tableTests, walkFrom, walkRefusal, walkTests, walked}
 use Rattle.walk.specs.declared.Walked.{Walked}
 use Rattle.walk.proofs.Steps.{hops-within}
 
@@ -28,7 +28,7 @@ module _ (n s d m room : ℕ) (lab : ℕ → ℕ) where
   before = placeTests n s d m wrong ++ tableTests n s d lab
 
   abbrev eight : List Test
-  eight = not (stops (last n lab d s)) ⇒ 8 ∷ []
+  eight = not (stops (last n (route n lab d) s)) ⇒ 8 ∷ []
 
   pub start-misplaced : (k : ℕ) → k ≡ placeRefusal n s d m wrong → (k ≡ 0 → ⊥) → startRefusal n s d m room lab ≡ k
   unfolding startRefusal
@@ -54,8 +54,8 @@ module _ (n s d m room : ℕ) (lab : ℕ → ℕ) where
   pub walk-starts : startRefusal n s d m room lab ≡ 0 → walkOrRefusal n lab d s ≡ walked n s d m room lab
   unfolding walked walkRefusal startRefusal walkOrRefusal first
   walk-starts e =
-      ⊎-elim (λ (t : stops (last n lab d s) ≡ true). rw (f, t)) (λ (t : stops (last n lab d s) ≡ false). rw (f, t))
-      (either (stops (last n lab d s)))
+      ⊎-elim (λ (t : stops (last n (route n lab d) s) ≡ true). rw (f, t)) (λ (t : stops (last n (route n lab d) s) ≡ false). rw (f, t))
+      (either (stops (last n (route n lab d) s)))
     where
       f : first (before ++ eight) ≡ first eight
       f = first-passes before eight (first-none 7 before refl e)
@@ -69,7 +69,7 @@ pub record WalkGood (n s d m room : ℕ) (lab : ℕ → ℕ) : Type 0 where
   pub low : (x : ℕ) → x < 2 ^ n → lab x ≤ highest
   pub source : lab s ≤ 2
   pub target : lab d ≢ 3
-  pub stops : stops (last n lab d s) ≡ true
+  pub stops : stops (last n (route n lab d) s) ≡ true
 
 module _ (n s d m room : ℕ) (lab : ℕ → ℕ) where
   pub walk-good : walkRefusal n s d m room lab ≡ 0 → WalkGood n s d m room lab

@@ -17,7 +17,7 @@ use Rattle.cube.proofs.Cube.{flip-lt}
 use Rattle.cube.proofs.Front.{front, front-zero, front-zeros, front-write}
 use Rattle.walk.specs.Helpers.{walkOrRefusal}
 use Rattle.hop.specs.Hop.{hop}
-use Rattle.walk.specs.Walk.{endingOf, onto, stops, spot, turn, hops, last, row, walkFrom, moved, refused}
+use Rattle.walk.specs.Walk.{endingOf, onto, stops, spot, turn, hops, last, route, row, walkFrom, moved, refused}
 use Rattle.hop.specs.declared.Decision.{Decision}
 use Rattle.hop.specs.declared.Decision.the-variants.{Hop}
 use Rattle.walk.specs.declared.Message.{Message}
@@ -27,23 +27,23 @@ pub record Walking (n : ℕ) (lab : ℕ → ℕ) (d s : ℕ) (places : List ℕ)
   pub few : m .hops ≤ n + 4
   pub inside : m .at < 2 ^ n
   pub towards : m .to ≡ d
-  pub here : spot n lab d s (m .hops) ≡ m .at
-  pub going : (j : ℕ) → j < m .hops → stops (turn n lab d s j) ≡ false
-  pub written : places ≡ front (spot n lab d s) (m .hops + 1) (replicate 17 0)
+  pub here : spot (route n lab d) s (m .hops) ≡ m .at
+  pub going : (j : ℕ) → j < m .hops → stops (turn (route n lab d) s j) ≡ false
+  pub written : places ≡ front (spot (route n lab d) s) (m .hops + 1) (replicate 17 0)
 
 module _ (n : ℕ) (lab : ℕ → ℕ) (d s : ℕ) where
-  pub spot-zero : spot n lab d s 0 ≡ s
+  pub spot-zero : spot (route n lab d) s 0 ≡ s
   unfolding spot
   spot-zero = refl
 
   -- the node one hop on
-  pub spot-next : (k i : ℕ) → turn n lab d s k ≡ Hop i → spot n lab d s (k + 1) ≡ flip i (spot n lab d s k)
+  pub spot-next : (k i : ℕ) → turn (route n lab d) s k ≡ Hop i → spot (route n lab d) s (k + 1) ≡ flip i (spot (route n lab d) s k)
   unfolding spot turn onto
-  spot-next k i e = ap (spot n lab d s) (add-one k) ∙ ap (λ x. onto x (spot n lab d s k)) e
+  spot-next k i e = ap (spot (route n lab d) s) (add-one k) ∙ ap (λ x. onto x (spot (route n lab d) s k)) e
 
-  pub hops-within : hops n lab d s ≤ n + 4
+  pub hops-within : hops n (route n lab d) s ≤ n + 4
   unfolding hops
-  hops-within = the-least (n + 4) (λ k. stops (turn n lab d s k)) .within
+  hops-within = the-least (n + 4) (λ k. stops (turn (route n lab d) s k)) .within
 
   pub start : s < 2 ^ n → Walking n lab d s (set (replicate 17 0) 0 s) (record { at = s; to = d; hops = 0 })
   start h =
@@ -54,19 +54,19 @@ module _ (n : ℕ) (lab : ℕ → ℕ) (d s : ℕ) where
         here = spot-zero;
         going = λ j l. absurd (omega arith);
         written =
-            front-write (spot n lab d s) 0 (replicate 17 0) (replicate 17 0) s (omega arith) (front-zero (spot n lab d s) (replicate 17 0))
+            front-write (spot (route n lab d) s) 0 (replicate 17 0) (replicate 17 0) s (omega arith) (front-zero (spot (route n lab d) s) (replicate 17 0))
             (sym spot-zero);
       }
 
   module _ (places : List ℕ) (m : Message) (w : Walking n lab d s places m) where
     -- the walk's decision here
-    turn-is : (x : Decision) → x ≡ hop n lab (m .at) (m .to) → turn n lab d s (m .hops) ≡ x
+    turn-is : (x : Decision) → x ≡ hop n lab (m .at) (m .to) → turn (route n lab d) s (m .hops) ≡ x
     unfolding turn
     turn-is x e = ap₂ (λ (y z : ℕ). hop n lab y z) (w .here) (sym (w .towards)) ∙ sym e
 
-    hops-is : (m .hops < n + 4 → stops (turn n lab d s (m .hops)) ≡ true) → hops n lab d s ≡ m .hops
+    hops-is : (m .hops < n + 4 → stops (turn (route n lab d) s (m .hops)) ≡ true) → hops n (route n lab d) s ≡ m .hops
     unfolding hops
-    hops-is = least-is (n + 4) (λ j. stops (turn n lab d s j)) (m .hops) (w .few) (w .going)
+    hops-is = least-is (n + 4) (λ j. stops (turn (route n lab d) s j)) (m .hops) (w .few) (w .going)
 
     module _ (i : ℕ) (e : Hop i ≡ hop n lab (m .at) (m .to)) where
       pub dimension : i < n
@@ -76,10 +76,10 @@ module _ (n : ℕ) (lab : ℕ → ℕ) (d s : ℕ) where
       unfolding moved
       counted m′ em = ap (λ (q : Message). q .hops) em
 
-      next-spot : spot n lab d s (m .hops + 1) ≡ flip i (m .at)
+      next-spot : spot (route n lab d) s (m .hops + 1) ≡ flip i (m .at)
       next-spot = spot-next (m .hops) i (turn-is (Hop i) e) ∙ ap (flip i) (w .here)
 
-      goes-on : stops (turn n lab d s (m .hops)) ≡ false
+      goes-on : stops (turn (route n lab d) s (m .hops)) ≡ false
       unfolding stops
       goes-on = ap stops (turn-is (Hop i) e)
 
@@ -93,7 +93,7 @@ module _ (n : ℕ) (lab : ℕ → ℕ) (d s : ℕ) where
             towards = w .towards;
             here = next-spot;
             going = below-more _ (m .hops) (w .going) goes-on;
-            written = front-write (spot n lab d s) (m .hops + 1) (replicate 17 0) places (flip i (m .at)) (omega arith) (w .written) (sym next-spot);
+            written = front-write (spot (route n lab d) s) (m .hops + 1) (replicate 17 0) places (flip i (m .at)) (omega arith) (w .written) (sym next-spot);
           })
 
       -- n + 4 hops are done, and the decision is another
@@ -111,7 +111,7 @@ module _ (n : ℕ) (lab : ℕ → ℕ) (d s : ℕ) where
         let z = hops-is (λ _. ap stops (turn-is x e) ∙ h) in
         rw (z, turn-is x e, h) (ap (λ (r : List ℕ). record { row = r; hops = m .hops; ending = endingOf x }) (w .written ∙ rest))
       where
-        rest : front (spot n lab d s) (m .hops + 1) (replicate 17 0) ≡ tab 17 (λ k. cond (leb k (m .hops)) (spot n lab d s k) 0)
+        rest : front (spot (route n lab d) s) (m .hops + 1) (replicate 17 0) ≡ tab 17 (λ k. cond (leb k (m .hops)) (spot (route n lab d) s k) 0)
         rest =
-            front-zeros (spot n lab d s) (λ k. leb k (m .hops)) (m .hops + 1) 17 (omega (arith, w .few)) (λ k l. le-leb k (m .hops) (omega arith))
+            front-zeros (spot (route n lab d) s) (λ k. leb k (m .hops)) (m .hops + 1) 17 (omega (arith, w .few)) (λ k l. le-leb k (m .hops) (omega arith))
             (λ k l. lt-leb k (m .hops) (omega arith))

@@ -6,7 +6,7 @@ use Prim.Native.Nat.{ℕ}
 use lib.Dec.{eqb}
 use Rattle.cube.specs.Refusal.{first}
 use Rattle.hop.specs.Helpers.{placeTests}
-use Rattle.walk.specs.Walk.{last, refused, rowBytes, stops, tableTests, walkFrom}
+use Rattle.walk.specs.Walk.{last, refused, route, rowBytes, stops, tableTests, walkFrom}
 use Rattle.walk.specs.declared.Walked.{Walked}
 
 -- the refusals of a walk but for 8: first those that need no label
@@ -15,4 +15,4 @@ startRefusal n s d m room lab = first (placeTests n s d m (not (eqb room rowByte
 
 -- the walk where these are past: refused with 8 where it would go on
 unfoldable pub walkOrRefusal : (n : ℕ) (lab : ℕ → ℕ) (d s : ℕ) → Walked
-walkOrRefusal n lab d s = cond (stops (last n lab d s)) (walkFrom n lab d s) (refused 8)
+walkOrRefusal n lab d s = cond (stops (last n (route n lab d) s)) (walkFrom n (route n lab d) s) (refused 8)

@@ -1,6 +1,6 @@
--- The walk: hops from the source until a decision is no hop. n is the dimension, lab the labels, d the destination, s the source.
--- It is given place by place: `spot` is the node after k hops and `turn` the decision there; the hop count, the row and the ending are read off them.
--- The question `walked` is asked of any label table: m is its length, and lab x the byte of node x.
+-- The walk: hops from the source until a decision is no hop. It is given place by place, for any way `go` of deciding at a node: `spot` is the node after k
+-- hops from s and `turn` the decision there; the hop count, the row and the ending are read off them. The walk of document 01 goes by the hop decision: n is
+-- the dimension, lab the labels and d the destination. The question `walked` is asked of any label table: m is its length, and lab x the byte of node x.
 use mathlib.Core.Bool.{Bool, true, false, cond, not}
 use mathlib.Core.List.{List, [], _∷_, _++_}
 use Prim.Native.Nat.{ℕ, zero, suc, _+_, _^_}
@@ -31,25 +31,29 @@ stops (Hop i) = false
 stops Halted = true
 
 -- the node after k hops
-unfoldable pub spot : (n : ℕ) (lab : ℕ → ℕ) (d s k : ℕ) → ℕ
-spot n lab d s zero = s
-spot n lab d s (suc k) = let x : ℕ = spot n lab d s k in onto (hop n lab x d) x
+unfoldable pub spot : (go : ℕ → Decision) (s k : ℕ) → ℕ
+spot go s zero = s
+spot go s (suc k) = let x : ℕ = spot go s k in onto (go x) x
 
 -- the decision after k hops
-unfoldable pub turn : (n : ℕ) (lab : ℕ → ℕ) (d s k : ℕ) → Decision
-turn n lab d s k = hop n lab (spot n lab d s k) d
+unfoldable pub turn : (go : ℕ → Decision) (s k : ℕ) → Decision
+turn go s k = go (spot go s k)
 
 -- how many hops: up to the first decision that is no hop, and at most n + 4
-unfoldable pub hops : (n : ℕ) (lab : ℕ → ℕ) (d s : ℕ) → ℕ
-hops n lab d s = least (n + 4) (λ k. stops (turn n lab d s k))
+unfoldable pub hops : (n : ℕ) (go : ℕ → Decision) (s : ℕ) → ℕ
+hops n go s = least (n + 4) (λ k. stops (turn go s k))
 
 -- the decision after the last hop
-unfoldable pub last : (n : ℕ) (lab : ℕ → ℕ) (d s : ℕ) → Decision
-last n lab d s = turn n lab d s (hops n lab d s)
+unfoldable pub last : (n : ℕ) (go : ℕ → Decision) (s : ℕ) → Decision
+last n go s = turn go s (hops n go s)
 
 -- the 17 places of the row: the nodes visited, and zeros
-unfoldable pub row : (n : ℕ) (lab : ℕ → ℕ) (d s : ℕ) → List ℕ
-row n lab d s = tab 17 (λ k. cond (leb k (hops n lab d s)) (spot n lab d s k) 0)
+unfoldable pub row : (n : ℕ) (go : ℕ → Decision) (s : ℕ) → List ℕ
+row n go s = tab 17 (λ k. cond (leb k (hops n go s)) (spot go s k) 0)
+
+-- the hop decision on the way to d
+abbrev pub route : (n : ℕ) (lab : ℕ → ℕ) (d : ℕ) → ℕ → Decision
+route n lab d x = hop n lab x d
 
 -- ---- the question
 
@@ -69,7 +73,7 @@ tableTests n s d lab =
 abbrev pub walkTests : (n s d m room : ℕ) (lab : ℕ → ℕ) → List Test
 walkTests n s d m room lab =
     sizeTests n m ++ (not (eqb room rowBytes) ⇒ 2 ∷ nodeTests n s d)
-    ++ (tableTests n s d lab ++ (not (stops (last n lab d s)) ⇒ 8 ∷ []))
+    ++ (tableTests n s d lab ++ (not (stops (last n (route n lab d) s)) ⇒ 8 ∷ []))
 
 unfoldable pub walkRefusal : (n s d m room : ℕ) (lab : ℕ → ℕ) → ℕ
 walkRefusal n s d m room lab = first (walkTests n s d m room lab)
@@ -81,14 +85,14 @@ endingOf (Hop i) = ending.Refused 8
 endingOf Halted = ending.Halted
 
 -- the answer: the walk, or the refusal, which has hop count 0 and a row of zeros
-unfoldable pub walkFrom : (n : ℕ) (lab : ℕ → ℕ) (d s : ℕ) → Walked
-walkFrom n lab d s = record { row = row n lab d s; hops = hops n lab d s; ending = endingOf (last n lab d s) }
+unfoldable pub walkFrom : (n : ℕ) (go : ℕ → Decision) (s : ℕ) → Walked
+walkFrom n go s = record { row = row n go s; hops = hops n go s; ending = endingOf (last n go s) }
 
 unfoldable pub refused : ℕ → Walked
 refused k = record { row = replicate 17 0; hops = 0; ending = ending.Refused k }
 
 unfoldable pub walked : (n s d m room : ℕ) (lab : ℕ → ℕ) → Walked
-walked n s d m room lab = cond (eqb (walkRefusal n s d m room lab) 0) (walkFrom n lab d s) (refused (walkRefusal n s d m room lab))
+walked n s d m room lab = cond (eqb (walkRefusal n s d m room lab) 0) (walkFrom n (route n lab d) s) (refused (walkRefusal n s d m room lab))
 
 -- the travelling message one hop on, across dimension i
 unfoldable pub moved : Message → ℕ → Message
