@@ -1,6 +1,6 @@
 -- Demand 2, of the bytes that labelling writes: byte 0 stands exactly at the safe nodes, so what holds of these holds of the bytes.
 use mathlib.Core.Bool.{Bool, true, false, not}
-use mathlib.Core.Logic.{⊎-elim}
+use mathlib.Core.Logic.{inl, inr, ⊎-elim}
 use mathlib.Core.Path.{_≡_, sym, ap, _∙_}
 use Prim.Native.Nat.{ℕ, _^_, _≤_, _<_}
 use native.Mathlib.Numerals.{add-one}
@@ -8,10 +8,11 @@ use native.Mathlib.Omega.{arith}
 use lib.Dec.{eqb}
 use borrow.Author.Tests.{eq-eqb, eqb-true, not-true}
 use Rattle.cube.specs.Cube.{flip}
-use Rattle.cube.proofs.Bools.{either, clash, is-false, or-false}
+use Rattle.cube.specs.Tables.{nodeBit}
+use Rattle.cube.proofs.Bools.{and-both, and-true, either, clash, is-false, or-false, or-left, or-right}
 use Rattle.cube.proofs.Count.{count-same}
 use Rattle.cube.proofs.Cube.{flip-lt}
-use Rattle.rule.specs.Cabinet.{Cabinet, exchangesOf, out, outByte}
+use Rattle.rule.specs.Cabinet.{Cabinet, drains, exchangesOf, faulty, out, outByte}
 use Rattle.rule.specs.Closed.{Closed, Largest}
 use Rattle.rule.specs.Exchanges.{Exchanges}
 use Rattle.rule.specs.Rule.{label, marked, rounds, exchanges, safe}
@@ -20,6 +21,7 @@ use Rattle.rule.proofs.Cabinet.{label-in, out-high}
 use Rattle.rule.proofs.Exchanges.{exchanged}
 use Rattle.rule.proofs.Largest.{safe-largest}
 use Rattle.rule.proofs.Rounds.{rested}
+use Rattle.scans.specs.Progress.{Receives}
 use Rattle.theorems.specs.Demand2.{Demand2}
 use Rattle.theorems.specs.Words.{labelAt}
 
@@ -53,9 +55,17 @@ module _ (K : Cabinet) where
       (λ (t : S x ≡ false). is-false (λ u. clash (zero-is x h (eqb-true (labelAt K x) 0 u)) t) ∙ sym t)
       (either (S x))
 
-  pub faulty : (x : ℕ) → x < 2 ^ n → out K x ≡ true → labelAt K x ≡ 3
+  pub out-label : (x : ℕ) → x < 2 ^ n → out K x ≡ true → labelAt K x ≡ outByte K x
   unfolding label
-  faulty x h e = label-in K x h ∙ out-byte n (out K) (outByte K) S x e
+  out-label x h e = label-in K x h ∙ out-byte n (out K) (outByte K) S x e
+
+  pub is-faulty : (x : ℕ) → x < 2 ^ n → faulty K x ≡ true → labelAt K x ≡ 3
+  is-faulty x h e = out-label x h (or-left _ e) ∙ rw e
+
+  pub is-draining : (x : ℕ) → x < 2 ^ n → drains K x ≡ true → labelAt K x ≡ 4
+  is-draining x h e =
+      let r = and-true (not (faulty K x)) _ e in
+      out-label x h (or-right (faulty K x) (r .1)) ∙ rw (not-true _ (r .0))
 
   pub works : (x : ℕ) → x < 2 ^ n → out K x ≡ false → labelAt K x ≤ 2
   unfolding label
@@ -63,6 +73,12 @@ module _ (K : Cabinet) where
     where
       below : ¬ (3 ≤ labelAt K x)
       below l = clash (byte-out n (out K) (outByte K) S (C .works) (out-high K) x (omega (arith, label-in K x h))) e
+
+  -- so one that is not faulty works or drains, by its label
+  pub receives : (x : ℕ) → x < 2 ^ n → faulty K x ≡ false → Receives (labelAt K x)
+  receives x h e =
+      ⊎-elim (λ (t : nodeBit (K .draining) x ≡ true). inr (is-draining x h (and-both (ap not e) t)))
+      (λ (t : nodeBit (K .draining) x ≡ false). inl (works x h (rw (e, t)))) (either (nodeBit (K .draining) x))
 
   ordinary : (x : ℕ) → x < 2 ^ n → labelAt K x ≡ 1 → (i : ℕ) × (i < n) × (labelAt K (flip i x) ≡ 0)
   unfolding label
@@ -107,7 +123,8 @@ module _ (K : Cabinet) where
           );
         };
         largest = λ H closed x h e. is-zero x h (L .largest H closed x h e);
-        faulty = faulty;
+        faulty = is-faulty;
+        drains = is-draining;
         works = works;
         ordinary = ordinary;
         strong = strong;

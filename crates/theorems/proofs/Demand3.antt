@@ -14,12 +14,13 @@ use Rattle.cube.specs.Tables.{highest, isDimension}
 use Rattle.cube.proofs.Bools.{either, is-false}
 use Rattle.cube.proofs.Search.{find, some-none}
 use Rattle.cube.proofs.Cube.{flip-lt}
-use Rattle.rule.specs.Cabinet.{Cabinet, labelsOf, out}
+use Rattle.rule.specs.Cabinet.{Cabinet, faulty, labelsOf, out}
 use Rattle.rule.specs.Good.{Good}
-use Rattle.rule.proofs.Cabinet.{label-bytes, labels-length, table-good}
-use Rattle.scans.specs.Progress.{Inside}
+use Rattle.rule.proofs.Cabinet.{label-bytes, labels-length, out-high, table-good}
+use Rattle.scans.specs.Hit.{Draining}
+use Rattle.scans.specs.Progress.{Receives}
 use Rattle.labels.proofs.Refusal.{fitting}
-use Rattle.walk.specs.Walk.{endingOf, spot, turn, hops, last, row, rowBytes, stops, walkFrom, walkRefusal, walked}
+use Rattle.walk.specs.Walk.{endingOf, spot, turn, hops, last, route, row, rowBytes, stops, walkFrom, walkRefusal, walked}
 use Rattle.hop.specs.declared.Decision.{Decision}
 use Rattle.hop.specs.declared.Decision.the-variants.{Deliver, Halted}
 use Rattle.walk.specs.declared.Ending.{Ending}
@@ -27,8 +28,8 @@ use Rattle.walk.specs.declared.Ending.the-variants as ending
 use Rattle.walk.specs.declared.Walked.{Walked}
 use Rattle.walk.proofs.Steps.{spot-zero}
 use Rattle.theorems.specs.Demand3.{Stepped, Arrives, Stuck, Walks, Demand3}
-use Rattle.theorems.specs.Words.{Accepted, Works, labelAt, SomeSafe, walkOf, place}
-use Rattle.theorems.proofs.Demand2.{faulty, works}
+use Rattle.theorems.specs.Words.{Accepted, Takes, Works, labelAt, SomeSafe, walkOf, place}
+use Rattle.theorems.proofs.Demand2.{out-label, receives, works}
 use Rattle.theorems.proofs.Places.{row-unused, row-used}
 use Rattle.theorems.proofs.Walks.{Kept, Delivers, Halts, delivers, delivers-safe, delivers-or-halts}
 
@@ -38,7 +39,8 @@ record Table (K : Cabinet) : Type 0 where
   small : K .n ≤ 12
   sized : length (labelsOf K) ≡ 2 ^ K .n
   good : Good (K .n) (labelAt K)
-  faulty : (x : ℕ) → x < 2 ^ K .n → out K x ≡ true → labelAt K x ≡ 3
+  out-high : (x : ℕ) → x < 2 ^ K .n → out K x ≡ true → 3 ≤ labelAt K x
+  receives : (x : ℕ) → x < 2 ^ K .n → faulty K x ≡ false → Receives (labelAt K x)
   working : (x : ℕ) → x < 2 ^ K .n → out K x ≡ false → labelAt K x ≤ 2
 
 table : (K : Cabinet) → Accepted K → Table K
@@ -49,16 +51,23 @@ table K ok =
       small = f .small;
       sized = labels-length K;
       good = table-good K (f .rule .1);
-      faulty = faulty K;
+      out-high = λ x h e. omega (arith, out-label K x h e, out-high K x e);
+      receives = receives K;
       working = works K;
     }
 
-module _ (K : Cabinet) (T : Table K) (s d : ℕ) (hs : Works K s) (hd : Works K d) where
+module _ (K : Cabinet) (T : Table K) (s d : ℕ) (hs : Works K s) (hd : Takes K d) where
   abbrev n : ℕ
   n = K .n
 
   abbrev lab : ℕ → ℕ
   lab = labelAt K
+
+  abbrev ws : lab s ≤ 2
+  ws = T .working s (hs .0) (hs .1)
+
+  abbrev wd : Receives (lab d)
+  wd = T .receives d (hd .0) (hd .1)
 
   -- ---- the walk is not refused, where its last decision is no hop
 
@@ -71,8 +80,8 @@ module _ (K : Cabinet) (T : Table K) (s d : ℕ) (hs : Works K s) (hd : Works K 
         lt-leb (2 ^ n) s (hs .0),
         lt-leb (2 ^ n) d (hd .0),
         some-none (2 ^ n) (λ x. ltb highest (lab x)) (λ x h. le-ltb highest (lab x) (label-bytes K x h)),
-        ne-eqb (lab s) 3 (λ e. omega (arith, T .working s (hs .0) (hs .1))),
-        ne-eqb (lab d) 3 (λ e. omega (arith, T .working d (hd .0) (hd .1))),
+        lt-leb 3 (lab s) (omega (arith, ws)),
+        ne-eqb (lab d) 3 (λ e. ⊎-elim (λ (l : lab d ≤ 2). omega arith) (λ (q : Draining (lab d)). omega arith) wd),
         e,
       )
 
@@ -89,8 +98,11 @@ module _ (K : Cabinet) (T : Table K) (s d : ℕ) (hs : Works K s) (hd : Works K 
   place-used : (e : Ending) (k : ℕ) → k ≤ hops n (route n lab d) s → place (ended e) k ≡ spot (route n lab d) s k
   place-used e = row-used n lab d s (T .small)
 
-  works-at : (x : ℕ) → Inside n lab x → Works K x
-  works-at x p = (p .0, is-false (λ t. omega (arith, T .faulty x (p .0) t)))
+  abbrev end-place : (e : Ending) → place (ended e) (hops n (route n lab d) s) ≡ spot (route n lab d) s (hops n (route n lab d) s)
+  end-place e = place-used e (hops n (route n lab d) s) (omega arith)
+
+  works-at : (x : ℕ) → x < 2 ^ n → lab x ≤ 2 → Works K x
+  works-at x h l = (h, is-false (λ t. omega (arith, T .out-high x h t)))
 
   stepped : (e : Ending) → Kept n lab d s → Stepped K lab d s (ended e)
   unfolding turn
@@ -104,12 +116,13 @@ module _ (K : Cabinet) (T : Table K) (s d : ℕ) (hs : Works K s) (hd : Works K 
           place-used e (k + 1) (omega arith) ∙ ap (spot (route n lab d) s) (add-one k) ∙ r .3
               ∙ ap (flip (r .0)) (sym (place-used e k (omega arith))),
         );
-        works = λ k h. rw (place-used e k h) (works-at (spot (route n lab d) s k) (W .works k h));
+        works = λ k h. let r = W .works k h in rw (place-used e k (omega arith)) (works-at (spot (route n lab d) s k) (r .0) (r .1));
+        last-works =
+            let r = W .end in
+            rw (end-place e)
+            (⊎-elim (λ (l : lab (spot (route n lab d) s (hops n (route n lab d) s)) ≤ 2). inl (works-at _ (r .0) l)) (λ q. inr q) (r .1));
         unused = row-unused n lab d s;
       }
-
-  abbrev end-place : (e : Ending) → place (ended e) (hops n (route n lab d) s) ≡ spot (route n lab d) s (hops n (route n lab d) s)
-  end-place e = place-used e (hops n (route n lab d) s) (omega arith)
 
   -- a walk that delivers
   module _ (m : ℕ) (D : Delivers n lab d s m) where
@@ -146,21 +159,21 @@ module _ (K : Cabinet) (T : Table K) (s d : ℕ) (hs : Works K s) (hd : Works K 
         why : (i : ℕ) → i < n → apart i (spot (route n lab d) s (hops n (route n lab d) s)) d ≡ true → out K (flip i (spot (route n lab d) s (hops n (route n lab d) s))) ≡ true
         why i h a =
             let x = flip i (spot (route n lab d) s (hops n (route n lab d) s)) in
-            let l : x < 2 ^ n = flip-lt n i (spot (route n lab d) s (hops n (route n lab d) s)) h (H .kept .works (hops n (route n lab d) s) (omega arith) .0) in
+            let l : x < 2 ^ n = flip-lt n i (spot (route n lab d) s (hops n (route n lab d) s)) h (H .kept .end .0) in
             ⊎-elim (λ (t : out K x ≡ true). t) (λ (t : out K x ≡ false). absurd (omega (arith, H .why i h a, T .working x l t)))
             (either (out K x))
 
   -- ---- the demand
 
   by-rank : SomeSafe n lab → Delivers n lab d s (lab s)
-  by-rank x = delivers n lab (T .good) d (hd .0) (T .working d (hd .0) (hd .1)) s (hs .0) (T .working s (hs .0) (hs .1)) (x .0) (x .1) (x .2)
+  by-rank x = delivers n lab (T .good) d (hd .0) wd s (hs .0) ws (x .0) (x .1) (x .2)
 
   to-safe : lab d ≡ 0 → Delivers n lab d s 0
-  to-safe = delivers-safe n lab (T .good) d (hd .0) (T .working d (hd .0) (hd .1)) s (hs .0) (T .working s (hs .0) (hs .1))
+  to-safe = delivers-safe n lab (T .good) d (hd .0) wd s (hs .0) ws
 
   by-distance : (SomeSafe n lab → ⊥) → Delivers n lab d s 0 ⊎ Halts n lab d s
   by-distance none =
-      delivers-or-halts n lab (T .good) d (hd .0) (T .working d (hd .0) (hd .1)) s (hs .0) (T .working s (hs .0) (hs .1))
+      delivers-or-halts n lab (T .good) d (hd .0) wd s (hs .0) ws
       (λ x h e. none (x, h, e))
 
   at-most : SomeSafe n lab → walkOf K s d .hops ≤ dist s d + 2 * lab s

@@ -9,7 +9,7 @@ use lib.ListN.{getD, List·getD-eq-default}
 use borrow.Author.Tests.{le-leb, lt-leb, ltb-false, ltb-true}
 use Rattle.cube.proofs.Front.{getD-tab, length-tab}
 use Rattle.cube.proofs.Bools.{either}
-use Rattle.walk.specs.Walk.{hops, row, spot}
+use Rattle.walk.specs.Walk.{hops, route, row, spot}
 use Rattle.walk.proofs.Steps.{hops-within}
 
 pub row-used : (n : ℕ) (lab : ℕ → ℕ) (d s : ℕ) → n ≤ 12 → (k : ℕ) → k ≤ hops n (route n lab d) s → getD (row n (route n lab d) s) k 0 ≡ spot (route n lab d) s k

@@ -1,11 +1,12 @@
--- A walk that is not refused repeats the hop question. It stays in the cube, and no scan hits a faulty neighbour, so it stays off label 3 where its source
--- is; all labels are in order, so the question is refused nowhere on the way, and its decision is the walk's own.
+-- A walk that is not refused repeats the hop question. It stays in the cube, and no scan hits a faulty or draining neighbour but scan 0, which hits the
+-- destination: so it stays off labels 3 and 4, as its source is, but for a destination that drains; all labels are in order, so the question is refused nowhere on
+-- the way, and its decision is the walk's own.
 use mathlib.Core.Path.{_≡_, refl, sym, ap, _∙_}
-use mathlib.Core.Logic.{_⊎_, inl, inr}
-use mathlib.Core.Bool.{true, false}
+use mathlib.Core.Logic.{_⊎_, inl, inr, ⊎-elim}
+use mathlib.Core.Bool.{true, false, not, _&&_, and-false}
 use Prim.Native.Nat.{ℕ, zero, suc, _+_, _^_, _≤_, _<_}
 use native.Mathlib.Omega.{arith}
-use lib.Dec.{ltb}
+use lib.Dec.{eqb, ltb}
 use borrow.Author.Tests.{eq-eqb, le-ltb, lt-leb, ne-eqb}
 use Rattle.cube.specs.Cube.{flip}
 use Rattle.cube.specs.Refusal.{first}
@@ -13,13 +14,13 @@ use Rattle.cube.specs.Tables.{highest}
 use Rattle.cube.proofs.Bools.{clash}
 use Rattle.cube.proofs.Cube.{flip-lt}
 use Rattle.cube.proofs.Search.{some-none}
-use Rattle.scans.specs.Hit.{Hit, scan1, scan2, scan3, scan4, scan5}
+use Rattle.scans.specs.Hit.{Hit, scan0, scan1, scan2, scan3, scan4, scan5}
 use Rattle.hop.specs.Hop.{hop, hopRefusal}
 use Rattle.hop.specs.declared.Decision.{Decision}
 use Rattle.hop.specs.declared.Decision.the-variants.{Deliver, Hop, Halted}
 use Rattle.hop.proofs.Local.{hop-dim}
 use Rattle.hop.proofs.Refusals.{hop-decides}
-use Rattle.walk.specs.Walk.{endingOf, hops, last, onto, spot, stops, turn, walkFrom, walkRefusal, walked}
+use Rattle.walk.specs.Walk.{endingOf, hops, last, onto, route, spot, stops, turn, walkFrom, walkRefusal, walked}
 use Rattle.walk.specs.declared.Ending.the-variants as ending
 use Rattle.walk.specs.declared.Walked.{Walked}
 use Rattle.walk.proofs.Local.{spot-lt}
@@ -30,24 +31,28 @@ use Rattle.theorems.specs.Repeats.{Decides, Repeats, WalkRepeats}
 use Rattle.theorems.specs.Words.{place}
 use Rattle.theorems.proofs.Decision.{picked}
 use Rattle.theorems.proofs.Places.{row-unused, row-used}
-use Rattle.theorems.proofs.Walks.{hops-on}
+use Rattle.theorems.proofs.Walks.{hops-on, not-there}
 
--- ---- no hop enters a node that is labelled faulty, whatever the table
+-- ---- no hop enters a node that is labelled faulty or draining but the destination, whatever the table
 
-hit-works : {lab : ℕ → ℕ} {c d s i : ℕ} → Hit lab c d s i → lab (flip i c) ≤ 2
-hit-works (scan1 _ e) = omega (arith, e)
-hit-works (scan2 _ l) = omega (arith, l)
-hit-works (scan3 _ l _) = l
-hit-works (scan4 _ e) = omega (arith, e)
-hit-works (scan5 _ l) = omega (arith, l)
+abbrev Works : (lab : ℕ → ℕ) (d x : ℕ) → Type 0
+Works lab d x = (lab x ≤ 2) ⊎ (x ≡ d)
 
-onto-works : (n : ℕ) (lab : ℕ → ℕ) (c d : ℕ) (x : Decision) → lab c ≤ 2 → Picked n lab c d x → lab (onto x c) ≤ 2
+hit-works : {lab : ℕ → ℕ} {c d s i : ℕ} → Hit lab c d s i → Works lab d (flip i c)
+hit-works (scan0 e _) = inr e
+hit-works (scan1 _ e) = inl (omega (arith, e))
+hit-works (scan2 _ l) = inl (omega (arith, l))
+hit-works (scan3 _ l _) = inl l
+hit-works (scan4 _ e) = inl (omega (arith, e))
+hit-works (scan5 _ l) = inl (omega (arith, l))
+
+onto-works : (n : ℕ) (lab : ℕ → ℕ) (c d : ℕ) (x : Decision) → Works lab d c → Picked n lab c d x → Works lab d (onto x c)
 unfolding onto
 onto-works n lab c d x h (arrived _) = h
 onto-works n lab c d x h (took _ _ p) = hit-works (p .hits)
 onto-works n lab c d x h (stopped _ _) = h
 
-spot-works : (n : ℕ) (lab : ℕ → ℕ) (d s : ℕ) → lab s ≤ 2 → (k : ℕ) → lab (spot (route n lab d) s k) ≤ 2
+spot-works : (n : ℕ) (lab : ℕ → ℕ) (d s : ℕ) → Works lab d s → (k : ℕ) → Works lab d (spot (route n lab d) s k)
 unfolding spot
 spot-works n lab d s h zero = h
 spot-works n lab d s h (suc k) =
@@ -65,8 +70,15 @@ module _ (n s d m room : ℕ) (lab : ℕ → ℕ) (ok : walkRefusal n s d m room
   inside : (k : ℕ) → at k < 2 ^ n
   inside = spot-lt n lab d s (G .placed .first)
 
-  works : (k : ℕ) → lab (at k) ≤ 2
-  works = spot-works n lab d s (omega (arith, G .low s (G .placed .first), G .source))
+  works : (k : ℕ) → Works lab d (at k)
+  works = spot-works n lab d s (inl (G .source))
+
+  -- so 6 is given nowhere on the way
+  not-six : (k : ℕ) → (eqb (lab (at k)) 3 ≡ false) × ((eqb (lab (at k)) 4 && not (eqb (at k) d)) ≡ false)
+  not-six k =
+      ⊎-elim (λ (l : lab (at k) ≤ 2). (ne-eqb (lab (at k)) 3 (λ e. omega arith), rw (ne-eqb (lab (at k)) 4 (λ e. omega arith))))
+      (λ (e : at k ≡ d). (ne-eqb (lab (at k)) 3 (λ q. G .target (ap lab (sym e) ∙ q)), rw (eq-eqb (at k) d e) (and-false (eqb (lab (at k)) 4))))
+      (works k)
 
   unrefused : (k : ℕ) → hopRefusal n (at k) d m lab ≡ 0
   unfolding hopRefusal first
@@ -79,7 +91,8 @@ module _ (n s d m room : ℕ) (lab : ℕ → ℕ) (ok : walkRefusal n s d m room
         le-ltb highest (lab (at k)) (G .low (at k) (inside k)),
         some-none n (λ i. ltb highest (lab (flip i (at k))))
             (λ i h. le-ltb highest (lab (flip i (at k))) (G .low (flip i (at k)) (flip-lt n i (at k) h (inside k)))),
-        ne-eqb (lab (at k)) 3 (λ e. omega (arith, works k)),
+        not-six k .0,
+        not-six k .1,
       )
 
   -- the question after k hops
@@ -133,7 +146,9 @@ module _ (n s d m room : ℕ) (lab : ℕ → ℕ) (ok : walkRefusal n s d m room
     ends = ends;
     few = hops-within n lab d s;
     unused = row-unused n lab d s;
-    enters = λ k h. rw (used k h) (works k);
+    enters = λ k h.
+        rw (used k (omega arith)) (⊎-elim (λ (l : lab (at k) ≤ 2). l) (λ (e : at k ≡ d). absurd (not-there n lab d s k h e)) (works k));
+    ends-in = rw (used (hops n (route n lab d) s) (omega arith)) (works (hops n (route n lab d) s));
   })
 
 pub walk-repeats : WalkRepeats

@@ -9,11 +9,10 @@ use native.Mathlib.Omega.{arith}
 use lib.Dec.{eqb}
 use borrow.Author.Tests.{eqb-false, eqb-true}
 use Rattle.cube.specs.Cube.{dist, flip}
-use Rattle.cube.specs.Tables.{nodeBit}
 use Rattle.cube.proofs.Bools.{either, is-false}
 use Rattle.cube.proofs.Cube.{flip-lt}
 use Rattle.cube.proofs.Search.{find}
-use Rattle.rule.specs.Cabinet.{Cabinet, cabinet, out}
+use Rattle.rule.specs.Cabinet.{Cabinet, cabinet, out, outByte}
 use Rattle.rule.proofs.Cabinet.{label-in, labels-length}
 use Rattle.rule.proofs.Rules.{rules}
 use Rattle.walk.specs.Walk.{rowBytes, walked}
@@ -22,8 +21,8 @@ use Rattle.walk.specs.declared.Walked.{Walked}
 use Rattle.walk.proofs.Local.{walk-local}
 use Rattle.theorems.specs.Demand3.{Walks}
 use Rattle.theorems.specs.TwoRules.{OnlyBetter, TwoRules, more}
-use Rattle.theorems.specs.Words.{Accepted, SomeSafe, Works, labelAt, walkOf}
-use Rattle.theorems.proofs.Demand2.{demand2, faulty, works, zero-is}
+use Rattle.theorems.specs.Words.{Accepted, SomeSafe, Takes, Works, labelAt, walkOf}
+use Rattle.theorems.proofs.Demand2.{demand2, out-label, works, zero-is}
 use Rattle.theorems.proofs.Demand3.{demand3}
 
 -- a label is never negative, so where none is larger a safe node stays safe and no bound grows
@@ -47,15 +46,15 @@ within K lab s d w W some =
     (λ (a : eqb (lab d) 0 ≡ false). let e = W .even (W .arrives some .ending) in rw a (omega (arith, e .1, e .2)))
     (either (eqb (lab d) 0))
 
-module _ (n : ℕ) (faults : List ℕ) where
+module _ (n : ℕ) (faults draining : List ℕ) where
   abbrev old : Cabinet
-  old = cabinet n 2 faults
+  old = cabinet n 2 faults draining
 
   abbrev new : Cabinet
-  new = cabinet n 3 faults
+  new = cabinet n 3 faults draining
 
   falls : (x : ℕ) → x < 2 ^ n → labelAt new x ≤ labelAt old x
-  falls x h = omega (arith, label-in old x h, label-in new x h, rules n (nodeBit faults) .label-falls 2 3 (omega arith) (λ _. 3) x h)
+  falls x h = omega (arith, label-in old x h, label-in new x h, rules n (out new) .label-falls 2 3 (omega arith) (outByte new) x h)
 
   module _ (none : (x : ℕ) → x < 2 ^ n → eqb (labelAt new x) 0 ≡ false) where
     same-labels : (x : ℕ) → x < 2 ^ n → labelAt old x ≡ labelAt new x
@@ -67,7 +66,7 @@ module _ (n : ℕ) (faults : List ℕ) where
             eqb-false (labelAt new (flip (r .0) x)) 0 (none (flip (r .0) x) (flip-lt n (r .0) x (r .1) h)) (r .2)
 
         go : (out new x ≡ true) ⊎ (out new x ≡ false) → labelAt old x ≡ labelAt new x
-        go (inl a) = faulty old x h a ∙ sym (faulty new x h a)
+        go (inl a) = out-label old x h a ∙ sym (out-label new x h a)
         go (inr a) = omega (arith, eqb-false (labelAt new x) 0 (none x h), not-one, works old x h a, falls x h)
 
     same-walk : (s d : ℕ) → walkOf old s d ≡ walkOf new s d
@@ -75,7 +74,7 @@ module _ (n : ℕ) (faults : List ℕ) where
         ap (λ (m : ℕ). walked n s d m rowBytes (labelAt old)) (labels-length old ∙ sym (labels-length new))
         ∙ walk-local n s d _ rowBytes (labelAt old) (labelAt new) same-labels
 
-  still-delivered : Accepted new → (s d : ℕ) → Works new s → Works new d → walkOf old s d .ending ≡ Delivered → walkOf new s d .ending ≡ Delivered
+  still-delivered : Accepted new → (s d : ℕ) → Works new s → Takes new d → walkOf old s d .ending ≡ Delivered → walkOf new s d .ending ≡ Delivered
   still-delivered ok s d hs hd e = go (find (2 ^ n) (λ x. eqb (labelAt new x) 0))
     where
       go : ((x : ℕ) × (x < 2 ^ n) × (eqb (labelAt new x) 0 ≡ true)) ⊎ ((x : ℕ) → x < 2 ^ n → eqb (labelAt new x) 0 ≡ false)
@@ -86,12 +85,14 @@ module _ (n : ℕ) (faults : List ℕ) where
 pub two-rules : TwoRules
 two-rules =
     record {
-      better = λ n faults. better n (labelAt (cabinet n 2 faults)) (labelAt (cabinet n 3 faults)) (falls n faults);
-      still-delivered = λ n faults ok s d hs hd e. still-delivered n faults ok s d hs hd e;
-      none-strong = λ n faults some x w. omega (
-        arith,
-        label-in (cabinet n 2 faults) x (w .0),
-        rules n (nodeBit faults) .none-strong (some .0) (some .1) (zero-is (cabinet n 2 faults) (some .0) (some .1) (some .2)) (λ _. 3) x (w .0) (w .1),
-      );
+      better = λ n f e. better n (labelAt (old n f e)) (labelAt (new n f e)) (falls n f e);
+      still-delivered = λ n f e ok s d hs hd z. still-delivered n f e ok s d hs hd z;
+      none-strong = λ n f e some x w.
+          let K = old n f e in
+          omega (
+            arith,
+            label-in K x (w .0),
+            rules n (out K) .none-strong (some .0) (some .1) (zero-is K (some .0) (some .1) (some .2)) (outByte K) x (w .0) (w .1),
+          );
       bound = within;
     }

@@ -1,4 +1,4 @@
--- A walk each of whose decisions makes progress: it keeps to the nodes that work, its measure falls with each hop, and its hops and the
+-- A walk each of whose decisions makes progress: it keeps to the nodes that work and the destination, its measure falls with each hop, and its hops and the
 -- distance that is left differ from the distance at the start by an even number. So it ends before n + 4 hops are done, where a decision is
 -- no hop. The three theorems at the end take the measure from the scans: the rank where some node is safe, else the distance.
 use mathlib.Core.Path.{_≡_, refl, sym, ap, _∙_}
@@ -15,12 +15,13 @@ use Rattle.cube.proofs.Count.{count-bound}
 use Rattle.cube.proofs.Search.{Least, the-least}
 use Rattle.cube.proofs.Cube.{dist-count, dist-self, dist-zero, dist-fall, dist-rise}
 use Rattle.rule.specs.Good.{Good}
-use Rattle.scans.specs.Progress.{GoodProgress, Inside, Progress, rank}
+use Rattle.scans.specs.Progress.{GoodProgress, Inside, Progress, Receives, rank}
 use Rattle.scans.proofs.Progress.{rank-le, scans-progress}
 use Rattle.hop.specs.Hop.{hop}
-use Rattle.walk.specs.Walk.{stops, spot, turn, hops, last}
+use Rattle.walk.specs.Walk.{stops, spot, turn, hops, last, route}
 use Rattle.hop.specs.declared.Decision.{Decision}
 use Rattle.hop.specs.declared.Decision.the-variants.{Deliver, Hop, Halted}
+use Rattle.hop.proofs.Gathered.{arrives}
 use Rattle.walk.proofs.Steps.{spot-next, spot-zero}
 use Rattle.theorems.specs.Picked.{Picked, arrived, took, stopped}
 use Rattle.theorems.proofs.Decision.{picked}
@@ -45,6 +46,11 @@ module _ (n : ℕ) (lab : ℕ → ℕ) (d s : ℕ) where
 stops-is : {h : Decision} {b : Bool} (x : Decision) → h ≡ x → stops x ≡ b → stops h ≡ b
 stops-is x e f = ap stops e ∙ f
 
+-- where the walk goes on, it is not at the destination
+pub not-there : (n : ℕ) (lab : ℕ → ℕ) (d s k : ℕ) → k < hops n (route n lab d) s → spot (route n lab d) s k ≢ d
+unfolding turn stops
+not-there n lab d s k h e = clash (stops-is Deliver (sym (arrives n lab (spot (route n lab d) s k) d e)) refl) (hops-on n lab d s k h)
+
 -- ---- a walk that makes progress
 
 module _ (n : ℕ) (lab : ℕ → ℕ) (d : ℕ) (hd : d < 2 ^ n) (measure : ℕ → ℕ) (Stuck : ℕ → Type 0) (P : Progress n lab d measure Stuck) where
@@ -52,9 +58,9 @@ module _ (n : ℕ) (lab : ℕ → ℕ) (d : ℕ) (hd : d < 2 ^ n) (measure : ℕ
   data Next (c : ℕ) : Type 0 where
     arrive : c ≡ d → hop n lab c d ≡ Deliver → Next c
     stuck : hop n lab c d ≡ Halted → Stuck c → Next c
-    move : (i : ℕ) → i < n → hop n lab c d ≡ Hop i → Inside n lab (flip i c) → measure (flip i c) < measure c → Next c
+    move : (i : ℕ) → i < n → hop n lab c d ≡ Hop i → Inside n lab d (flip i c) → measure (flip i c) < measure c → Next c
 
-  next : (c : ℕ) → Inside n lab c → Next c
+  next : (c : ℕ) → Inside n lab d c → Next c
   next c p = go (hop n lab c d) refl (picked n lab c d)
     where
       go : (x : Decision) → hop n lab c d ≡ x → Picked n lab c d x → Next c
@@ -63,10 +69,10 @@ module _ (n : ℕ) (lab : ℕ → ℕ) (d : ℕ) (hd : d < 2 ^ n) (measure : ℕ
       go x h (stopped far m) = stuck h (P .stuck c p far m)
 
 module _ (n : ℕ) (lab : ℕ → ℕ) (d : ℕ) (hd : d < 2 ^ n) (measure : ℕ → ℕ) (Stuck : ℕ → Type 0) (P : Progress n lab d measure Stuck)
-    (s : ℕ) (ps : Inside n lab s) (fuel : measure s ≤ n + 4) where
+    (s : ℕ) (ps : Inside n lab d s) (fuel : measure s ≤ n + 4) where
   -- after k hops
   record On (k : ℕ) : Type 0 where
-    inside : Inside n lab (spot (route n lab d) s k)
+    inside : Inside n lab d (spot (route n lab d) s k)
     room : k + measure (spot (route n lab d) s k) ≤ measure s
     extra : ℕ
     even : k + dist (spot (route n lab d) s k) d ≡ dist s d + 2 * extra
@@ -76,7 +82,7 @@ module _ (n : ℕ) (lab : ℕ → ℕ) (d : ℕ) (hd : d < 2 ^ n) (measure : ℕ
     i : ℕ
     dim : i < n
     decided : turn (route n lab d) s k ≡ Hop i
-    inside : Inside n lab (flip i (spot (route n lab d) s k))
+    inside : Inside n lab d (flip i (spot (route n lab d) s k))
     falls : measure (flip i (spot (route n lab d) s k)) < measure (spot (route n lab d) s k)
     is : spot (route n lab d) s (suc k) ≡ flip i (spot (route n lab d) s k)
 
@@ -131,9 +137,10 @@ module _ (n : ℕ) (lab : ℕ → ℕ) (d : ℕ) (hd : d < 2 ^ n) (measure : ℕ
 
 -- ---- the theorems
 
--- the nodes of the walk work, and each hop is its decision's
+-- the nodes of the walk work, but for the destination, and each hop is its decision's
 pub record Kept (n : ℕ) (lab : ℕ → ℕ) (d s : ℕ) : Type 0 where
-  pub works : (k : ℕ) → k ≤ hops n (route n lab d) s → Inside n lab (spot (route n lab d) s k)
+  pub works : (k : ℕ) → k < hops n (route n lab d) s → (spot (route n lab d) s k < 2 ^ n) × (lab (spot (route n lab d) s k) ≤ 2)
+  pub end : Inside n lab d (spot (route n lab d) s (hops n (route n lab d) s))
   pub steps :
       (k : ℕ) → k < hops n (route n lab d) s → (i : ℕ) × (i < n) × (turn (route n lab d) s k ≡ Hop i) × (spot (route n lab d) s (suc k) ≡ flip i (spot (route n lab d) s k))
 
@@ -155,17 +162,20 @@ pub record Halts (n : ℕ) (lab : ℕ → ℕ) (d s : ℕ) : Type 0 where
 dist-le : (n s d : ℕ) → s < 2 ^ n → d < 2 ^ n → dist s d ≤ n
 dist-le n s d hs hd = omega (arith, dist-count n s d hs hd, count-bound n (λ i. apart i s d))
 
-module _ (n : ℕ) (lab : ℕ → ℕ) (G : Good n lab) (d : ℕ) (hd : d < 2 ^ n) (wd : lab d ≤ 2) (s : ℕ) (hs : s < 2 ^ n) (ws : lab s ≤ 2) where
+module _ (n : ℕ) (lab : ℕ → ℕ) (G : Good n lab) (d : ℕ) (hd : d < 2 ^ n) (wd : Receives (lab d)) (s : ℕ) (hs : s < 2 ^ n) (ws : lab s ≤ 2) where
   -- what each theorem takes from its measure
   module _ (measure : ℕ → ℕ) (Stuck : ℕ → Type 0) (P : Progress n lab d measure Stuck) (fuel : measure s ≤ n + 4) where
-    abbrev here : (k : ℕ) → k ≤ hops n (route n lab d) s → On n lab d hd measure Stuck P s (hs, ws) fuel k
-    here = on n lab d hd measure Stuck P s (hs, ws) fuel
+    abbrev here : (k : ℕ) → k ≤ hops n (route n lab d) s → On n lab d hd measure Stuck P s (hs, inl ws) fuel k
+    here = on n lab d hd measure Stuck P s (hs, inl ws) fuel
 
     kept : Kept n lab d s
     kept =
         record {
-          works = λ k h. here k h .inside;
-          steps = λ k h. let r = made n lab d hd measure Stuck P s (hs, ws) fuel k h (here k (omega arith)) in (r .i, r .dim, r .decided, r .is);
+          works = λ k h.
+              let r = here k (omega arith) .inside in
+              (r .0, ⊎-elim (λ (l : lab (spot (route n lab d) s k) ≤ 2). l) (λ q. absurd (not-there n lab d s k h q)) (r .1));
+          end = here (hops n (route n lab d) s) (omega arith) .inside;
+          steps = λ k h. let r = made n lab d hd measure Stuck P s (hs, inl ws) fuel k h (here k (omega arith)) in (r .i, r .dim, r .decided, r .is);
         }
 
     delivered : (m : ℕ) → measure s ≤ dist s d + (m + m + 1) → last n (route n lab d) s ≡ Deliver → spot (route n lab d) s (hops n (route n lab d) s) ≡ d → Delivers n lab d s m
@@ -186,7 +196,7 @@ module _ (n : ℕ) (lab : ℕ → ℕ) (G : Good n lab) (d : ℕ) (hd : d < 2 ^ 
     outcome m h =
         ⊎-elim (λ (e : (last n (route n lab d) s ≡ Deliver) × (spot (route n lab d) s (hops n (route n lab d) s) ≡ d)). inl (delivered m h (e .0) (e .1)))
         (λ (e : (last n (route n lab d) s ≡ Halted) × Stuck (spot (route n lab d) s (hops n (route n lab d) s))). inr e)
-        (end n lab d hd measure Stuck P s (hs, ws) fuel)
+        (end n lab d hd measure Stuck P s (hs, inl ws) fuel)
 
   progress : GoodProgress n lab d
   progress = scans-progress n lab G d hd wd

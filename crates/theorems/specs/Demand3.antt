@@ -1,5 +1,5 @@
--- Demand 3: walks arrive. K is a cabinet that labelling accepts and lab the labels that it then has; s and d, the source and the destination, are working nodes
--- (the last lines); w is the walk's answer with those labels.
+-- Demand 3: walks arrive. K is a cabinet that labelling accepts and lab the labels that it then has; s, the source, is a working node and d, the destination, one
+-- that works or drains (the last lines); w is the walk's answer with those labels.
 use mathlib.Core.Bool.{true}
 use mathlib.Core.Logic.{_⊎_}
 use mathlib.Core.Path.{_≡_}
@@ -10,15 +10,16 @@ use Rattle.hop.specs.Hop.{hop}
 use Rattle.hop.specs.declared.Decision.the-variants.{Deliver, Hop, Halted}
 use Rattle.walk.specs.declared.Ending.the-variants as ending
 use Rattle.walk.specs.declared.Walked.{Walked}
-use Rattle.theorems.specs.Words.{Accepted, SomeSafe, Works, labelAt, place, walkOf}
+use Rattle.theorems.specs.Words.{Accepted, SomeSafe, Takes, Works, labelAt, place, walkOf}
 
 -- the hop count is the number of steps that ROUTE takes: the row begins at the source, each place is the decision's own at the place before,
--- and the walk ends where the decision says so; every node on it works
+-- and the walk ends where the decision says so; every node before the last works, and so does the last unless it is the destination
 pub record Stepped (K : Cabinet) (lab : ℕ → ℕ) (d s : ℕ) (w : Walked) : Type 0 where
   pub begins : place w 0 ≡ s
   pub steps :
       (k : ℕ) → k < w .hops → (i : ℕ) × (i < K .n) × (hop (K .n) lab (place w k) d ≡ Hop i) × (place w (k + 1) ≡ flip i (place w k))
-  pub works : (k : ℕ) → k ≤ w .hops → Works K (place w k)
+  pub works : (k : ℕ) → k < w .hops → Works K (place w k)
+  pub last-works : Works K (place w (w .hops)) ⊎ (place w (w .hops) ≡ d)
   pub unused : (k : ℕ) → w .hops < k → place w k ≡ 0
 
 -- delivered: the destination is the last place
@@ -27,7 +28,7 @@ pub record Arrives (K : Cabinet) (lab : ℕ → ℕ) (d : ℕ) (w : Walked) : Ty
   pub decided : hop (K .n) lab (place w (w .hops)) d ≡ Deliver
   pub there : place w (w .hops) ≡ d
 
--- halted: every neighbour of the last place that is nearer the destination is faulty
+-- halted: every neighbour of the last place that is nearer the destination is faulty or draining
 pub record Stuck (K : Cabinet) (lab : ℕ → ℕ) (d : ℕ) (w : Walked) : Type 0 where
   pub ending : w .ending ≡ ending.Halted
   pub decided : hop (K .n) lab (place w (w .hops)) d ≡ Halted
@@ -42,7 +43,7 @@ pub record Walks (K : Cabinet) (lab : ℕ → ℕ) (s d : ℕ) (w : Walked) : Ty
   -- at most two more from an ordinarily unsafe source, at most four more from a strongly unsafe one
   pub ordinary : SomeSafe (K .n) lab → lab s ≡ 1 → w .hops ≤ dist s d + 2
   pub strong : SomeSafe (K .n) lab → lab s ≡ 2 → w .hops ≤ dist s d + 4
-  -- if no node is safe it arrives in exactly the distance, or halts where every neighbour nearer the destination is faulty
+  -- if no node is safe it arrives in exactly the distance, or halts where every neighbour nearer the destination is faulty or draining
   pub none-safe :
       (SomeSafe (K .n) lab → ⊥) → (Arrives K lab d w × (w .hops ≡ dist s d)) ⊎ Stuck K lab d w
   -- a delivered walk has the distance and an even number of hops more, at most twice the source's label
@@ -50,6 +51,6 @@ pub record Walks (K : Cabinet) (lab : ℕ → ℕ) (s d : ℕ) (w : Walked) : Ty
   -- it is never refused, with 8 or otherwise
   pub never-refused : (k : ℕ) → w .ending ≡ ending.Refused k → ⊥
 
--- with the labels of an accepted cabinet and two working nodes
+-- with the labels of an accepted cabinet, from a working node to one that takes the frames addressed to it
 abbrev pub Demand3 : Type 0
-Demand3 = (K : Cabinet) → Accepted K → (s d : ℕ) → Works K s → Works K d → Walks K (labelAt K) s d (walkOf K s d)
+Demand3 = (K : Cabinet) → Accepted K → (s d : ℕ) → Works K s → Takes K d → Walks K (labelAt K) s d (walkOf K s d)

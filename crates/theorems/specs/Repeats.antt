@@ -28,8 +28,9 @@ pub record Repeats (n s d m : ℕ) (lab : ℕ → ℕ) (w : Walked) : Type 0 whe
   -- "at most 17 node numbers in a fixed row of places, unused ones zero"
   pub few : w .hops ≤ n + 4
   pub unused : (k : ℕ) → w .hops < k → place w k ≡ 0
-  -- it enters no node that is labelled faulty
-  pub enters : (k : ℕ) → k ≤ w .hops → lab (place w k) ≤ 2
+  -- no place before the last is labelled faulty or draining, and the last only where it is the destination
+  pub enters : (k : ℕ) → k < w .hops → lab (place w k) ≤ 2
+  pub ends-in : (lab (place w (w .hops)) ≤ 2) ⊎ (place w (w .hops) ≡ d)
 
 abbrev pub WalkRepeats : Type 0
 WalkRepeats = (n s d m room : ℕ) (lab : ℕ → ℕ) → walkRefusal n s d m room lab ≡ 0 → Repeats n s d m lab (walked n s d m room lab)

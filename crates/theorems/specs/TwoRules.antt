@@ -10,7 +10,7 @@ use Rattle.rule.specs.Cabinet.{Cabinet, cabinet}
 use Rattle.walk.specs.declared.Ending.the-variants.{Delivered}
 use Rattle.walk.specs.declared.Walked.{Walked}
 use Rattle.theorems.specs.Demand3.{Walks}
-use Rattle.theorems.specs.Words.{Accepted, SomeSafe, Works, labelAt, walkOf}
+use Rattle.theorems.specs.Words.{Accepted, SomeSafe, Takes, Works, labelAt, walkOf}
 
 -- how many hops more than the distance demand 3 allows a walk from s to d where some node is safe: none to or from a safe node, otherwise two from an
 -- ordinarily unsafe source and four from a strongly unsafe one
@@ -31,12 +31,13 @@ abbrev pub NoneStrong : (K : Cabinet) (lab : ℕ → ℕ) → Type 0
 NoneStrong K lab = SomeSafe (K .n) lab → (x : ℕ) → Works K x → lab x ≤ 1
 
 pub record TwoRules : Type 0 where
-  pub better : (n : ℕ) (faults : List ℕ) → OnlyBetter n (labelAt (cabinet n 2 faults)) (labelAt (cabinet n 3 faults))
+  pub better : (n : ℕ) (faults draining : List ℕ) → OnlyBetter n (labelAt (cabinet n 2 faults draining)) (labelAt (cabinet n 3 faults draining))
   -- no frame is lost by it: a walk that was delivered still is
   pub still-delivered :
-      (n : ℕ) (faults : List ℕ) → Accepted (cabinet n 3 faults) → (s d : ℕ) → Works (cabinet n 3 faults) s → Works (cabinet n 3 faults) d
-      → walkOf (cabinet n 2 faults) s d .ending ≡ Delivered → walkOf (cabinet n 3 faults) s d .ending ≡ Delivered
-  pub none-strong : (n : ℕ) (faults : List ℕ) → NoneStrong (cabinet n 2 faults) (labelAt (cabinet n 2 faults))
+      (n : ℕ) (faults draining : List ℕ) → Accepted (cabinet n 3 faults draining)
+      → (s d : ℕ) → Works (cabinet n 3 faults draining) s → Takes (cabinet n 3 faults draining) d
+      → walkOf (cabinet n 2 faults draining) s d .ending ≡ Delivered → walkOf (cabinet n 3 faults draining) s d .ending ≡ Delivered
+  pub none-strong : (n : ℕ) (faults draining : List ℕ) → NoneStrong (cabinet n 2 faults draining) (labelAt (cabinet n 2 faults draining))
   -- demand 3's bounds are that bound
   pub bound :
       (K : Cabinet) (lab : ℕ → ℕ) (s d : ℕ) (w : Walked) → Walks K lab s d w → SomeSafe (K .n) lab → w .hops ≤ dist s d + more lab s d

@@ -4,7 +4,7 @@ use mathlib.Core.Path.{_≡_}
 use Prim.Native.Nat.{ℕ, _^_, _<_}
 use lib.ListN.{getD, length}
 use Rattle.cube.specs.Tables.{labelIn}
-use Rattle.rule.specs.Cabinet.{Cabinet, labelsOf, out}
+use Rattle.rule.specs.Cabinet.{Cabinet, faulty, labelsOf, out}
 use Rattle.labels.specs.Labelling.{labelRefusal}
 use Rattle.walk.specs.Walk.{rowBytes, walked}
 use Rattle.walk.specs.declared.Walked.{Walked}
@@ -16,6 +16,10 @@ Accepted K = labelRefusal K (2 ^ K .n) ≡ 0
 -- x is a node that works
 abbrev pub Works : (K : Cabinet) (x : ℕ) → Type 0
 Works K x = (x < 2 ^ K .n) × (out K x ≡ false)
+
+-- x is a node that takes the frames addressed to it: it works, or drains
+abbrev pub Takes : (K : Cabinet) (x : ℕ) → Type 0
+Takes K x = (x < 2 ^ K .n) × (faulty K x ≡ false)
 
 -- the label byte that labelling writes for node x
 abbrev pub labelAt : (K : Cabinet) (x : ℕ) → ℕ
