@@ -2,15 +2,15 @@
 -- high part of the one byte.
 use mathlib.Core.Path.{_≡_, sym, ap, _∙_}
 use mathlib.Core.Logic.{_⊎_, inl, inr}
-use mathlib.Core.Bool.{true, false, not, _&&_}
+use mathlib.Core.Bool.{true, false, not, _&&_, and-false}
 use mathlib.Core.List.{List}
 use Prim.Native.Nat.{ℕ, _+_, _-_, _*_, _/_, _%_, _^_, _≤_, _<_}
 use native.Mathlib.Omega.{arith}
 use native.Mathlib.Nat.{mul-div-cancel, zero-lt-suc}
-use lib.Dec.{leb, eqb}
-use lib.ListN.{length, getD}
+use lib.Dec.{leb, ltb, eqb}
+use lib.ListN.{length, getD, replicate, length-replicate, getD-replicate, List·getD-eq-default}
 use lib.Pow.{pow-add, pow-mono, pow-pos, shr-lt}
-use borrow.Author.Tests.{le-leb, lt-leb, eq-eqb, ne-eqb, leb-true, leb-false}
+use borrow.Author.Tests.{le-leb, lt-leb, eq-eqb, ne-eqb, leb-true, leb-false, ltb-true, ltb-false}
 use Rattle.cube.specs.Count.{some}
 use Rattle.cube.specs.Cube.{bit}
 use Rattle.cube.specs.Tables.{isDimension, tableLen, nodeBit, unusedSet}
@@ -69,6 +69,20 @@ table-few n h = go (either (leb 3 n))
     go : (leb 3 n ≡ true) ⊎ (leb 3 n ≡ false) → tableLen n ≤ 512
     go (inl a) = omega (arith, table-full n (leb-true 3 n a), nodes-few n h)
     go (inr a) = omega (arith, leb-false 3 n a, len-small n (omega (arith, leb-false 3 n a)))
+
+-- a table of zeros has no node's bit set, and no unused one
+pub zeros-none : (m k : ℕ) → nodeBit (replicate m 0) k ≡ false
+unfolding nodeBit
+zeros-none m k = ap (bit (k % 8)) (byte (either (ltb (k / 8) m))) ∙ bit-none (k % 8)
+  where
+    byte : (ltb (k / 8) m ≡ true) ⊎ (ltb (k / 8) m ≡ false) → getD {A = ℕ} (replicate m 0) (k / 8) 0 ≡ 0
+    byte (inl a) = getD-replicate m (k / 8) 0 0 (ltb-true (k / 8) m a)
+    byte (inr a) = List·getD-eq-default (replicate m 0) 0 {n = k / 8} (omega (arith, length-replicate {A = ℕ} m 0, ltb-false (k / 8) m a))
+
+pub zeros-unused : (n m : ℕ) → unusedSet n (replicate m 0) ≡ false
+unfolding unusedSet
+zeros-unused n m =
+    some-none (8 * length (replicate m 0)) (λ k. leb (2 ^ n) k && nodeBit (replicate m 0) k) (λ k _. rw (zeros-none m k) (and-false (leb (2 ^ n) k)))
 
 -- ---- the unused bits
 

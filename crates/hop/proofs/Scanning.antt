@@ -25,7 +25,7 @@ module _ (n c d own : ℕ) (near : ℕ → ℕ) where
   -- ---- what a scan finds
 
   -- one that takes no dimension
-  idle : (s : ℕ) → ((i : ℕ) → takes c d own near s i ≡ false) → lowest n c d own near s ≡ n
+  pub idle : (s : ℕ) → ((i : ℕ) → takes c d own near s i ≡ false) → lowest n c d own near s ≡ n
   unfolding lowest
   idle s f = least-none n (takes c d own near s) (λ i _. f i)
 
@@ -49,7 +49,7 @@ module _ (n c d own : ℕ) (near : ℕ → ℕ) where
   unfolding takes suits
   last-suits i e q = let r = across-one i c d e in rw (r .1, r .0, q)
 
-  suits-last : (i : ℕ) → takes c d own near 0 i ≡ true → (flip i c ≡ d) × (near i ≡ 4)
+  pub suits-last : (i : ℕ) → takes c d own near 0 i ≡ true → (flip i c ≡ d) × (near i ≡ 4)
   unfolding takes suits
   suits-last i t =
       let a = and-true (eqb (dist c d) 1) (Bool·beq (apart i c d) true && (leb 4 (near i) && leb (near i) 4)) t in

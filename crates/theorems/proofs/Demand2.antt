@@ -65,7 +65,7 @@ module _ (K : Cabinet) where
   pub is-draining : (x : ℕ) → x < 2 ^ n → drains K x ≡ true → labelAt K x ≡ 4
   is-draining x h e =
       let r = and-true (not (faulty K x)) _ e in
-      out-label x h (or-right (faulty K x) (r .1)) ∙ rw (not-true _ (r .0))
+      out-label x h (or-right (faulty K x) (r .1)) ∙ rw (not-true (faulty K x) (r .0))
 
   pub works : (x : ℕ) → x < 2 ^ n → out K x ≡ false → labelAt K x ≤ 2
   unfolding label

@@ -1,0 +1,101 @@
+-- What the library answered before there were draining nodes (document 02, A4), by the definitions that stood then: labelling was lent no table of them, 3 was
+-- the highest label, and nothing came before scan 1. A board that lends an empty table of draining nodes is answered as before. Proved in proofs/Before.antt.
+use mathlib.Core.Bool.{cond, not, _&&_, _||_}
+use mathlib.Core.List.{List, [], _∷_, _++_}
+use mathlib.Core.Logic.{_≢_}
+use mathlib.Core.Path.{_≡_}
+use Prim.Native.Nat.{ℕ, _^_}
+use lib.Dec.{eqb, leb, ltb}
+use lib.ListN.{length, replicate}
+use Rattle.cube.specs.Count.{least, some}
+use Rattle.cube.specs.Cube.{dist, flip}
+use Rattle.cube.specs.Refusal.{Test, first, _⇒_}
+use Rattle.cube.specs.Tables.{isDimension, nodeBit, tab, tableLen, unusedSet}
+use Rattle.rule.specs.Cabinet.{Cabinet, cabinet, isRule}
+use Rattle.rule.specs.Rule.{exchanges, label}
+use Rattle.scans.specs.Scans.{lowest, noScan}
+use Rattle.labels.specs.Labelling.{labelled, labelsAfter}
+use Rattle.labels.specs.declared.Labelled.{Labelled}
+use Rattle.labels.specs.declared.Labelled.the-variants as labelled
+use Rattle.hop.specs.Hop.{answer, hopped, nodeTests, sizeTests}
+use Rattle.hop.specs.declared.Decision.{Decision}
+use Rattle.hop.specs.declared.Hopped.{Hopped}
+use Rattle.hop.specs.declared.Hopped.the-variants as hopped
+use Rattle.walk.specs.Walk.{last, refused, rowBytes, stops, walkFrom, walked}
+use Rattle.walk.specs.declared.Walked.{Walked}
+use Rattle.theorems.specs.Words.{labelAt}
+
+-- ---- labelling: the faulty nodes alone did not work, and their byte was 3
+
+abbrev pub labelTestsThen : (n rule : ℕ) (faults : List ℕ) (m : ℕ) → List Test
+labelTestsThen n rule faults m =
+    not (isDimension n) ⇒ 1
+    ∷ not (isRule rule) ⇒ 18
+    ∷ not (eqb (length faults) (tableLen n)) ⇒ 2
+    ∷ not (eqb m (2 ^ n)) ⇒ 2
+    ∷ unusedSet n faults ⇒ 3
+    ∷ []
+
+abbrev pub labelledThen : (n rule : ℕ) (faults : List ℕ) (m : ℕ) → Labelled
+labelledThen n rule faults m =
+    let k : ℕ = first (labelTestsThen n rule faults m) in cond (eqb k 0) (labelled.Exchanges (exchanges n rule (nodeBit faults))) (labelled.Refused k)
+
+abbrev pub labelsAfterThen : (n rule : ℕ) (faults before : List ℕ) → List ℕ
+labelsAfterThen n rule faults before =
+    cond (eqb (first (labelTestsThen n rule faults (length before))) 0) (tab (2 ^ n) (label n rule (nodeBit faults) (λ _. 3))) before
+
+-- ---- one hop: the first of the scans 1 to 5 that takes a dimension
+
+abbrev pub firstScanThen : (n c d own : ℕ) (near : ℕ → ℕ) → ℕ
+firstScanThen n c d own near = least noScan (λ s. leb 1 s && ltb (lowest n c d own near s) n)
+
+abbrev pub hopThen : (n : ℕ) (lab : ℕ → ℕ) (c d : ℕ) → Decision
+hopThen n lab c d =
+    let near : ℕ → ℕ = λ i. lab (flip i c) in
+    let s : ℕ = firstScanThen n c d (lab c) near in
+    answer (dist c d) s (lowest n c d (lab c) near s)
+
+abbrev pub hopTestsThen : (n c d m : ℕ) (lab : ℕ → ℕ) → List Test
+hopTestsThen n c d m lab =
+    sizeTests n m
+    ++ (nodeTests n c d
+    ++ ((ltb 3 (lab c) || some n (λ i. ltb 3 (lab (flip i c)))) ⇒ 4
+    ∷ eqb (lab c) 3 ⇒ 6
+    ∷ []))
+
+abbrev pub hoppedThen : (n c d m : ℕ) (lab : ℕ → ℕ) → Hopped
+hoppedThen n c d m lab = let k : ℕ = first (hopTestsThen n c d m lab) in cond (eqb k 0) (hopped.Decided (hopThen n lab c d)) (hopped.Refused k)
+
+-- ---- the walk, by those hops
+
+abbrev pub routeThen : (n : ℕ) (lab : ℕ → ℕ) (d : ℕ) → ℕ → Decision
+routeThen n lab d x = hopThen n lab x d
+
+abbrev pub walkTestsThen : (n s d m room : ℕ) (lab : ℕ → ℕ) → List Test
+walkTestsThen n s d m room lab =
+    sizeTests n m ++ (not (eqb room rowBytes) ⇒ 2 ∷ nodeTests n s d)
+    ++ (some (2 ^ n) (λ x. ltb 3 (lab x)) ⇒ 4
+    ∷ eqb (lab s) 3 ⇒ 6
+    ∷ eqb (lab d) 3 ⇒ 7
+    ∷ not (stops (last n (routeThen n lab d) s)) ⇒ 8
+    ∷ [])
+
+abbrev pub walkedThen : (n s d m room : ℕ) (lab : ℕ → ℕ) → Walked
+walkedThen n s d m room lab =
+    let k : ℕ = first (walkTestsThen n s d m room lab) in cond (eqb k 0) (walkFrom n (routeThen n lab d) s) (refused k)
+
+-- ---- as before
+
+-- the empty table of draining nodes
+abbrev pub noneDrain : (n : ℕ) → List ℕ
+noneDrain n = replicate (tableLen n) 0
+
+pub record AsBefore : Type 0 where
+  -- labelling that is lent it answers and leaves what it did, refused or not,
+  pub label : (n rule m : ℕ) (faults : List ℕ) → labelled (cabinet n rule faults (noneDrain n)) m ≡ labelledThen n rule faults m
+  pub labels : (n rule : ℕ) (faults before : List ℕ) → labelsAfter (cabinet n rule faults (noneDrain n)) before ≡ labelsAfterThen n rule faults before
+  -- and no label is 4;
+  pub no-four : (n rule : ℕ) (faults : List ℕ) (x : ℕ) → labelAt (cabinet n rule faults (noneDrain n)) x ≢ 4
+  -- and with labels among which there is no 4, right or wrong, a hop and a walk are answered as they were
+  pub hop : (n c d m : ℕ) (lab : ℕ → ℕ) → ((x : ℕ) → lab x ≢ 4) → hopped n c d m lab ≡ hoppedThen n c d m lab
+  pub walk : (n s d m room : ℕ) (lab : ℕ → ℕ) → ((x : ℕ) → lab x ≢ 4) → walked n s d m room lab ≡ walkedThen n s d m room lab
