@@ -18,22 +18,23 @@ use Rattle.hcube.proofs.hcube_hop
 use Rattle.hcube.proofs.hcube_walk
 use Rattle.hcube.proofs.hcube_read_notice
 
-abbrev pub label : Function hcube_label.ended (ℕ × ℕ × List ℕ × List ℕ) ℕ (List ℕ)
+abbrev pub label : Function hcube_label.ended (ℕ × ℕ × List ℕ × List ℕ × List ℕ) ℕ (List ℕ)
 label =
     record {
       clauses = λ w. hcube_label.clauses (w .𝓤) (w .H) (w .𝓖 .A) (w .𝓜 .mem) (w .𝓡 .run);
       asked = hcube_label.Reads.Asked;
       post = hcube_label.Reads.Post;
-      handed = λ κs a. (a .0, a .1 .0, now (a .1 .1 .0), now (a .1 .1 .1 .0));
+      handed = λ κs a. (a .0, a .1 .0, now (a .1 .1 .0), now (a .1 .1 .1 .0), now (a .1 .1 .1 .1 .0));
       answered = λ κs r. r;
-      left = λ κs e. now (e .1 .1 .1 .0);
+      left = λ κs e. now (e .1 .1 .1 .1 .0);
     }
 
 pub label-asks : AsksNothing label
 label-asks = record { asked = λ κs a. tt; empty = λ w κs a. (tt, refl) }
 
 pub label-says :
-    Says label (λ i. labelNumber (labelled (cabinet (i .0) (i .1) (i .2)) (length (i .3)))) (λ i. labelsAfter (cabinet (i .0) (i .1) (i .2)) (i .3))
+    Says label (λ i. labelNumber (labelled (cabinet (i .0) (i .1) (i .2) (i .3)) (length (i .4))))
+    (λ i. labelsAfter (cabinet (i .0) (i .1) (i .2) (i .3)) (i .4))
 label-says = record { says = λ κs a r e p. (p .0, p .1) }
 
 abbrev pub hop : Function hcube_hop.ended (ℕ × ℕ × ℕ × List ℕ) ℕ Nothing

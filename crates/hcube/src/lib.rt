@@ -28,11 +28,11 @@ fn pack(refusal: u32, kind: u32, value: usize) -> u32
 
 // Labels every node by the rule: the number of exchanges, or the refusal, which leaves the labels as they were.
 #[no_mangle]
-pub extern "C" fn hcube_label(n: u32, rule: u32, faults: &[u8], labels: &mut [u8]) -> u32
-    ensures answer { λ r. ⌜ r ≡ labelNumber (labelled (cabinet n rule (now (faults .entry))) (length (now (labels .entry)))) ⌝ }
-    ensures labels { λ r. ⌜ now (labels .exit) ≡ labelsAfter (cabinet n rule (now (faults .entry))) (now (labels .entry)) ⌝ }
+pub extern "C" fn hcube_label(n: u32, rule: u32, faults: &[u8], draining: &[u8], labels: &mut [u8]) -> u32
+    ensures answer { λ r. ⌜ r ≡ labelNumber (labelled (cabinet n rule (now (faults .entry)) (now (draining .entry))) (length (now (labels .entry)))) ⌝ }
+    ensures labels { λ r. ⌜ now (labels .exit) ≡ labelsAfter (cabinet n rule (now (faults .entry)) (now (draining .entry))) (now (labels .entry)) ⌝ }
 {
-    let answer = labels::label(n as usize, rule as usize, faults, labels);
+    let answer = labels::label(n as usize, rule as usize, faults, draining, labels);
     match answer {
         Labelled::Exchanges(exchanges) => pack(0, 0, exchanges),
         Labelled::Refused(k) => pack(k, 0, 0),

@@ -29,12 +29,15 @@ use Rattle.promises.specs.Library.{rattle, c}
 abbrev lend : List ℕ → RefT (List ℕ)
 lend l = record { ptr = (0, 0); name = 0; now = l }
 
--- one lifetime, or two
+-- one lifetime, two, or three
 abbrev one : Lfts 1
 one = ([], tt)
 
 abbrev two : Lfts 2
 two = ([], one)
+
+abbrev three : Lfts 3
+three = ([], two)
 
 module _ (bytes before : List ℕ) where
   abbrev x : Noticed
@@ -56,11 +59,15 @@ module _ (K : Cabinet) (before : List ℕ) where
   abbrev after : List ℕ
   after = labelsAfter K before
 
-  labels : May labels-crate.label (K .n, K .rule, K .faults, before) answer after
-  labels = may labels-crate.label two (K .n, (K .rule, (lend (K .faults), (lend before, tt)))) answer (K .n, (K .rule, (lend (K .faults), (lend after, tt)))) (refl, refl)
+  labels : May labels-crate.label (K .n, K .rule, K .faults, K .draining, before) answer after
+  labels =
+      may labels-crate.label three (K .n, (K .rule, (lend (K .faults), (lend (K .draining), (lend before, tt))))) answer
+      (K .n, (K .rule, (lend (K .faults), (lend (K .draining), (lend after, tt))))) (refl, refl)
 
-  c-labels : May hcube.label (K .n, K .rule, K .faults, before) (labelNumber answer) after
-  c-labels = may hcube.label two (K .n, (K .rule, (lend (K .faults), (lend before, tt)))) (labelNumber answer) (K .n, (K .rule, (lend (K .faults), (lend after, tt)))) (refl, refl)
+  c-labels : May hcube.label (K .n, K .rule, K .faults, K .draining, before) (labelNumber answer) after
+  c-labels =
+      may hcube.label three (K .n, (K .rule, (lend (K .faults), (lend (K .draining), (lend before, tt))))) (labelNumber answer)
+      (K .n, (K .rule, (lend (K .faults), (lend (K .draining), (lend after, tt))))) (refl, refl)
 
 module _ (n a b : ℕ) (l : List ℕ) where
   abbrev decided : Hopped

@@ -1,12 +1,13 @@
 -- The demands, of any library that is faithful to the definitions: what they say of the definitions they say of whatever the contracts allow.
 use mathlib.Core.List.{List}
-use mathlib.Core.Logic.{_⊎_, ⊎-elim, inl, inr}
+use mathlib.Core.Logic.{_⊎_, ⊎-elim, inl, inr, _≢_}
 use mathlib.Core.Path.{_≡_, sym, ap, subst, _∙_}
 use Prim.Native.Nat.{ℕ, _+_, _^_, _≤_, _<_}
 use native.Mathlib.Omega.{arith}
 use lib.ListN.{length, replicate}
 use Rattle.cube.specs.Cube.{dist, flip}
 use Rattle.cube.specs.Tables.{labelIn}
+use Rattle.cube.proofs.Bools.{is-false}
 use Rattle.rule.specs.Cabinet.{Cabinet, cabinet, exchangesOf, labelsOf}
 use Rattle.notice.specs.Laws.{TableOf}
 use Rattle.notice.specs.Notice as N
@@ -29,7 +30,8 @@ use Rattle.theorems.specs.Demand3.{Walks}
 use Rattle.theorems.specs.Picked.{Picked}
 use Rattle.theorems.specs.Repeats.{Repeats}
 use Rattle.theorems.specs.TwoRules.{NoneStrong, OnlyBetter, more}
-use Rattle.theorems.specs.Words.{Accepted, SomeSafe, Works, labelAt, place, walkOf}
+use Rattle.theorems.specs.Words.{Accepted, SomeSafe, Takes, Works, labelAt, place, walkOf}
+use Rattle.theorems.proofs.Before.{as-before}
 use Rattle.theorems.proofs.Decision.{picked}
 use Rattle.theorems.proofs.Demand2.{demand2}
 use Rattle.theorems.proofs.Demand3.{demand3}
@@ -37,8 +39,8 @@ use Rattle.theorems.proofs.Repeats.{walk-repeats}
 use Rattle.theorems.proofs.TwoRules.{two-rules}
 use Rattle.promises.specs.Demands.{Demands}
 use Rattle.promises.specs.Library.{Library, rattle, c}
-use Rattle.promises.specs.Refusals.{HopGiven, LabelGiven, NoticeGiven, Rule, WalkGiven}
-use Rattle.promises.proofs.Given.{rule-bounds}
+use Rattle.promises.specs.Refusals.{HopGiven, LabelGiven, NoticeGiven, Rule, TableLength, Unused, WalkGiven}
+use Rattle.promises.proofs.Given.{rule-bounds, table-length, unused-says}
 use Rattle.promises.proofs.Library.{Faithful, rattle-faithful, c-faithful}
 use Rattle.promises.proofs.Outcomes.{answered, labels-kept, of-blank, of-decided, of-ended}
 use Rattle.promises.proofs.Refusals.{refusals}
@@ -69,15 +71,17 @@ module _ (lib : Library) (F : Faithful lib) where
       subst (Demand2 K (labelIn table)) (l .count) (subst (λ (t : List ℕ). Demand2 K (labelIn t) (exchangesOf K)) (l .bytes) (demand2 K))
 
   notice-labels :
-      {bytes faults before after old : List ℕ} {n rule m taken : ℕ} {x : Labelled} → lib .reads bytes old (noticed.Notice n m taken) faults
-      → Rule rule → length before ≡ 2 ^ n → lib .labels (cabinet n rule faults) before x after → (exchanges : ℕ) × (x ≡ labelled.Exchanges exchanges)
-  notice-labels {bytes} {faults} {before} {after} {old} {n} {rule} {m} {taken} {x} r k long l =
+      {bytes faults draining before after old : List ℕ} {n rule m taken : ℕ} {x : Labelled} → lib .reads bytes old (noticed.Notice n m taken) faults
+      → Rule rule → TableLength n (length draining) → ¬ (Unused n draining) → length before ≡ 2 ^ n → lib .labels (cabinet n rule faults draining) before x after → (exchanges : ℕ) × (x ≡ labelled.Exchanges exchanges)
+  notice-labels {bytes} {faults} {draining} {before} {after} {old} {n} {rule} {m} {taken} {x} r k sized used long l =
       let f = F .reads r in
       let d = notice-laws .accepted bytes old n m taken (sym (f .0)) .dimension in
       let t = subst (TableOf n m (N.addressesOf bytes)) (sym (f .1)) (notice-laws .written bytes old n m taken (sym (f .0))) in (
-        exchangesOf (cabinet n rule faults),
+        exchangesOf (cabinet n rule faults draining),
         F .labels l .0
-            ∙ answered (cabinet n rule faults) (length before) (fits (cabinet n rule faults) (length before) d (rule-bounds k) (t .sized) (t .unused) long),
+            ∙ answered (cabinet n rule faults draining) (length before)
+            (fits (cabinet n rule faults draining) (length before) d (rule-bounds k) (t .sized) (table-length n (length draining) sized) (t .unused)
+            (is-false (λ u. used (unused-says n draining .0 u))) long),
       )
 
   -- a walk with the labels that labelling left is the cabinet's
@@ -87,7 +91,7 @@ module _ (lib : Library) (F : Faithful lib) where
       F .walks v ∙ ap (λ (t : List ℕ). W.walked (K .n) s d (length t) W.rowBytes (labelIn t)) (sym (left m .bytes))
 
   walks :
-      {K : Cabinet} {before table : List ℕ} {exchanges s d : ℕ} {w : Walked} → lib .labels K before (labelled.Exchanges exchanges) table → Works K s → Works K d
+      {K : Cabinet} {before table : List ℕ} {exchanges s d : ℕ} {w : Walked} → lib .labels K before (labelled.Exchanges exchanges) table → Works K s → Takes K d
       → lib .walks (K .n) s d table W.rowBytes w → Walks K (labelIn table) s d w
   walks {K} {before} {table} {exchanges} {s} {d} {w} m hs hd v =
       subst (Walks K (labelIn table) s d) (sym (is-walk m v))
@@ -95,39 +99,39 @@ module _ (lib : Library) (F : Faithful lib) where
 
   -- ---- the two rules
 
-  moved : {n e e′ : ℕ} {faults before before′ old new : List ℕ} → lib .labels (cabinet n 2 faults) before (labelled.Exchanges e) old
-      → lib .labels (cabinet n 3 faults) before′ (labelled.Exchanges e′) new → OnlyBetter n (labelIn old) (labelIn new)
-  moved {n} {e} {e′} {faults} {before} {before′} {old} {new} a b =
+  moved : {n e e′ : ℕ} {faults draining before before′ old new : List ℕ} → lib .labels (cabinet n 2 faults draining) before (labelled.Exchanges e) old
+      → lib .labels (cabinet n 3 faults draining) before′ (labelled.Exchanges e′) new → OnlyBetter n (labelIn old) (labelIn new)
+  moved {n} {e} {e′} {faults} {draining} {before} {before′} {old} {new} a b =
       subst (λ (t : List ℕ). OnlyBetter n (labelIn t) (labelIn new)) (left a .bytes)
-      (subst (λ (t : List ℕ). OnlyBetter n (labelAt (cabinet n 2 faults)) (labelIn t)) (left b .bytes) (two-rules .better n faults))
+      (subst (λ (t : List ℕ). OnlyBetter n (labelAt (cabinet n 2 faults draining)) (labelIn t)) (left b .bytes) (two-rules .better n faults draining))
 
-  moved-walks : {n e e′ s d : ℕ} {faults before before′ old new : List ℕ} {w : Walked} → lib .labels (cabinet n 2 faults) before (labelled.Exchanges e) old
-      → lib .labels (cabinet n 3 faults) before′ (labelled.Exchanges e′) new → SomeSafe n (labelIn old) → Works (cabinet n 3 faults) s
-      → Works (cabinet n 3 faults) d → lib .walks n s d new W.rowBytes w → (w .ending ≡ ending.Delivered) × (w .hops ≤ dist s d + more (labelIn old) s d)
-  moved-walks {n} {e} {e′} {s} {d} {faults} {before} {before′} {old} {new} {w} a b some hs hd v =
+  moved-walks : {n e e′ s d : ℕ} {faults draining before before′ old new : List ℕ} {w : Walked} → lib .labels (cabinet n 2 faults draining) before (labelled.Exchanges e) old
+      → lib .labels (cabinet n 3 faults draining) before′ (labelled.Exchanges e′) new → SomeSafe n (labelIn old) → Works (cabinet n 3 faults draining) s
+      → Takes (cabinet n 3 faults draining) d → lib .walks n s d new W.rowBytes w → (w .ending ≡ ending.Delivered) × (w .hops ≤ dist s d + more (labelIn old) s d)
+  moved-walks {n} {e} {e′} {s} {d} {faults} {draining} {before} {before′} {old} {new} {w} a b some hs hd v =
       let m = moved a b in
       let W = walks b hs hd v in
       let still : SomeSafe n (labelIn new) = (some .0, some .1, m .safe-stays (some .0) (some .1) (some .2)) in (
         W .arrives still .ending,
-        omega (arith, two-rules .bound (cabinet n 3 faults) (labelIn new) s d w W still, m .bound-falls s d (hs .0) (hd .0)),
+        omega (arith, two-rules .bound (cabinet n 3 faults draining) (labelIn new) s d w W still, m .bound-falls s d (hs .0) (hd .0)),
       )
 
-  still-arrives : {n e e′ s d : ℕ} {faults before before′ old new : List ℕ} {v w : Walked} → lib .labels (cabinet n 2 faults) before (labelled.Exchanges e) old
-      → lib .labels (cabinet n 3 faults) before′ (labelled.Exchanges e′) new → Works (cabinet n 3 faults) s → Works (cabinet n 3 faults) d
+  still-arrives : {n e e′ s d : ℕ} {faults draining before before′ old new : List ℕ} {v w : Walked} → lib .labels (cabinet n 2 faults draining) before (labelled.Exchanges e) old
+      → lib .labels (cabinet n 3 faults draining) before′ (labelled.Exchanges e′) new → Works (cabinet n 3 faults draining) s → Takes (cabinet n 3 faults draining) d
       → lib .walks n s d old W.rowBytes v → lib .walks n s d new W.rowBytes w → v .ending ≡ ending.Delivered → w .ending ≡ ending.Delivered
-  still-arrives {n} {e} {e′} {s} {d} {faults} {before} {before′} {old} {new} {v} {w} a b hs hd p q f =
+  still-arrives {n} {e} {e′} {s} {d} {faults} {draining} {before} {before′} {old} {new} {v} {w} a b hs hd p q f =
       let was = is-walk a p in
       let is = is-walk b q in
       ap (λ (u : Walked). u .ending) is
-      ∙ two-rules .still-delivered n faults (left b .accepted) s d hs hd (ap (λ (u : Walked). u .ending) (sym was) ∙ f)
+      ∙ two-rules .still-delivered n faults draining (left b .accepted) s d hs hd (ap (λ (u : Walked). u .ending) (sym was) ∙ f)
 
-  none-strong : {n e : ℕ} {faults before table : List ℕ} → lib .labels (cabinet n 2 faults) before (labelled.Exchanges e) table
-      → NoneStrong (cabinet n 2 faults) (labelIn table)
-  none-strong {n} {e} {faults} a =
-      subst (λ (t : List ℕ). NoneStrong (cabinet n 2 faults) (labelIn t)) (left a .bytes) (two-rules .none-strong n faults)
+  none-strong : {n e : ℕ} {faults draining before table : List ℕ} → lib .labels (cabinet n 2 faults draining) before (labelled.Exchanges e) table
+      → NoneStrong (cabinet n 2 faults draining) (labelIn table)
+  none-strong {n} {e} {faults} {draining} a =
+      subst (λ (t : List ℕ). NoneStrong (cabinet n 2 faults draining) (labelIn t)) (left a .bytes) (two-rules .none-strong n faults draining)
 
-  two-more : {n e s d : ℕ} {faults before table : List ℕ} {w : Walked} → lib .labels (cabinet n 2 faults) before (labelled.Exchanges e) table
-      → SomeSafe n (labelIn table) → Works (cabinet n 2 faults) s → Works (cabinet n 2 faults) d → lib .walks n s d table W.rowBytes w
+  two-more : {n e s d : ℕ} {faults draining before table : List ℕ} {w : Walked} → lib .labels (cabinet n 2 faults draining) before (labelled.Exchanges e) table
+      → SomeSafe n (labelIn table) → Works (cabinet n 2 faults draining) s → Takes (cabinet n 2 faults draining) d → lib .walks n s d table W.rowBytes w
       → w .hops ≤ dist s d + 2
   two-more {n} {e} {s} {d} {faults} a some hs hd v =
       let W = walks a hs hd v in
@@ -192,11 +196,18 @@ module _ (lib : Library) (F : Faithful lib) where
         walk-few = λ v e. again v e .few;
         walk-unused = λ {n} {s} {d} {room} {k} v e h. again v e .unused k h;
         walk-enters = λ {n} {s} {d} {room} {k} v e h. again v e .enters k h;
+        walk-ends-in = λ v e. again v e .ends-in;
         moved = moved;
         moved-walks = moved-walks;
         still-arrives = still-arrives;
         none-strong = none-strong;
         two-more = two-more;
+        label-before = λ {n} {rule} {faults} {before} m. let f = F .labels m in
+            (f .0 ∙ as-before .label n rule (length before) faults, f .1 ∙ as-before .labels n rule faults before);
+        no-four = λ {n} {rule} {e} {faults} m x.
+            subst (λ (t : List ℕ). labelIn t x ≢ 4) (left m .bytes) (as-before .no-four n rule faults x);
+        hop-before = λ {n} {c} {d} {table} m none. F .hops m ∙ as-before .hop n c d (length table) (labelIn table) none;
+        walk-before = λ {n} {s} {d} {room} {table} v none. F .walks v ∙ as-before .walk n s d (length table) room (labelIn table) none;
       }
 
 pub rattle-demands : Demands rattle

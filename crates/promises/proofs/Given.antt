@@ -17,7 +17,7 @@ use Rattle.cube.proofs.Search.{some-found, some-hit}
 use Rattle.cube.proofs.Tables.{dimension-is, len-large, len-small}
 use Rattle.rule.specs.Cabinet.{isRule}
 use Rattle.rule.proofs.Cabinet.{is-rule, rule-is}
-use Rattle.promises.specs.Refusals.{Dimension, Given, Outside, Rule, TableLength, here, later, none}
+use Rattle.promises.specs.Refusals.{Dimension, Given, Outside, Rule, TableLength, Unused, here, later, none}
 
 module _ {When : ℕ → Type 0} where
   pub given-one : {order : List ℕ} {j k : ℕ} → Given When order j → Given When order k → j ≡ k
@@ -32,13 +32,10 @@ module _ {When : ℕ → Type 0} where
   one-test true says said rest = here (says refl)
   one-test false says said rest = later (λ w. clash (said w) refl) rest
 
-  -- two tests with one number
-  pub two-tests : {k r : ℕ} {more : List ℕ} (a b : Bool) → (a ≡ true → When k) → (b ≡ true → When k) → (When k → (a ≡ true) ⊎ (b ≡ true))
-      → Given When more r → Given When (k ∷ more) (cond a k (cond b k r))
-  two-tests true b says also said rest = here (says refl)
-  two-tests false true says also said rest = here (also refl)
-  two-tests false false says also said rest =
-      later (λ w. ⊎-elim (λ (e : false ≡ true). clash e refl) (λ (e : false ≡ true). clash e refl) (said w)) rest
+  -- a test before others with the same number
+  pub also-test : {k r : ℕ} {more : List ℕ} (b : Bool) → (b ≡ true → When k) → (b ≡ false → Given When (k ∷ more) r) → Given When (k ∷ more) (cond b k r)
+  also-test true says others = here (says refl)
+  also-test false says others = others refl
 
 -- ---- what a test says
 
@@ -64,6 +61,9 @@ or-says a b s t = (
   ⊎-elim (λ p. or-left b (s .1 p)) (λ q. or-right a (t .1 q)),
 )
 
+pub and-says : {P Q : Type 0} (a b : Bool) → (a ≡ true) ↔ P → (b ≡ true) ↔ Q → ((a && b) ≡ true) ↔ (P × Q)
+and-says a b s t = (λ e. let r = and-true a b e in (s .0 (r .0), t .0 (r .1)), λ p. and-both (s .1 (p .0)) (t .1 (p .1)))
+
 pub some-says : (n : ℕ) (p : ℕ → Bool) (P : ℕ → Type 0) → ((i : ℕ) → (p i ≡ true) ↔ P i) → (some n p ≡ true) ↔ ((i : ℕ) × (i < n) × P i)
 some-says n p P s = (λ e. let r = some-found n p e in (r .0, r .1, s (r .0) .0 (r .2)), λ r. some-hit n p (r .0) (r .1) (s (r .0) .1 (r .2)))
 
@@ -83,16 +83,16 @@ rule-says k = (λ e. two-or-three (rule-is k e) (either (leb 3 k)), λ r. is-rul
     two-or-three b (inl a) = inr (omega (arith, leb-true 3 k a))
     two-or-three b (inr a) = inl (omega (arith, leb-false 3 k a))
 
+pub table-length : (n bytes : ℕ) → TableLength n bytes → bytes ≡ tableLen n
+table-length n bytes (inl t) = t .1 ∙ sym (len-small n (t .0))
+table-length n bytes (inr t) = t .1 ∙ sym (len-large n (t .0))
+
 length-says : (n bytes : ℕ) → (eqb bytes (tableLen n) ≡ true) ↔ TableLength n bytes
-length-says n bytes = (λ e. said (eqb-true bytes (tableLen n) e) (either (leb n 3)), λ t. eq-eqb bytes (tableLen n) (given t))
+length-says n bytes = (λ e. said (eqb-true bytes (tableLen n) e) (either (leb n 3)), λ t. eq-eqb bytes (tableLen n) (table-length n bytes t))
   where
     said : bytes ≡ tableLen n → (leb n 3 ≡ true) ⊎ (leb n 3 ≡ false) → TableLength n bytes
     said e (inl a) = let h = leb-true n 3 a in inl (h, e ∙ len-small n h)
     said e (inr a) = let h = leb-false n 3 a in inr (h, e ∙ len-large n h)
-
-    given : TableLength n bytes → bytes ≡ tableLen n
-    given (inl t) = t .1 ∙ sym (len-small n (t .0))
-    given (inr t) = t .1 ∙ sym (len-large n (t .0))
 
 -- a bit that is set stands in the table
 bit-inside : (t : List ℕ) (x : ℕ) → nodeBit t x ≡ true → x < 8 * length t
@@ -104,17 +104,17 @@ bit-inside t x e =
     absurd (clash e (ap (bit (x % 8)) beyond ∙ bit-none (x % 8))))
     (either (ltb x (8 * length t)))
 
-pub unused-says : (n : ℕ) (t : List ℕ) → (unusedSet n t ≡ true) ↔ ((x : ℕ) × (2 ^ n ≤ x) × (nodeBit t x ≡ true))
+pub unused-says : (n : ℕ) (t : List ℕ) → (unusedSet n t ≡ true) ↔ Unused n t
 unfolding unusedSet
 unused-says n t = (said, given)
   where
-    said : unusedSet n t ≡ true → (x : ℕ) × (2 ^ n ≤ x) × (nodeBit t x ≡ true)
+    said : unusedSet n t ≡ true → Unused n t
     said e =
         let r = some-found (8 * length t) (λ x. leb (2 ^ n) x && nodeBit t x) e in
         let q = and-true (leb (2 ^ n) (r .0)) (nodeBit t (r .0)) (r .2) in
         (r .0, leb-true (2 ^ n) (r .0) (q .0), q .1)
 
-    given : (x : ℕ) × (2 ^ n ≤ x) × (nodeBit t x ≡ true) → unusedSet n t ≡ true
+    given : Unused n t → unusedSet n t ≡ true
     given r =
         some-hit (8 * length t) (λ x. leb (2 ^ n) x && nodeBit t x) (r .0) (bit-inside t (r .0) (r .2))
         (and-both (le-leb (2 ^ n) (r .0) (r .1)) (r .2))

@@ -36,8 +36,8 @@ use Rattle.promises.proofs.Library.{c-faithful}
 
 -- ---- the number of the library's own answer
 
-label-same : {n rule r : ℕ} {x : Labelled} {faults before after after′ : List ℕ} → May hcube.label (n, rule, faults, before) r after
-    → May labels.label (n, rule, faults, before) x after′ → r ≡ labelNumber x
+label-same : {n rule r : ℕ} {x : Labelled} {faults draining before after after′ : List ℕ} → May hcube.label (n, rule, faults, draining, before) r after
+    → May labels.label (n, rule, faults, draining, before) x after′ → r ≡ labelNumber x
 label-same m v = told hcube.label-says m .0 ∙ ap labelNumber (sym (told labels.label-says v .0))
 
 hop-same : {n c d r : ℕ} {x : Hopped} {table : List ℕ} → May hcube.hop (n, c, d, table) r tt → May hop.hop (n, c, d, table) x tt → r ≡ hopNumber x

@@ -13,6 +13,7 @@ use Rattle.scans.proofs.Progress.{scans-progress}
 use Rattle.hop.proofs.Local.{hop-local}
 use Rattle.walk.proofs.Laws.{message-laws}
 use Rattle.walk.proofs.Local.{walk-local}
+use Rattle.theorems.proofs.Before.{as-before}
 use Rattle.theorems.proofs.Decision.{hop-picked}
 use Rattle.theorems.proofs.Demand2.{demand2}
 use Rattle.theorems.proofs.Demand3.{demand3}
@@ -50,6 +51,7 @@ promises =
       good = labels-good;
       rules = rules;
       two-rules = two-rules;
+      as-before = as-before;
       progress = scans-progress;
       refusals = refusals;
       marks = marks;

@@ -1,15 +1,15 @@
 -- Each question's refusal is the number that document 01's words give. A refusal is the first test that holds, so test by test: it says what its case
 -- says, both ways.
 use mathlib.Core.Path.{_≡_, refl, sym, ap, _∙_}
-use mathlib.Core.Logic.{_⊎_, inl, inr, ⊎-elim, _↔_}
-use mathlib.Core.Bool.{Bool, true, false, not, _||_}
+use mathlib.Core.Logic.{_⊎_, inl, inr, ⊎-elim, _↔_, _≢_}
+use mathlib.Core.Bool.{Bool, true, false, not, _&&_, _||_}
 use Prim.Native.Nat.{ℕ, zero, suc, _+_, _≤_, _^_, _<_}
 use native.Mathlib.Nat.{eq-or-lt-of-le}
 use native.Mathlib.Numerals.{add-one}
 use native.Mathlib.Omega.{arith}
 use lib.Dec.{eqb, leb, ltb}
 use lib.ListN.{length}
-use borrow.Author.Tests.{eqb-true, eq-eqb, not-true}
+use borrow.Author.Tests.{eqb-true, eq-eqb, le-leb, leb-true, not-true}
 use Rattle.cube.specs.Count.{some}
 use Rattle.cube.specs.Cube.{flip}
 use Rattle.cube.specs.Refusal.{first}
@@ -31,7 +31,6 @@ use Rattle.promises.specs.Refusals.{
   LabelGiven,
   LabelWhen,
   Refusals,
-  TableLength,
   WalkGiven,
   WalkWhen,
   hop-1,
@@ -39,12 +38,15 @@ use Rattle.promises.specs.Refusals.{
   hop-4-here,
   hop-4-near,
   hop-5,
-  hop-6,
+  hop-6-draining,
+  hop-6-faulty,
   label-1,
   label-18,
+  label-2-draining,
   label-2-faults,
   label-2-labels,
-  label-3,
+  label-3-draining,
+  label-3-faults,
   none,
   walk-1,
   walk-2-labels,
@@ -56,6 +58,8 @@ use Rattle.promises.specs.Refusals.{
   walk-8,
 }
 use Rattle.promises.proofs.Given.{
+  also-test,
+  and-says,
   eqb-says,
   given-one,
   ltb-says,
@@ -64,7 +68,6 @@ use Rattle.promises.proofs.Given.{
   or-says,
   outside,
   some-says,
-  two-tests,
   unused-says,
   wrong-dimension,
   wrong-rule,
@@ -85,11 +88,12 @@ module _ (K : Cabinet) (m : ℕ) where
   label-given =
       one-test _ (λ e. label-1 (wrong-dimension (K .n) .0 e)) said-1
       (one-test _ (λ e. label-18 (wrong-rule (K .rule) .0 e)) said-18
-      (two-tests _ _ (λ e. label-2-faults (faults .0 e)) (λ e. label-2-labels (wrong-length (K .n) m .0 e)) said-2
-      (one-test _ (λ e. let r = unused-says (K .n) (K .faults) .0 e in label-3 (r .0) (r .1) (r .2)) said-3 none)))
+      (also-test _ (λ e. label-2-faults (wrong-table (K .n) (length (K .faults)) .0 e)) (λ f.
+      also-test _ (λ e. label-2-draining (wrong-table (K .n) (length (K .draining)) .0 e)) (λ g.
+      one-test _ (λ e. label-2-labels (wrong-length (K .n) m .0 e)) (said-2 f g)
+      (also-test _ (λ e. label-3-faults (unused-says (K .n) (K .faults) .0 e)) (λ f.
+      one-test _ (λ e. label-3-draining (unused-says (K .n) (K .draining) .0 e)) (said-3 f) none))))))
     where
-      faults : (not (eqb (length (K .faults)) (tableLen (K .n))) ≡ true) ↔ (¬ (TableLength (K .n) (length (K .faults))))
-      faults = wrong-table (K .n) (length (K .faults))
 
       said-1 : LabelWhen K m 1 → not (isDimension (K .n)) ≡ true
       said-1 (label-1 w) = wrong-dimension (K .n) .1 w
@@ -97,12 +101,15 @@ module _ (K : Cabinet) (m : ℕ) where
       said-18 : LabelWhen K m 18 → not (isRule (K .rule)) ≡ true
       said-18 (label-18 w) = wrong-rule (K .rule) .1 w
 
-      said-2 : LabelWhen K m 2 → (not (eqb (length (K .faults)) (tableLen (K .n))) ≡ true) ⊎ (not (eqb m (2 ^ K .n)) ≡ true)
-      said-2 (label-2-faults w) = inl (faults .1 w)
-      said-2 (label-2-labels w) = inr (wrong-length (K .n) m .1 w)
+      said-2 : not (eqb (length (K .faults)) (tableLen (K .n))) ≡ false → not (eqb (length (K .draining)) (tableLen (K .n))) ≡ false
+          → LabelWhen K m 2 → not (eqb m (2 ^ K .n)) ≡ true
+      said-2 f g (label-2-faults w) = absurd (clash (wrong-table (K .n) (length (K .faults)) .1 w) f)
+      said-2 f g (label-2-draining w) = absurd (clash (wrong-table (K .n) (length (K .draining)) .1 w) g)
+      said-2 f g (label-2-labels w) = wrong-length (K .n) m .1 w
 
-      said-3 : LabelWhen K m 3 → unusedSet (K .n) (K .faults) ≡ true
-      said-3 (label-3 x h e) = unused-says (K .n) (K .faults) .1 (x, h, e)
+      said-3 : unusedSet (K .n) (K .faults) ≡ false → LabelWhen K m 3 → unusedSet (K .n) (K .draining) ≡ true
+      said-3 f (label-3-faults u) = absurd (clash (unused-says (K .n) (K .faults) .1 u) f)
+      said-3 f (label-3-draining u) = unused-says (K .n) (K .draining) .1 u
 
 -- ---- a hop
 
@@ -121,12 +128,12 @@ module _ (n c d m : ℕ) (lab : ℕ → ℕ) where
       (one-test _ (λ e. hop-2 (wrong-length n m .0 e)) said-2
       (one-test _ (λ e. hop-5 (outside n c d .0 e)) said-5
       (one-test _ (λ e. four (bytes .0 e)) said-4
-      (one-test _ (λ e. hop-6 (eqb-true (lab c) 3 e)) said-6 none))))
+      (also-test _ (λ e. hop-6-faulty (eqb-true (lab c) 3 e)) (λ f. one-test _ (λ e. let r = away .0 e in hop-6-draining (r .0) (r .1)) (said-6 f) none)))))
     where
-      bytes : ((ltb highest (lab c) || near) ≡ true) ↔ ((3 < lab c) ⊎ ((i : ℕ) × (i < n) × (3 < lab (flip i c))))
-      bytes = or-says _ _ (ltb-says 3 (lab c)) (some-says n _ (λ i. 3 < lab (flip i c)) (λ i. ltb-says 3 (lab (flip i c))))
+      bytes : ((ltb highest (lab c) || near) ≡ true) ↔ ((4 < lab c) ⊎ ((i : ℕ) × (i < n) × (4 < lab (flip i c))))
+      bytes = or-says _ _ (ltb-says 4 (lab c)) (some-says n _ (λ i. 4 < lab (flip i c)) (λ i. ltb-says 4 (lab (flip i c))))
 
-      four : (3 < lab c) ⊎ ((i : ℕ) × (i < n) × (3 < lab (flip i c))) → HopWhen n c d m lab 4
+      four : (4 < lab c) ⊎ ((i : ℕ) × (i < n) × (4 < lab (flip i c))) → HopWhen n c d m lab 4
       four (inl h) = hop-4-here h
       four (inr r) = hop-4-near (r .0) (r .1) (r .2)
 
@@ -143,8 +150,12 @@ module _ (n c d m : ℕ) (lab : ℕ → ℕ) where
       said-4 (hop-4-here h) = bytes .1 (inl h)
       said-4 (hop-4-near i l h) = bytes .1 (inr (i, l, h))
 
-      said-6 : HopWhen n c d m lab 6 → eqb (lab c) 3 ≡ true
-      said-6 (hop-6 e) = eq-eqb (lab c) 3 e
+      away : ((eqb (lab c) 4 && not (eqb c d)) ≡ true) ↔ ((lab c ≡ 4) × (c ≢ d))
+      away = and-says _ _ (eqb-says (lab c) 4) (not-says _ (eqb-says c d))
+
+      said-6 : eqb (lab c) 3 ≡ false → HopWhen n c d m lab 6 → (eqb (lab c) 4 && not (eqb c d)) ≡ true
+      said-6 f (hop-6-faulty e) = absurd (clash (eq-eqb (lab c) 3 e) f)
+      said-6 f (hop-6-draining e k) = away .1 (e, k)
 
 -- ---- a walk
 
@@ -201,25 +212,25 @@ module _ (n s d m room : ℕ) (lab : ℕ → ℕ) where
   unfolding W.walkRefusal first
   walk-given =
       one-test _ (λ e. walk-1 (wrong-dimension n .0 e)) said-1
-      (two-tests _ _ (λ e. walk-2-labels (wrong-length n m .0 e)) (λ e. walk-2-row (row .0 e)) said-2
+      (also-test _ (λ e. walk-2-labels (wrong-length n m .0 e)) (λ f. one-test _ (λ e. walk-2-row (row .0 e)) (said-2 f)
       (one-test _ (λ e. walk-5 (outside n s d .0 e)) said-5
       (one-test _ (λ e. let r = bytes .0 e in walk-4 (r .0) (r .1) (r .2)) said-4
-      (one-test _ (λ e. walk-6 (eqb-true (lab s) 3 e)) said-6
+      (one-test _ (λ e. walk-6 (leb-true 3 (lab s) e)) said-6
       (one-test _ (λ e. walk-7 (eqb-true (lab d) 3 e)) said-7
-      (one-test _ (λ e. walk-8 (eight n lab d s .0 e)) said-8 none))))))
+      (one-test _ (λ e. walk-8 (eight n lab d s .0 e)) said-8 none)))))))
     where
       row : (not (eqb room 34) ≡ true) ↔ (¬ (room ≡ 34))
       row = not-says _ (eqb-says room 34)
 
-      bytes : (some (2 ^ n) (λ x. ltb highest (lab x)) ≡ true) ↔ ((x : ℕ) × (x < 2 ^ n) × (3 < lab x))
-      bytes = some-says (2 ^ n) _ (λ x. 3 < lab x) (λ x. ltb-says 3 (lab x))
+      bytes : (some (2 ^ n) (λ x. ltb highest (lab x)) ≡ true) ↔ ((x : ℕ) × (x < 2 ^ n) × (4 < lab x))
+      bytes = some-says (2 ^ n) _ (λ x. 4 < lab x) (λ x. ltb-says 4 (lab x))
 
       said-1 : WalkWhen n s d m room lab 1 → not (isDimension n) ≡ true
       said-1 (walk-1 w) = wrong-dimension n .1 w
 
-      said-2 : WalkWhen n s d m room lab 2 → (not (eqb m (2 ^ n)) ≡ true) ⊎ (not (eqb room 34) ≡ true)
-      said-2 (walk-2-labels w) = inl (wrong-length n m .1 w)
-      said-2 (walk-2-row w) = inr (row .1 w)
+      said-2 : not (eqb m (2 ^ n)) ≡ false → WalkWhen n s d m room lab 2 → not (eqb room 34) ≡ true
+      said-2 f (walk-2-labels w) = absurd (clash (wrong-length n m .1 w) f)
+      said-2 f (walk-2-row w) = row .1 w
 
       said-5 : WalkWhen n s d m room lab 5 → (leb (2 ^ n) s || leb (2 ^ n) d) ≡ true
       said-5 (walk-5 w) = outside n s d .1 w
@@ -227,8 +238,8 @@ module _ (n s d m room : ℕ) (lab : ℕ → ℕ) where
       said-4 : WalkWhen n s d m room lab 4 → some (2 ^ n) (λ x. ltb highest (lab x)) ≡ true
       said-4 (walk-4 x l h) = bytes .1 (x, l, h)
 
-      said-6 : WalkWhen n s d m room lab 6 → eqb (lab s) 3 ≡ true
-      said-6 (walk-6 e) = eq-eqb (lab s) 3 e
+      said-6 : WalkWhen n s d m room lab 6 → leb 3 (lab s) ≡ true
+      said-6 (walk-6 l) = le-leb 3 (lab s) l
 
       said-7 : WalkWhen n s d m room lab 7 → eqb (lab d) 3 ≡ true
       said-7 (walk-7 e) = eq-eqb (lab d) 3 e

@@ -16,11 +16,12 @@ use Rattle.rule.proofs.Exchanges.{exchanged}
 use Rattle.labels.specs.Labelling.{labelRefusal, labelled}
 use Rattle.labels.specs.declared.Labelled.the-variants.{Exchanges}
 use Rattle.labels.proofs.Refusal.{fitting}
-use Rattle.hop.specs.Hop.{answer, decide, hop}
+use Rattle.hop.specs.Hop.{answer, decide, hop, hopRefusal, hopped}
+use Rattle.hop.specs.declared.Hopped.{Hopped}
 use Rattle.walk.specs.Walk.{onto, stops, spot, turn, hops, last, row, rowBytes, refused, walkFrom, walkRefusal, walked}
 use Rattle.walk.specs.declared.Walked.{Walked}
-use Rattle.theorems.specs.Words.{walkOf}
-use Rattle.promises.specs.Worked.{k4, k4-by, q3, those, visited, Worked}
+use Rattle.theorems.specs.Words.{labelAt, walkOf}
+use Rattle.promises.specs.Worked.{k4, k4-by, k4-drains, k4-nine, q3, those, visited, Worked}
 use Rattle.promises.proofs.Outcomes.{answered}
 use lib.ListN.{length}
 
@@ -35,6 +36,19 @@ q3-labels = refl
 k4-older-labels : labelsOf (k4-by 2) ≡ 2 ∷ 2 ∷ 3 ∷ 2 ∷ 3 ∷ 2 ∷ 2 ∷ 2 ∷ 3 ∷ 2 ∷ 2 ∷ 2 ∷ 2 ∷ 2 ∷ 2 ∷ 3 ∷ []
 unfolding labelsOf label labelOf safe rounds working quiet newly meets marked count least some flip tab nodeBit bit
 k4-older-labels = refl
+
+k4-drains-labels : labelsOf k4-drains ≡ 1 ∷ 0 ∷ 3 ∷ 0 ∷ 3 ∷ 0 ∷ 1 ∷ 0 ∷ 3 ∷ 0 ∷ 1 ∷ 0 ∷ 1 ∷ 0 ∷ 2 ∷ 4 ∷ []
+unfolding labelsOf label labelOf safe rounds working quiet newly meets marked count least some flip tab nodeBit bit
+k4-drains-labels = refl
+
+k4-nine-labels : labelsOf k4-nine ≡ 1 ∷ 0 ∷ 3 ∷ 0 ∷ 3 ∷ 0 ∷ 1 ∷ 0 ∷ 3 ∷ 4 ∷ 2 ∷ 1 ∷ 2 ∷ 1 ∷ 2 ∷ 3 ∷ []
+unfolding labelsOf label labelOf safe rounds working quiet newly meets marked count least some flip tab nodeBit bit
+k4-nine-labels = refl
+
+-- a hop by the labels of a cabinet is the hop by what they compute to
+hop-on : {x : Hopped} (K : Cabinet) (c d m : ℕ) (labels : List ℕ) → labelsOf K ≡ labels → hopped (K .n) c d m (labelIn labels) ≡ x
+    → hopped (K .n) c d m (labelAt K) ≡ x
+hop-on K c d m labels e f = ap (λ (l : List ℕ). hopped (K .n) c d m (labelIn l)) e ∙ f
 
 -- a walk on the labels of a cabinet is the walk on what they compute to
 on : {w : Walked} (K : Cabinet) (s d : ℕ) (labels : List ℕ) → labelsOf K ≡ labels → walked (K .n) s d (length labels) rowBytes (labelIn labels) ≡ w
@@ -52,7 +66,7 @@ module _ (K : Cabinet) (m : ℕ) (accepted : labelRefusal K m ≡ 0) where
   all-faulty f = answered K m accepted ∙ ap Exchanges (exchanged (K .n) (K .rule) (out K) .none-works f)
 
 pub worked : Worked
-unfolding those visited walked walkRefusal walkFrom refused first row last hops turn spot stops onto hop decide answer firstScan lowest takes suits apart dist
+unfolding those visited walked walkRefusal walkFrom refused first row last hops turn spot stops onto hopped hopRefusal hop decide answer firstScan lowest takes suits apart dist
     ones labelIn tab isDimension isRule tableLen unusedSet nodeBit bit flip some least count labelled labelRefusal exchangesOf exchanges labelsOf label labelOf safe
     rounds working quiet newly meets marked
 worked =
@@ -88,4 +102,15 @@ worked =
       c3-labels = refl;
       c4-older-labels = refl;
       c4-labels = refl;
+      k4-drains-exchanges = refl;
+      k4-drains-labels = k4-drains-labels;
+      k4-0-15 = on k4 0 15 _ k4-labels refl;
+      k4-drains-0-15 = on k4-drains 0 15 _ k4-drains-labels refl;
+      k4-drains-15-15 = on k4-drains 15 15 _ k4-drains-labels refl;
+      k4-drains-15-14 = hop-on k4-drains 15 14 16 _ k4-drains-labels refl;
+      k4-drains-at-15 = hop-on k4-drains 15 15 16 _ k4-drains-labels refl;
+      k4-both-labels = refl;
+      k4-nine-labels = k4-nine-labels;
+      k4-nine-13-0 = on k4-nine 13 0 _ k4-nine-labels refl;
+      k4-nine-13-9 = on k4-nine 13 9 _ k4-nine-labels refl;
     }

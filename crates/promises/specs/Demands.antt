@@ -1,7 +1,7 @@
 -- The three demands, of whatever the contracts allow: labelling asked and answered, then hop and walk asked on the bytes that it left, and the notice
 -- reader before them. lib is the library, as Rattle or as C calls it.
 use mathlib.Core.List.{List}
-use mathlib.Core.Logic.{_⊎_}
+use mathlib.Core.Logic.{_⊎_, _≢_}
 use mathlib.Core.Path.{_≡_}
 use Prim.Native.Nat.{ℕ, _+_, _^_, _≤_, _<_}
 use lib.ListN.{length, replicate}
@@ -23,13 +23,14 @@ use Rattle.hop.specs.declared.Hopped.the-variants as hopped
 use Rattle.walk.specs.Walk as W
 use Rattle.walk.specs.declared.Ending.the-variants as ending
 use Rattle.walk.specs.declared.Walked.{Walked}
+use Rattle.theorems.specs.Before.{hoppedThen, labelledThen, labelsAfterThen, noneDrain, walkedThen}
 use Rattle.theorems.specs.Demand2.{Demand2}
 use Rattle.theorems.specs.Demand3.{Walks}
 use Rattle.theorems.specs.Picked.{Picked}
 use Rattle.theorems.specs.TwoRules.{NoneStrong, OnlyBetter, more}
-use Rattle.theorems.specs.Words.{SomeSafe, Works, place}
+use Rattle.theorems.specs.Words.{SomeSafe, Takes, Works, place}
 use Rattle.promises.specs.Library.{Library}
-use Rattle.promises.specs.Refusals.{HopGiven, LabelGiven, NoticeGiven, Rule, WalkGiven}
+use Rattle.promises.specs.Refusals.{HopGiven, LabelGiven, NoticeGiven, Rule, TableLength, Unused, WalkGiven}
 
 pub record Demands (lib : Library) : Type 0 where
   -- ---- 1. No input makes it misbehave
@@ -71,13 +72,13 @@ pub record Demands (lib : Library) : Type 0 where
       → labelIn table c ≡ labelIn table′ c → ((i : ℕ) → i < n → labelIn table (flip i c) ≡ labelIn table′ (flip i c)) → x ≡ x′
   -- ---- 3. Walks arrive
 
-  -- labelling accepts the table that an accepted notice left, by either rule
+  -- labelling accepts the table that an accepted notice left, by either rule, with any table of draining nodes that is in order
   pub notice-labels :
-      {bytes faults before after old : List ℕ} {n rule m taken : ℕ} {x : Labelled} → lib .reads bytes old (noticed.Notice n m taken) faults
-      → Rule rule → length before ≡ 2 ^ n → lib .labels (cabinet n rule faults) before x after → (exchanges : ℕ) × (x ≡ labelled.Exchanges exchanges)
-  -- with the labels that labelling left, and two working nodes
+      {bytes faults draining before after old : List ℕ} {n rule m taken : ℕ} {x : Labelled} → lib .reads bytes old (noticed.Notice n m taken) faults
+      → Rule rule → TableLength n (length draining) → ¬ (Unused n draining) → length before ≡ 2 ^ n → lib .labels (cabinet n rule faults draining) before x after → (exchanges : ℕ) × (x ≡ labelled.Exchanges exchanges)
+  -- with the labels that labelling left, from a working node to one that works or drains
   pub walks :
-      {K : Cabinet} {before table : List ℕ} {exchanges s d : ℕ} {w : Walked} → lib .labels K before (labelled.Exchanges exchanges) table → Works K s → Works K d
+      {K : Cabinet} {before table : List ℕ} {exchanges s d : ℕ} {w : Walked} → lib .labels K before (labelled.Exchanges exchanges) table → Works K s → Takes K d
       → lib .walks (K .n) s d table W.rowBytes w → Walks K (labelIn table) s d w
   -- on every table that the walk accepts it starts at the source and repeats the hop question: at each place but the last the answer is a hop, and the next
   -- place is across it;
@@ -96,33 +97,53 @@ pub record Demands (lib : Library) : Type 0 where
       {n s d room : ℕ} {table : List ℕ} {w : Walked} → lib .walks n s d table room w → W.refusalOf (w .ending) ≡ 0 → w .hops ≤ n + 4
   pub walk-unused :
       {n s d room k : ℕ} {table : List ℕ} {w : Walked} → lib .walks n s d table room w → W.refusalOf (w .ending) ≡ 0 → w .hops < k → place w k ≡ 0
-  -- and no walk enters a node that is labelled faulty
+  -- and no walk has a node that is labelled faulty or draining before its last place, nor at it unless that is the destination
   pub walk-enters :
-      {n s d room k : ℕ} {table : List ℕ} {w : Walked} → lib .walks n s d table room w → W.refusalOf (w .ending) ≡ 0 → k ≤ w .hops
+      {n s d room k : ℕ} {table : List ℕ} {w : Walked} → lib .walks n s d table room w → W.refusalOf (w .ending) ≡ 0 → k < w .hops
       → labelIn table (place w k) ≤ 2
+  pub walk-ends-in :
+      {n s d room : ℕ} {table : List ℕ} {w : Walked} → lib .walks n s d table room w → W.refusalOf (w .ending) ≡ 0
+      → (labelIn table (place w (w .hops)) ≤ 2) ⊎ (place w (w .hops) ≡ d)
   -- ---- the two rules (document 02, A13)
 
   -- a site moves from rule 2 to rule 3: its labels only get better,
   pub moved :
-      {n e e′ : ℕ} {faults before before′ old new : List ℕ} → lib .labels (cabinet n 2 faults) before (labelled.Exchanges e) old
-      → lib .labels (cabinet n 3 faults) before′ (labelled.Exchanges e′) new → OnlyBetter n (labelIn old) (labelIn new)
+      {n e e′ : ℕ} {faults draining before before′ old new : List ℕ} → lib .labels (cabinet n 2 faults draining) before (labelled.Exchanges e) old
+      → lib .labels (cabinet n 3 faults draining) before′ (labelled.Exchanges e′) new → OnlyBetter n (labelIn old) (labelIn new)
   -- and a walk with the new labels arrives within the bound that the old ones gave it
   pub moved-walks :
-      {n e e′ s d : ℕ} {faults before before′ old new : List ℕ} {w : Walked} → lib .labels (cabinet n 2 faults) before (labelled.Exchanges e) old
-      → lib .labels (cabinet n 3 faults) before′ (labelled.Exchanges e′) new → SomeSafe n (labelIn old)
-      → Works (cabinet n 3 faults) s → Works (cabinet n 3 faults) d → lib .walks n s d new W.rowBytes w
+      {n e e′ s d : ℕ} {faults draining before before′ old new : List ℕ} {w : Walked} → lib .labels (cabinet n 2 faults draining) before (labelled.Exchanges e) old
+      → lib .labels (cabinet n 3 faults draining) before′ (labelled.Exchanges e′) new → SomeSafe n (labelIn old)
+      → Works (cabinet n 3 faults draining) s → Takes (cabinet n 3 faults draining) d → lib .walks n s d new W.rowBytes w
       → (w .ending ≡ ending.Delivered) × (w .hops ≤ dist s d + more (labelIn old) s d)
   -- anywhere, a frame that arrived with the old labels arrives with the new
   pub still-arrives :
-      {n e e′ s d : ℕ} {faults before before′ old new : List ℕ} {v w : Walked} → lib .labels (cabinet n 2 faults) before (labelled.Exchanges e) old
-      → lib .labels (cabinet n 3 faults) before′ (labelled.Exchanges e′) new → Works (cabinet n 3 faults) s → Works (cabinet n 3 faults) d
+      {n e e′ s d : ℕ} {faults draining before before′ old new : List ℕ} {v w : Walked} → lib .labels (cabinet n 2 faults draining) before (labelled.Exchanges e) old
+      → lib .labels (cabinet n 3 faults draining) before′ (labelled.Exchanges e′) new → Works (cabinet n 3 faults draining) s → Takes (cabinet n 3 faults draining) d
       → lib .walks n s d old W.rowBytes v → lib .walks n s d new W.rowBytes w → v .ending ≡ ending.Delivered → w .ending ≡ ending.Delivered
   -- with rule 2, where some node is safe no working node is strongly unsafe,
   pub none-strong :
-      {n e : ℕ} {faults before table : List ℕ} → lib .labels (cabinet n 2 faults) before (labelled.Exchanges e) table
-      → NoneStrong (cabinet n 2 faults) (labelIn table)
+      {n e : ℕ} {faults draining before table : List ℕ} → lib .labels (cabinet n 2 faults draining) before (labelled.Exchanges e) table
+      → NoneStrong (cabinet n 2 faults draining) (labelIn table)
   -- so there no walk is longer than the distance and two more
   pub two-more :
-      {n e s d : ℕ} {faults before table : List ℕ} {w : Walked} → lib .labels (cabinet n 2 faults) before (labelled.Exchanges e) table
-      → SomeSafe n (labelIn table) → Works (cabinet n 2 faults) s → Works (cabinet n 2 faults) d → lib .walks n s d table W.rowBytes w
+      {n e s d : ℕ} {faults draining before table : List ℕ} {w : Walked} → lib .labels (cabinet n 2 faults draining) before (labelled.Exchanges e) table
+      → SomeSafe n (labelIn table) → Works (cabinet n 2 faults draining) s → Takes (cabinet n 2 faults draining) d → lib .walks n s d table W.rowBytes w
       → w .hops ≤ dist s d + 2
+  -- ---- boards without draining nodes (document 02, A4): every answer is what it was
+
+  -- labelling that is lent an empty table of draining nodes answers and leaves what it did,
+  pub label-before :
+      {n rule : ℕ} {faults before after : List ℕ} {x : Labelled} → lib .labels (cabinet n rule faults (noneDrain n)) before x after
+      → (x ≡ labelledThen n rule faults (length before)) × (after ≡ labelsAfterThen n rule faults before)
+  -- no label is 4 then,
+  pub no-four :
+      {n rule e : ℕ} {faults before table : List ℕ} → lib .labels (cabinet n rule faults (noneDrain n)) before (labelled.Exchanges e) table
+      → (x : ℕ) → labelIn table x ≢ 4
+  -- and on a table without a 4 a hop and a walk are answered as they were
+  pub hop-before :
+      {n c d : ℕ} {table : List ℕ} {x : Hopped} → lib .hops n c d table x → ((k : ℕ) → labelIn table k ≢ 4)
+      → x ≡ hoppedThen n c d (length table) (labelIn table)
+  pub walk-before :
+      {n s d room : ℕ} {table : List ℕ} {w : Walked} → lib .walks n s d table room w → ((k : ℕ) → labelIn table k ≢ 4)
+      → w ≡ walkedThen n s d (length table) room (labelIn table)

@@ -23,11 +23,11 @@ pub record InC : Type 0 where
   -- "to C each answers one number: refusal × 16,777,216 + kind × 65,536 + value": that of the answer that the library's own function gives.
   -- "Labelling: kind 0, value is the round count", which is the number of exchanges now
   pub label-exchanges :
-      {n rule r v : ℕ} {faults before after after′ : List ℕ} → May hcube.label (n, rule, faults, before) r after
-      → May labels.label (n, rule, faults, before) (labelled.Exchanges v) after′ → r ≡ v
+      {n rule r v : ℕ} {faults draining before after after′ : List ℕ} → May hcube.label (n, rule, faults, draining, before) r after
+      → May labels.label (n, rule, faults, draining, before) (labelled.Exchanges v) after′ → r ≡ v
   pub label-refuses :
-      {n rule r k : ℕ} {faults before after after′ : List ℕ} → May hcube.label (n, rule, faults, before) r after
-      → May labels.label (n, rule, faults, before) (labelled.Refused k) after′ → r ≡ k * 16777216
+      {n rule r k : ℕ} {faults draining before after after′ : List ℕ} → May hcube.label (n, rule, faults, draining, before) r after
+      → May labels.label (n, rule, faults, draining, before) (labelled.Refused k) after′ → r ≡ k * 16777216
   -- "Hop: kind 0 deliver, 1 hop (value is the dimension), 2 halted"
   pub hop-delivers : {n c d r : ℕ} {table : List ℕ} → May hcube.hop (n, c, d, table) r tt → May hop.hop (n, c, d, table) (hopped.Decided Deliver) tt → r ≡ 0
   pub hop-hops :

@@ -34,7 +34,7 @@ abbrev pub rattle : Library
 rattle =
     record {
       reads = λ bytes before x after. May notice.read (bytes, before) x after;
-      labels = λ K before x after. May labels.label (K .n, K .rule, K .faults, before) x after;
+      labels = λ K before x after. May labels.label (K .n, K .rule, K .faults, K .draining, before) x after;
       hops = λ n c d table x. May hop.hop (n, c, d, table) x tt;
       walks = λ n s d table room w. May walk.walk-for (n, s, d, table, room) w tt ⊎ (May walk.walk (n, s, d, table) w tt × (room ≡ rowBytes));
     }
@@ -43,7 +43,7 @@ abbrev pub c : Library
 c =
     record {
       reads = λ bytes before x after. (r : ℕ) × May hcube.read-notice (bytes, before) r after × (noticedFrom r ≡ x);
-      labels = λ K before x after. (r : ℕ) × May hcube.label (K .n, K .rule, K .faults, before) r after × (labelledFrom r ≡ x);
+      labels = λ K before x after. (r : ℕ) × May hcube.label (K .n, K .rule, K .faults, K .draining, before) r after × (labelledFrom r ≡ x);
       hops = λ n c d table x. (r : ℕ) × May hcube.hop (n, c, d, table) r tt × (hoppedFrom r ≡ x);
       walks = λ n s d table room w.
           (r : ℕ) × (before after : List ℕ) × May hcube.walk (n, s, d, table, before) r after × (length before ≡ room) × (walkedFrom r after ≡ w);

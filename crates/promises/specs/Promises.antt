@@ -16,6 +16,7 @@ use Rattle.scans.specs.Progress.{ScansProgress}
 use Rattle.hop.specs.Local.{HopLocal}
 use Rattle.walk.specs.Laws.{MessageLaws}
 use Rattle.walk.specs.Local.{WalkLocal}
+use Rattle.theorems.specs.Before.{AsBefore}
 use Rattle.theorems.specs.Demand2.{Demand2}
 use Rattle.theorems.specs.Demand3.{Demand3}
 use Rattle.theorems.specs.Picked.{HopPicked}
@@ -55,6 +56,7 @@ pub record Promises : Type 2 where
   pub good : LabelsGood
   pub rules : (n : ℕ) (F : ℕ → Bool) → Rules n F
   pub two-rules : TwoRules
+  pub as-before : AsBefore
   pub progress : ScansProgress
   -- document 01's words
   pub refusals : Refusals

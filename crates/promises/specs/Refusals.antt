@@ -1,5 +1,6 @@
 -- Refusals in words. Document 01 says for each number when it is given, and for each question in which order the numbers are looked at: "each is given then
--- and not otherwise". Here the cases stand in its words, apart from the tables of tests by which the definitions answer. Proved in proofs/Refusals.antt.
+-- and not otherwise". Here the cases stand in its words, with those of document 02's request A4 on draining nodes, apart from the tables of tests by which the
+-- definitions answer. Proved in proofs/Refusals.antt.
 use mathlib.Core.Bool.{true}
 use mathlib.Core.List.{List, [], _∷_}
 use mathlib.Core.Logic.{_⊎_, _≢_}
@@ -33,23 +34,30 @@ Dimension n = (1 ≤ n) × (n ≤ 12)
 abbrev pub Rule : (k : ℕ) → Type 0
 Rule k = (k ≡ 2) ⊎ (k ≡ 3)
 
--- the length of a fault table: "one byte for n up to 3, otherwise 2^n/8 bytes"
+-- the length of a fault table, and of a table of draining nodes: "one byte for n up to 3, otherwise 2^n/8 bytes"
 abbrev pub TableLength : (n bytes : ℕ) → Type 0
 TableLength n bytes = ((n ≤ 3) × (bytes ≡ 1)) ⊎ ((3 < n) × (bytes ≡ 2 ^ n / 8))
+
+-- an unused bit is set: one that stands for no node
+abbrev pub Unused : (n : ℕ) (table : List ℕ) → Type 0
+Unused n table = (x : ℕ) × (2 ^ n ≤ x) × (nodeBit table x ≡ true)
 
 -- "an end or current node is 2^n or more"
 abbrev pub Outside : (n a b : ℕ) → Type 0
 Outside n a b = (2 ^ n ≤ a) ⊎ (2 ^ n ≤ b)
 
--- ---- labelling, of a cabinet and a label table of m bytes: "1, 2 (fault table, then label table), 3", with 18 "directly after 1"
+-- ---- labelling, of a cabinet and a label table of m bytes: "1, 2 (fault table, then label table), 3", with 18 "directly after 1"; "2 and 3 also test the new
+-- table" of draining nodes
 
 pub data LabelWhen (K : Cabinet) (m : ℕ) : ℕ → Type 0 where
   label-1 : ¬ (Dimension (K .n)) → LabelWhen K m 1
   label-18 : ¬ (Rule (K .rule)) → LabelWhen K m 18
   label-2-faults : ¬ (TableLength (K .n) (length (K .faults))) → LabelWhen K m 2
+  label-2-draining : ¬ (TableLength (K .n) (length (K .draining))) → LabelWhen K m 2
   label-2-labels : m ≢ 2 ^ K .n → LabelWhen K m 2
-  -- "an unused bit is set in the fault table": one that stands for no node
-  label-3 : (x : ℕ) → 2 ^ K .n ≤ x → nodeBit (K .faults) x ≡ true → LabelWhen K m 3
+  -- "an unused bit is set in the fault table", or in that of the draining nodes
+  label-3-faults : Unused (K .n) (K .faults) → LabelWhen K m 3
+  label-3-draining : Unused (K .n) (K .draining) → LabelWhen K m 3
 
 abbrev pub LabelGiven : (K : Cabinet) (m : ℕ) → ℕ → Type 0
 LabelGiven K m = Given (LabelWhen K m) (1 ∷ 18 ∷ 2 ∷ 3 ∷ [])
@@ -60,10 +68,12 @@ pub data HopWhen (n c d m : ℕ) (lab : ℕ → ℕ) : ℕ → Type 0 where
   hop-1 : ¬ (Dimension n) → HopWhen n c d m lab 1
   hop-2 : m ≢ 2 ^ n → HopWhen n c d m lab 2
   hop-5 : Outside n c d → HopWhen n c d m lab 5
-  -- "a label byte above 3 (hop: at c or a neighbour)"
-  hop-4-here : 3 < lab c → HopWhen n c d m lab 4
-  hop-4-near : (i : ℕ) → i < n → 3 < lab (flip i c) → HopWhen n c d m lab 4
-  hop-6 : lab c ≡ 3 → HopWhen n c d m lab 6
+  -- "4 now means a byte above 4" (hop: at c or a neighbour)
+  hop-4-here : 4 < lab c → HopWhen n c d m lab 4
+  hop-4-near : (i : ℕ) → i < n → 4 < lab (flip i c) → HopWhen n c d m lab 4
+  -- "current node has label 3", "and for a hop decision at a draining node that isn't the destination"
+  hop-6-faulty : lab c ≡ 3 → HopWhen n c d m lab 6
+  hop-6-draining : lab c ≡ 4 → c ≢ d → HopWhen n c d m lab 6
 
 abbrev pub HopGiven : (n c d m : ℕ) (lab : ℕ → ℕ) → ℕ → Type 0
 HopGiven n c d m lab = Given (HopWhen n c d m lab) (1 ∷ 2 ∷ 5 ∷ 4 ∷ 6 ∷ [])
@@ -81,9 +91,11 @@ pub data WalkWhen (n s d m room : ℕ) (lab : ℕ → ℕ) : ℕ → Type 0 wher
   -- "a lent buffer of exactly 34 bytes"
   walk-2-row : room ≢ 34 → WalkWhen n s d m room lab 2
   walk-5 : Outside n s d → WalkWhen n s d m room lab 5
-  -- "a label byte above 3 (walk: anywhere)"
-  walk-4 : (x : ℕ) → x < 2 ^ n → 3 < lab x → WalkWhen n s d m room lab 4
-  walk-6 : lab s ≡ 3 → WalkWhen n s d m room lab 6
+  -- a byte above 4 (walk: anywhere)
+  walk-4 : (x : ℕ) → x < 2 ^ n → 4 < lab x → WalkWhen n s d m room lab 4
+  -- the source has label 3, or 4: "also for a draining source, even when it is the destination"
+  walk-6 : 3 ≤ lab s → WalkWhen n s d m room lab 6
+  -- "7 stays for faulty only"
   walk-7 : lab d ≡ 3 → WalkWhen n s d m room lab 7
   walk-8 : AllHops n lab d s → WalkWhen n s d m room lab 8
 

@@ -1,5 +1,6 @@
 -- The numbers of document 01 that are proved of the definitions, with the counts of document 02's request A3. k4 is n = 4 with faulty 2, 4, 8, 15; q3 is
--- n = 3 with faulty 1, 2, 4. And numbers of our own for the older rule (A13): of k4, and of c3 and c4, n = 3 and n = 4 with faulty 0, 3, 4.
+-- n = 3 with faulty 1, 2, 4. And numbers of our own: for the older rule (A13) of k4, and of c3 and c4, n = 3 and n = 4 with faulty 0, 3, 4; for draining nodes
+-- (A4) of k4 with 15 draining instead of faulty, with 15 in both tables, and with 9 draining besides.
 use mathlib.Core.Bool.{Bool, true, false, cond}
 use mathlib.Core.List.{List, [], _∷_, _++_}
 use mathlib.Core.Path.{_≡_}
@@ -11,25 +12,38 @@ use Rattle.rule.specs.Cabinet.{Cabinet, cabinet, labelsOf, out}
 use Rattle.rule.specs.Rule.{marked, safe}
 use Rattle.labels.specs.Labelling.{labelRefusal, labelled}
 use Rattle.labels.specs.declared.Labelled.the-variants.{Exchanges}
+use Rattle.hop.specs.Hop.{hopped}
+use Rattle.hop.specs.declared.Decision.the-variants.{Deliver}
+use Rattle.hop.specs.declared.Hopped.the-variants as Hopped
+use Rattle.walk.specs.Walk.{refused}
 use Rattle.walk.specs.declared.Ending.{Ending}
 use Rattle.walk.specs.declared.Ending.the-variants.{Delivered, Halted}
 use Rattle.walk.specs.declared.Walked.{Walked}
 use Rattle.theorems.specs.Words.{labelAt, walkOf}
 
 abbrev pub k4-by : (rule : ℕ) → Cabinet
-k4-by rule = cabinet 4 rule (20 ∷ 129 ∷ [])
+k4-by rule = cabinet 4 rule (20 ∷ 129 ∷ []) (0 ∷ 0 ∷ [])
 
 abbrev pub k4 : Cabinet
 k4 = k4-by 3
 
 abbrev pub q3 : Cabinet
-q3 = cabinet 3 3 (22 ∷ [])
+q3 = cabinet 3 3 (22 ∷ []) (0 ∷ [])
 
 abbrev pub c3-by : (rule : ℕ) → Cabinet
-c3-by rule = cabinet 3 rule (25 ∷ [])
+c3-by rule = cabinet 3 rule (25 ∷ []) (0 ∷ [])
 
 abbrev pub c4-by : (rule : ℕ) → Cabinet
-c4-by rule = cabinet 4 rule (25 ∷ 0 ∷ [])
+c4-by rule = cabinet 4 rule (25 ∷ 0 ∷ []) (0 ∷ 0 ∷ [])
+
+abbrev pub k4-drains : Cabinet
+k4-drains = cabinet 4 3 (20 ∷ 1 ∷ []) (0 ∷ 128 ∷ [])
+
+abbrev pub k4-both : Cabinet
+k4-both = cabinet 4 3 (20 ∷ 129 ∷ []) (0 ∷ 128 ∷ [])
+
+abbrev pub k4-nine : Cabinet
+k4-nine = cabinet 4 3 (20 ∷ 129 ∷ []) (0 ∷ 2 ∷ [])
 
 -- the numbers below n that have p, rising
 unfoldable pub those : ℕ → (ℕ → Bool) → List ℕ
@@ -67,7 +81,7 @@ pub record Worked : Type 0 where
       (K : Cabinet) (m : ℕ) → labelRefusal K m ≡ 0 → ((x : ℕ) → x < 2 ^ K .n → out K x ≡ false) → labelled K m ≡ Exchanges 1
   pub all-faulty :
       (K : Cabinet) (m : ℕ) → labelRefusal K m ≡ 0 → ((x : ℕ) → x < 2 ^ K .n → out K x ≡ true) → labelled K m ≡ Exchanges 1
-  pub one-safe : safe 1 3 (out (cabinet 1 3 (1 ∷ []))) 1 ≡ true
+  pub one-safe : safe 1 3 (out (cabinet 1 3 (1 ∷ []) (0 ∷ []))) 1 ≡ true
   -- ---- the older rule
 
   -- k4 by rule 2: no node is safe, and a walk that rule 3 delivers halts
@@ -82,3 +96,19 @@ pub record Worked : Type 0 where
   -- c4: both leave safe nodes, and rule 3 leaves more
   pub c4-older-labels : labelsOf (c4-by 2) ≡ (3 ∷ 1 ∷ 1 ∷ 3 ∷ 3 ∷ 1 ∷ 1 ∷ 1 ∷ []) ++ replicate 8 0
   pub c4-labels : labelsOf (c4-by 3) ≡ (3 ∷ 1 ∷ 1 ∷ 3 ∷ 3 ∷ 0 ∷ 0 ∷ 0 ∷ []) ++ replicate 8 0
+  -- ---- draining nodes
+
+  -- k4 with 15 draining: every other label is k4's, and a frame that k4 loses is delivered; it forwards nothing, and takes what is addressed to it
+  pub k4-drains-exchanges : labelled k4-drains 16 ≡ Exchanges 3
+  pub k4-drains-labels : labelsOf k4-drains ≡ 1 ∷ 0 ∷ 3 ∷ 0 ∷ 3 ∷ 0 ∷ 1 ∷ 0 ∷ 3 ∷ 0 ∷ 1 ∷ 0 ∷ 1 ∷ 0 ∷ 2 ∷ 4 ∷ []
+  pub k4-0-15 : walkOf k4 0 15 ≡ refused 7
+  pub k4-drains-0-15 : walkOf k4-drains 0 15 ≡ visited (0 ∷ 1 ∷ 3 ∷ 7 ∷ 15 ∷ []) 4 12 Delivered
+  pub k4-drains-15-15 : walkOf k4-drains 15 15 ≡ refused 6
+  pub k4-drains-15-14 : hopped 4 15 14 16 (labelAt k4-drains) ≡ Hopped.Refused 6
+  pub k4-drains-at-15 : hopped 4 15 15 16 (labelAt k4-drains) ≡ Hopped.Decided Deliver
+  -- "a node in both is faulty"
+  pub k4-both-labels : labelsOf k4-both ≡ labelsOf k4
+  -- k4 with 9 draining besides: 13 to 0, which went through 9, is passed around it, and 13 to 9 arrives
+  pub k4-nine-labels : labelsOf k4-nine ≡ 1 ∷ 0 ∷ 3 ∷ 0 ∷ 3 ∷ 0 ∷ 1 ∷ 0 ∷ 3 ∷ 4 ∷ 2 ∷ 1 ∷ 2 ∷ 1 ∷ 2 ∷ 3 ∷ []
+  pub k4-nine-13-0 : walkOf k4-nine 13 0 ≡ visited (13 ∷ 5 ∷ 1 ∷ 0 ∷ []) 3 13 Delivered
+  pub k4-nine-13-9 : walkOf k4-nine 13 9 ≡ visited (13 ∷ 9 ∷ []) 1 15 Delivered
