@@ -1,14 +1,14 @@
 -- The sizes of a fault table, and its unused bits: from dimension 3 on every bit stands for a node; below it the unused bits are the
 -- high part of the one byte.
-use mathlib.Core.Path.{_≡_, sym, ap, _∙_}
+use mathlib.Core.Path.{_≡_, refl, sym, ap, _∙_}
 use mathlib.Core.Logic.{_⊎_, inl, inr}
 use mathlib.Core.Bool.{true, false, not, _&&_, and-false}
-use mathlib.Core.List.{List}
-use Prim.Native.Nat.{ℕ, _+_, _-_, _*_, _/_, _%_, _^_, _≤_, _<_}
+use mathlib.Core.List.{List, _∷_}
+use Prim.Native.Nat.{ℕ, zero, suc, _+_, _-_, _*_, _/_, _%_, _^_, _≤_, _<_}
 use native.Mathlib.Omega.{arith}
 use native.Mathlib.Nat.{mul-div-cancel, zero-lt-suc}
 use lib.Dec.{leb, ltb, eqb}
-use lib.ListN.{length, getD, replicate, length-replicate, getD-replicate, List·getD-eq-default}
+use lib.ListN.{length, getD, replicate, length-replicate, getD-replicate, take, List·getD-eq-default}
 use lib.Pow.{pow-add, pow-mono, pow-pos, shr-lt}
 use borrow.Author.Tests.{le-leb, lt-leb, eq-eqb, ne-eqb, leb-true, leb-false, ltb-true, ltb-false}
 use Rattle.cube.specs.Count.{some}
@@ -70,7 +70,13 @@ table-few n h = go (either (leb 3 n))
     go (inl a) = omega (arith, table-full n (leb-true 3 n a), nodes-few n h)
     go (inr a) = omega (arith, leb-false 3 n a, len-small n (omega (arith, leb-false 3 n a)))
 
--- a table of zeros has no node's bit set, and no unused one
+-- a front part of a table of zeros is one
+pub zeros-front : (k m : ℕ) → k ≤ m → take k (replicate m 0) ≡ replicate {A = ℕ} k 0
+zeros-front zero m h = refl
+zeros-front (suc k) zero h = absurd (omega arith)
+zeros-front (suc k) (suc m) h = ap (λ (l : List ℕ). 0 ∷ l) (zeros-front k m (omega arith))
+
+-- it has no node's bit set, and no unused one
 pub zeros-none : (m k : ℕ) → nodeBit (replicate m 0) k ≡ false
 unfolding nodeBit
 zeros-none m k = ap (bit (k % 8)) (byte (either (ltb (k / 8) m))) ∙ bit-none (k % 8)

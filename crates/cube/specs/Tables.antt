@@ -3,7 +3,7 @@ use mathlib.Core.Bool.{Bool, cond, _&&_}
 use mathlib.Core.List.{List, [], _∷_}
 use Prim.Native.Nat.{ℕ, zero, suc, _*_, _/_, _%_, _^_}
 use lib.Dec.{leb}
-use lib.ListN.{length, getD}
+use lib.ListN.{length, getD, replicate}
 use Rattle.cube.specs.Count.{some}
 use Rattle.cube.specs.Cube.{bit}
 
@@ -19,6 +19,10 @@ isDimension n = leb 1 n && leb n 12
 -- the bytes of a fault table: one for n up to 3, otherwise 2 ^ n / 8
 unfoldable pub tableLen : ℕ → ℕ
 tableLen n = cond (leb n 3) 1 (2 ^ n / 8)
+
+-- a table that names no node
+abbrev pub emptyTable : (n : ℕ) → List ℕ
+emptyTable n = replicate (tableLen n) 0
 
 -- node k in a fault table: byte k / 8 at bit k mod 8, bit 0 lowest
 unfoldable pub nodeBit : List ℕ → ℕ → Bool

@@ -4,12 +4,12 @@ use mathlib.Core.Path.{_≡_, refl, sym, ap, _∙_}
 use mathlib.Core.List.{List, _++_}
 use Prim.Native.Nat.{ℕ, _^_, _≤_}
 use native.Mathlib.Omega.{arith}
-use lib.ListN.{length, replicate, take}
+use lib.ListN.{length, length-replicate, replicate, take}
 use lib.Seq.{take-at}
 use borrow.Author.Tests.{eq-eqb}
 use Rattle.cube.specs.Refusal.{first}
-use Rattle.cube.specs.Tables.{tableLen}
-use Rattle.cube.proofs.Tables.{nodes-few, table-few}
+use Rattle.cube.specs.Tables.{emptyTable, tableLen}
+use Rattle.cube.proofs.Tables.{nodes-few, table-few, zeros-unused}
 use Rattle.groups.specs.Number.{onNumber}
 use Rattle.groups.specs.declared.Number.{Number}
 use Rattle.groups.specs.declared.Number.the-variants as number
@@ -82,16 +82,20 @@ module _ (s t : List ℕ) (sized : length t ≡ wantedLen s) where
     same-length = let d = opened-notice (dimensionAt s) s n m taken is-notice .dimension in rw d at sized
 
     module _ {faults : List ℕ} (after : faults ≡ tableAfter s t) where
-      same-cabinet : cabinet n 3 faults ≡ cabinetOf s n
+      same-cabinet : cabinet n 3 faults (emptyTable n) ≡ cabinetOf s n
       unfolding tableAfter
       same-cabinet =
-          ap (cabinet n 3) after ∙ rw e (ap (λ (k : ℕ). cabinet n 3 (withBits (replicate k 0) (addressesOf s))) same-length)
+          ap (λ (t : List ℕ). cabinet n 3 t (emptyTable n)) after
+          ∙ rw e (ap (λ (k : ℕ). cabinet n 3 (withBits (replicate k 0) (addressesOf s)) (emptyTable n)) same-length)
 
-      pub labels-fit : {size : ℕ} → size ≡ 2 ^ n → labelRefusal (cabinet n 3 faults) size ≡ 0
-      labels-fit full = rw after (fits (cabinet n 3 (tableAfter s t)) _ (read .dimension) (omega arith, omega arith) (table .sized) (table .unused) full)
+      pub labels-fit : {size : ℕ} → size ≡ 2 ^ n → labelRefusal (cabinet n 3 faults (emptyTable n)) size ≡ 0
+      labels-fit full =
+          rw after
+          (fits (cabinet n 3 (tableAfter s t) (emptyTable n)) _ (read .dimension) (omega arith, omega arith) (table .sized)
+          (length-replicate (tableLen n) 0) (table .unused) (zeros-unused n (tableLen n)) full)
 
       pub cube-head : {nodes end : ℕ} (labels rest out : List ℕ) → nodes ≡ 2 ^ n
-          → (take end out ≡ firstLine m (cabinet n 3 faults)) × ((end ≤ room) × (labels ≡ labelsOf (cabinet n 3 faults)))
+          → (take end out ≡ firstLine m (cabinet n 3 faults (emptyTable n))) × ((end ≤ room) × (labels ≡ labelsOf (cabinet n 3 faults (emptyTable n))))
           → Headed s (record { n = n; nodes = nodes; end = end }) (labels ++ rest) out
       unfolding headLine labelsIn
       cube-head {nodes} labels rest out full made = record {

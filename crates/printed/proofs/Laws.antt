@@ -43,15 +43,15 @@ is-notice : noticeOf sampleBytes ≡ Notice 4 4 6
 unfolding noticeOf noticeFrom dimensionAt restAt tested first isDimension numberAt addressesEnd further
 is-notice = refl
 
-table : cabinetOf sampleBytes 4 ≡ cabinet 4 3 (0x14 ∷ 0x81 ∷ [])
+table : cabinetOf sampleBytes 4 ≡ cabinet 4 3 (0x14 ∷ 0x81 ∷ []) (0 ∷ 0 ∷ [])
 unfolding addressesOf dimensionAt restAt tested first isDimension numberAt addressesEnd further addressesAt withBits withBit tableLen
 table = refl
 
-labels-are : labelsOf (cabinet 4 3 (0x14 ∷ 0x81 ∷ [])) ≡ k4
+labels-are : labelsOf (cabinet 4 3 (0x14 ∷ 0x81 ∷ []) (0 ∷ 0 ∷ [])) ≡ k4
 unfolding labelsOf label labelOf safe rounds working quiet newly meets marked count least some flip tab nodeBit bit
 labels-are = refl
 
-exchanges-are : exchangesOf (cabinet 4 3 (0x14 ∷ 0x81 ∷ [])) ≡ 3
+exchanges-are : exchangesOf (cabinet 4 3 (0x14 ∷ 0x81 ∷ []) (0 ∷ 0 ∷ [])) ≡ 3
 unfolding exchangesOf exchanges rounds working quiet newly meets marked count least some flip tab nodeBit bit
 exchanges-are = refl
 
@@ -147,11 +147,11 @@ none-faulty : noticeOf (0x01 ∷ 0x00 ∷ 0x00 ∷ 0x81 ∷ []) ≡ Notice 1 0 2
 unfolding noticeOf noticeFrom dimensionAt restAt tested first isDimension numberAt twoGroups addressesEnd further
 none-faulty = refl
 
-none-table : cabinetOf (0x01 ∷ 0x00 ∷ 0x00 ∷ 0x81 ∷ []) 1 ≡ cabinet 1 3 (0 ∷ [])
+none-table : cabinetOf (0x01 ∷ 0x00 ∷ 0x00 ∷ 0x81 ∷ []) 1 ≡ cabinet 1 3 (0 ∷ []) (0 ∷ [])
 unfolding addressesOf dimensionAt restAt tested first isDimension numberAt addressesEnd further addressesAt withBits withBit tableLen
 none-table = refl
 
-none-line : firstLine 0 (cabinet 1 3 (0 ∷ [])) ≡ text "cube 1 faulty 0 safe 2 ordinary 0 strong 0 rounds 1\n"
+none-line : firstLine 0 (cabinet 1 3 (0 ∷ []) (0 ∷ [])) ≡ text "cube 1 faulty 0 safe 2 ordinary 0 strong 0 rounds 1\n"
 unfolding cubeLine decimal width labelsOf exchangesOf label labelOf safe exchanges rounds working quiet newly meets marked labelIn count least some flip
     tab nodeBit bit
 none-line = refl

@@ -4,8 +4,8 @@ use mathlib.Core.Bool.{cond}
 use mathlib.Core.List.{List, [], _++_}
 use Prim.Native.Nat.{ℕ, zero, suc, _≤_}
 use lib.Dec.{ltb}
-use lib.ListN.{length, replicate, take}
-use Rattle.cube.specs.Tables.{labelIn, tableLen}
+use lib.ListN.{length, take}
+use Rattle.cube.specs.Tables.{emptyTable, labelIn, tableLen}
 use Rattle.groups.specs.Number.{numberAt, onNumber}
 use Rattle.lines.specs.Lines.{cubeLine, inputRefused, noticeRefused, pairLine, room, tooLong}
 use Rattle.notice.specs.Addresses.{withBits}
@@ -21,9 +21,9 @@ use Rattle.printed.specs.declared.Head.{Head}
 unfoldable pub wantedLen : List ℕ → ℕ
 wantedLen s = onNumber (dimensionAt s) (λ k at. 1) (λ n at. tableLen n)
 
--- the cabinet of an accepted notice of dimension n: the listing labels by document 01's rule
+-- the cabinet of an accepted notice of dimension n: the listing labels by document 01's rule, and no node drains
 abbrev pub cabinetOf : (s : List ℕ) (n : ℕ) → Cabinet
-cabinetOf s n = cabinet n 3 (withBits (replicate (tableLen n) 0) (addressesOf s))
+cabinetOf s n = cabinet n 3 (withBits (emptyTable n) (addressesOf s)) (emptyTable n)
 
 -- its labels; a refused notice has none
 unfoldable pub labelsIn : List ℕ → List ℕ

@@ -5,6 +5,7 @@ ghost use Rattle.notice.specs.Notice.{dimensionOf, noticeOf, tailAt};
 ghost use Rattle.labels.specs.Labelling.{labelRefusal};
 ghost use Rattle.lines.specs.Lines.{inputRefused, room};
 ghost use Rattle.printed.specs.Printed.{Headed, firstLine, labelsIn, lineAt, lineFrom, nextAt, nextFrom, wantedLen};
+ghost use Rattle.cube.specs.Tables.{emptyTable};
 ghost use Rattle.rule.specs.Cabinet.{cabinet, labelsOf};
 ghost use lib.ListN.{length, take};
 ghost use mathlib.Core.Path.{_≡_};
@@ -49,15 +50,17 @@ fn wanted_len(bytes: &[u8]) -> usize
     1
 }
 
-// Labels the nodes of an accepted notice by document 01's rule, 3, and makes its first line. Labelling never refuses such a table, so 0 is never answered.
+// Labels the nodes of an accepted notice by document 01's rule, 3, and makes its first line. A notice names no draining node. Labelling never refuses such a
+// table, so 0 is never answered.
 fn first_line(n: usize, faulty: usize, faults: &[u8], labels: &mut [u8], out: &mut [u8]) -> usize
-    requires { ⌜ labelRefusal (cabinet n 3 (now faults)) (length (now labels)) ≡ 0 ⌝ }
+    requires { ⌜ labelRefusal (cabinet n 3 (now faults) (emptyTable n)) (length (now labels)) ≡ 0 ⌝ }
     requires { ⌜ length (now out) ≡ room ⌝ }
-    ensures line { λ r. ⌜ take r (now (out .exit)) ≡ firstLine faulty (cabinet n 3 (now (faults .entry))) ⌝ }
+    ensures line { λ r. ⌜ take r (now (out .exit)) ≡ firstLine faulty (cabinet n 3 (now (faults .entry)) (emptyTable n)) ⌝ }
     ensures near { λ r. ⌜ r ≤ room ⌝ }
-    ensures labels { λ r. ⌜ now (labels .exit) ≡ labelsOf (cabinet n 3 (now (faults .entry))) ⌝ }
+    ensures labels { λ r. ⌜ now (labels .exit) ≡ labelsOf (cabinet n 3 (now (faults .entry)) (emptyTable n)) ⌝ }
 {
-    let labelled = labels::label(n, 3, faults, labels);
+    let none = [0u8; 512];
+    let labelled = labels::label(n, 3, faults, &none[..faults.len()], labels);
     let Labelled::Exchanges(exchanges) = labelled else {
         return 0;
     };

@@ -6,7 +6,7 @@ use mathlib.Core.Path.{_≡_}
 use Prim.Native.Nat.{ℕ, _+_, _^_, _≤_, _<_}
 use lib.ListN.{length, replicate}
 use Rattle.cube.specs.Cube.{dist, flip}
-use Rattle.cube.specs.Tables.{labelIn}
+use Rattle.cube.specs.Tables.{emptyTable, labelIn}
 use Rattle.rule.specs.Cabinet.{Cabinet, cabinet, labelsOf}
 use Rattle.notice.specs.Laws.{ReadNotice, TableOf}
 use Rattle.notice.specs.Notice as N
@@ -23,7 +23,7 @@ use Rattle.hop.specs.declared.Hopped.the-variants as hopped
 use Rattle.walk.specs.Walk as W
 use Rattle.walk.specs.declared.Ending.the-variants as ending
 use Rattle.walk.specs.declared.Walked.{Walked}
-use Rattle.theorems.specs.Before.{hoppedThen, labelledThen, labelsAfterThen, noneDrain, walkedThen}
+use Rattle.theorems.specs.Before.{hoppedThen, labelledThen, labelsAfterThen, walkedThen}
 use Rattle.theorems.specs.Demand2.{Demand2}
 use Rattle.theorems.specs.Demand3.{Walks}
 use Rattle.theorems.specs.Picked.{Picked}
@@ -134,11 +134,11 @@ pub record Demands (lib : Library) : Type 0 where
 
   -- labelling that is lent an empty table of draining nodes answers and leaves what it did,
   pub label-before :
-      {n rule : ℕ} {faults before after : List ℕ} {x : Labelled} → lib .labels (cabinet n rule faults (noneDrain n)) before x after
+      {n rule : ℕ} {faults before after : List ℕ} {x : Labelled} → lib .labels (cabinet n rule faults (emptyTable n)) before x after
       → (x ≡ labelledThen n rule faults (length before)) × (after ≡ labelsAfterThen n rule faults before)
   -- no label is 4 then,
   pub no-four :
-      {n rule e : ℕ} {faults before table : List ℕ} → lib .labels (cabinet n rule faults (noneDrain n)) before (labelled.Exchanges e) table
+      {n rule e : ℕ} {faults before table : List ℕ} → lib .labels (cabinet n rule faults (emptyTable n)) before (labelled.Exchanges e) table
       → (x : ℕ) → labelIn table x ≢ 4
   -- and on a table without a 4 a hop and a walk are answered as they were
   pub hop-before :

@@ -13,7 +13,7 @@ use borrow.Author.Tests.{eq-eqb, eqb-true, eqb-false, ne-eqb, le-leb, lt-leb, le
 use Rattle.cube.specs.Count.{some}
 use Rattle.cube.specs.Cube.{flip}
 use Rattle.cube.specs.Refusal.{Test, first, _⇒_}
-use Rattle.cube.specs.Tables.{highest, labelIn, nodeBit, tab, tableLen}
+use Rattle.cube.specs.Tables.{emptyTable, highest, labelIn, nodeBit, tab, tableLen}
 use Rattle.cube.proofs.Bools.{either, is-false}
 use Rattle.cube.proofs.Front.{getD-tab, length-tab, tab-cong}
 use Rattle.cube.proofs.Search.{least-same, none-some, some-same}
@@ -39,7 +39,6 @@ use Rattle.theorems.specs.Before.{
   labelTestsThen,
   labelledThen,
   labelsAfterThen,
-  noneDrain,
   routeThen,
   walkTestsThen,
   walkedThen,
@@ -54,10 +53,10 @@ or-none false b e = e
 
 module _ (n rule : ℕ) (faults : List ℕ) where
   abbrev K : Cabinet
-  K = cabinet n rule faults (noneDrain n)
+  K = cabinet n rule faults (emptyTable n)
 
   out-same : out K ≡ nodeBit faults
-  out-same = fun-ext (λ x. or-none (nodeBit faults x) (nodeBit (noneDrain n) x) (zeros-none (tableLen n) x))
+  out-same = fun-ext (λ x. or-none (nodeBit faults x) (nodeBit (emptyTable n) x) (zeros-none (tableLen n) x))
 
   exchanges-same : exchangesOf K ≡ exchanges n rule (nodeBit faults)
   unfolding exchangesOf
@@ -78,7 +77,7 @@ module _ (n rule : ℕ) (faults : List ℕ) where
 
   refusal-same : (m : ℕ) → labelRefusal K m ≡ first (labelTestsThen n rule faults m)
   unfolding labelRefusal first
-  refusal-same m = rw (eq-eqb (length (noneDrain n)) (tableLen n) (length-replicate {A = ℕ} (tableLen n) 0), zeros-unused n (tableLen n))
+  refusal-same m = rw (eq-eqb (length (emptyTable n)) (tableLen n) (length-replicate {A = ℕ} (tableLen n) 0), zeros-unused n (tableLen n))
 
   label-then : (m : ℕ) → labelled K m ≡ labelledThen n rule faults m
   unfolding labelled

@@ -6,11 +6,11 @@ use mathlib.Core.Logic.{_≢_}
 use mathlib.Core.Path.{_≡_}
 use Prim.Native.Nat.{ℕ, _^_}
 use lib.Dec.{eqb, leb, ltb}
-use lib.ListN.{length, replicate}
+use lib.ListN.{length}
 use Rattle.cube.specs.Count.{least, some}
 use Rattle.cube.specs.Cube.{dist, flip}
 use Rattle.cube.specs.Refusal.{Test, first, _⇒_}
-use Rattle.cube.specs.Tables.{isDimension, nodeBit, tab, tableLen, unusedSet}
+use Rattle.cube.specs.Tables.{emptyTable, isDimension, nodeBit, tab, tableLen, unusedSet}
 use Rattle.rule.specs.Cabinet.{Cabinet, cabinet, isRule}
 use Rattle.rule.specs.Rule.{exchanges, label}
 use Rattle.scans.specs.Scans.{lowest, noScan}
@@ -86,16 +86,12 @@ walkedThen n s d m room lab =
 
 -- ---- as before
 
--- the empty table of draining nodes
-abbrev pub noneDrain : (n : ℕ) → List ℕ
-noneDrain n = replicate (tableLen n) 0
-
 pub record AsBefore : Type 0 where
-  -- labelling that is lent it answers and leaves what it did, refused or not,
-  pub label : (n rule m : ℕ) (faults : List ℕ) → labelled (cabinet n rule faults (noneDrain n)) m ≡ labelledThen n rule faults m
-  pub labels : (n rule : ℕ) (faults before : List ℕ) → labelsAfter (cabinet n rule faults (noneDrain n)) before ≡ labelsAfterThen n rule faults before
+  -- labelling that is lent an empty table of draining nodes answers and leaves what it did, refused or not,
+  pub label : (n rule m : ℕ) (faults : List ℕ) → labelled (cabinet n rule faults (emptyTable n)) m ≡ labelledThen n rule faults m
+  pub labels : (n rule : ℕ) (faults before : List ℕ) → labelsAfter (cabinet n rule faults (emptyTable n)) before ≡ labelsAfterThen n rule faults before
   -- and no label is 4;
-  pub no-four : (n rule : ℕ) (faults : List ℕ) (x : ℕ) → labelAt (cabinet n rule faults (noneDrain n)) x ≢ 4
+  pub no-four : (n rule : ℕ) (faults : List ℕ) (x : ℕ) → labelAt (cabinet n rule faults (emptyTable n)) x ≢ 4
   -- and with labels among which there is no 4, right or wrong, a hop and a walk are answered as they were
   pub hop : (n c d m : ℕ) (lab : ℕ → ℕ) → ((x : ℕ) → lab x ≢ 4) → hopped n c d m lab ≡ hoppedThen n c d m lab
   pub walk : (n s d m room : ℕ) (lab : ℕ → ℕ) → ((x : ℕ) → lab x ≢ 4) → walked n s d m room lab ≡ walkedThen n s d m room lab
