@@ -6,8 +6,8 @@
 -- as after r + 1 rounds (round-done).
 --
 -- The end: where the sweep answers 0, round r + 1 is quiet, r rounds marked something new (end-rounds), and r + 1 is the number of exchanges
--- (end-exchanges). Nothing was written, so the table still stands as after r rounds (same). A node of byte 2 with a neighbour of byte 0 becomes 1, and
--- the bytes are the labels (end-labels).
+-- (end-exchanges). Nothing was written, so the table still stands as after r rounds (same). A node that does not work gets its own byte, one of byte 2
+-- with a neighbour of byte 0 becomes 1, and the bytes are the labels (end-labels).
 use mathlib.Core.Path.{_≡_, sym, ap, _∙_}
 use mathlib.Core.Logic.{_⊎_, inl, inr, ⊎-elim}
 use mathlib.Core.Bool.{true, false, not, _||_}
@@ -27,12 +27,11 @@ use Rattle.cube.proofs.Cube.{flip-lt}
 use Rattle.cube.proofs.Front.{length-tab, getD-tab, tab-cong}
 use Rattle.rule.specs.Cabinet.{Cabinet, exchangesOf, labelsOf, out, outByte}
 use Rattle.rule.specs.Rule.{quiet, working, rounds, exchanges, safe, labelOf, label}
-use Rattle.rule.proofs.Cabinet.{out-high}
 use Rattle.rule.proofs.Rounds.{marked-suc, newly-says, loud-le, rounds-is}
-use Rattle.labels.specs.Passes.{plainIn, fresh, ordinary, putWhere, settled}
-use Rattle.labels.proofs.Marking.{put-yes, put-no}
+use Rattle.labels.specs.Passes.{plainIn, fresh, ordinary, swept, settled, finished}
+use Rattle.labels.proofs.Marking.{swept-new, swept-old}
 use Rattle.labels.proofs.Standing.{marks, new, held, held-out, held-mark, held-plain, Stands, byte}
-use Rattle.labels.proofs.Standing.{Kind, is-out, is-mark, is-plain, kind, fresh-is, marks-are, mark-is, plain-is}
+use Rattle.labels.proofs.Standing.{Kind, is-out, is-mark, is-plain, kind, fresh-is, marks-are, out-is, mark-is, plain-is}
 
 -- where a turn begins: so many rounds are over, and the exchange that is counted last is under way
 pub record Turn (K : Cabinet) (l : List ℕ) (counted : ℕ) : Type 0 where
@@ -53,8 +52,8 @@ module _ (K : Cabinet) (l : List ℕ) (r : ℕ) (T : Stands K l r) where
   n = K .n
 
   -- the last pass, where the rounds have come to rest
-  end-byte : rounds n (K .rule) (out K) ≡ r → (x : ℕ) → x < 2 ^ n → putWhere 1 (ordinary n l) l x ≡ label n (K .rule) (out K) (outByte K) x
-  unfolding ordinary label labelOf safe putWhere
+  end-byte : rounds n (K .rule) (out K) ≡ r → (x : ℕ) → x < 2 ^ n → finished n (outByte K) l x ≡ label n (K .rule) (out K) (outByte K) x
+  unfolding finished ordinary label labelOf safe
   end-byte e x h = rw e (go (kind K l r T x h))
     where
       near : some n (λ i. plainIn l (flip i x)) ≡ some n (λ i. not (out K (flip i x) || marks K r (flip i x)))
@@ -62,26 +61,27 @@ module _ (K : Cabinet) (l : List ℕ) (r : ℕ) (T : Stands K l r) where
           some-same n (λ i. plainIn l (flip i x)) (λ i. not (out K (flip i x) || marks K r (flip i x)))
           (λ i m. plain-is K l r T (flip i x) (flip-lt n i x m h))
 
-      go : Kind K l r T x → putWhere 1 (ordinary n l) l x ≡ labelOf n (out K) (outByte K) (λ y. not (out K y || marks K r y)) x
-      go (is-out a b e) = put-no 1 (ordinary n l) l x (rw (mark-is K l r T x h, b)) ∙ rw a e
-      go (is-mark a b e) = rw (mark-is K l r T x h, b, near, e, a)
-      go (is-plain a b e) = put-no 1 (ordinary n l) l x (rw (mark-is K l r T x h, b)) ∙ rw (a, b) e
+      go : Kind K l r T x → finished n (outByte K) l x ≡ labelOf n (out K) (outByte K) (λ y. not (out K y || marks K r y)) x
+      go (is-out a b e) = rw (out-is K l r T x h, a)
+      go (is-mark a b e) = rw (out-is K l r T x h, a, mark-is K l r T x h, b, near, e)
+      go (is-plain a b e) = rw (out-is K l r T x h, a, mark-is K l r T x h, b, e)
 
 module _ (K : Cabinet) (l : List ℕ) (r : ℕ) (T : Stands K l r) where
   abbrev size : ℕ
   size = 2 ^ K .n
 
-  abbrev swept : ℕ → ℕ
-  swept = putWhere 128 (fresh (K .n) (K .rule) l) l
+  -- what the round leaves
+  abbrev after : ℕ → ℕ
+  after = swept (K .n) (K .rule) l
 
   -- the sweep answered m and left the table l₁
-  module _ (m : ℕ) (l₁ : List ℕ) (em : m ≡ count size (fresh (K .n) (K .rule) l)) (e₁ : l₁ ≡ tab size swept) where
+  module _ (m : ℕ) (l₁ : List ℕ) (em : m ≡ count size (fresh (K .n) (K .rule) l)) (e₁ : l₁ ≡ tab size after) where
     pub swept-length : length l₁ ≡ size
-    swept-length = ap length e₁ ∙ length-tab size swept
+    swept-length = ap length e₁ ∙ length-tab size after
 
-    swept-byte : (x : ℕ) → x < size → labelIn l₁ x ≡ swept x
+    swept-byte : (x : ℕ) → x < size → labelIn l₁ x ≡ after x
     unfolding labelIn
-    swept-byte x h = ap (λ (t : List ℕ). getD t x 0) e₁ ∙ getD-tab size swept x h
+    swept-byte x h = ap (λ (t : List ℕ). getD t x 0) e₁ ∙ getD-tab size after x h
 
     -- ---- a turn
 
@@ -92,16 +92,16 @@ module _ (K : Cabinet) (l : List ℕ) (r : ℕ) (T : Stands K l r) where
         marks-on = marked-suc (K .n) (K .rule) (out K) r x
 
         marked-now : new K r x ≡ true → labelIn l₁ x ≡ 128
-        marked-now t = swept-byte x h ∙ put-yes 128 (fresh (K .n) (K .rule) l) l x (fresh-is K l r T x h ∙ t)
+        marked-now t = swept-byte x h ∙ swept-new (K .n) (K .rule) l x (fresh-is K l r T x h ∙ t)
 
         old : new K r x ≡ false → labelIn l₁ x ≡ labelIn l x
-        old t = swept-byte x h ∙ put-no 128 (fresh (K .n) (K .rule) l) l x (fresh-is K l r T x h ∙ t)
+        old t = swept-byte x h ∙ swept-old (K .n) (K .rule) l x (fresh-is K l r T x h ∙ t)
 
         go : (new K r x ≡ true) ⊎ (new K r x ≡ false) → Kind K l r T x → settled l₁ x ≡ held K (suc r) x
         go (inl t) _ =
             settle-new l₁ x (marked-now t)
             ∙ sym (held-mark K (suc r) x (newly-says (K .n) (K .rule) (out K) (marks K r) x t .0) (marks-on ∙ or-right (marks K r x) t))
-        go (inr t) (is-out a b e) = settle-not l₁ x (outByte K x) (old t ∙ e) (λ q. omega (arith, out-high K x a)) ∙ sym (held-out K (suc r) x a)
+        go (inr t) (is-out a b e) = settle-not l₁ x 3 (old t ∙ e) (λ q. omega arith) ∙ sym (held-out K (suc r) x a)
         go (inr t) (is-mark a b e) =
             settle-not l₁ x 2 (old t ∙ e) (λ q. omega arith) ∙ sym (held-mark K (suc r) x a (marks-on ∙ or-left (new K r x) b))
         go (inr t) (is-plain a b e) = settle-not l₁ x 0 (old t ∙ e) (λ q. omega arith) ∙ sym (held-plain K (suc r) x a (marks-on ∙ rw (b, t)))
@@ -139,13 +139,13 @@ module _ (K : Cabinet) (l : List ℕ) (r : ℕ) (T : Stands K l r) where
       end-exchanges = ap (λ (z : ℕ). z + 1) end-rounds
 
       same : Stands K l₁ r
-      same = record { table = e₁ ∙ tab-cong size swept (held K r) kept; loud = T .loud }
+      same = record { table = e₁ ∙ tab-cong size after (held K r) kept; loud = T .loud }
         where
-          kept : (x : ℕ) → x < size → swept x ≡ held K r x
+          kept : (x : ℕ) → x < size → after x ≡ held K r x
           kept x h =
-              put-no 128 (fresh (K .n) (K .rule) l) l x (none-counted size (fresh (K .n) (K .rule) l) (sym em ∙ none-new) x h) ∙ byte K l r T x h
+              swept-old (K .n) (K .rule) l x (none-counted size (fresh (K .n) (K .rule) l) (sym em ∙ none-new) x h) ∙ byte K l r T x h
 
-      pub end-labels : (l₂ : List ℕ) → l₂ ≡ tab size (putWhere 1 (ordinary (K .n) l₁) l₁) → l₂ ≡ labelsOf K
+      pub end-labels : (l₂ : List ℕ) → l₂ ≡ tab size (finished (K .n) (outByte K) l₁) → l₂ ≡ labelsOf K
       unfolding labelsOf
       end-labels l₂ e₂ =
-          e₂ ∙ tab-cong size (putWhere 1 (ordinary (K .n) l₁) l₁) (label (K .n) (K .rule) (out K) (outByte K)) (end-byte K l₁ r same end-rounds)
+          e₂ ∙ tab-cong size (finished (K .n) (outByte K) l₁) (label (K .n) (K .rule) (out K) (outByte K)) (end-byte K l₁ r same end-rounds)

@@ -24,8 +24,10 @@ pub record Fitting (K : Cabinet) (m : ℕ) : Type 0 where
   pub small : K .n ≤ 12
   pub rule : (2 ≤ K .rule) × (K .rule ≤ 3)
   pub faults : length (K .faults) ≡ tableLen (K .n)
+  pub draining : length (K .draining) ≡ tableLen (K .n)
   pub labels : m ≡ 2 ^ K .n
   pub unused : unusedSet (K .n) (K .faults) ≡ false
+  pub unused-draining : unusedSet (K .n) (K .draining) ≡ false
 
 module _ (K : Cabinet) (m : ℕ) where
   pub fitting : labelRefusal K m ≡ 0 → Fitting K m
@@ -38,22 +40,26 @@ module _ (K : Cabinet) (m : ℕ) where
         small = dimension-is (K .n) dimension .1;
         rule = rule-is (K .rule) (not-false _ (t .1 .0));
         faults = eqb-true _ _ (not-false _ (t .1 .1 .0));
-        labels = eqb-true _ _ (not-false _ (t .1 .1 .1 .0));
-        unused = t .1 .1 .1 .1 .0;
+        draining = eqb-true _ _ (not-false _ (t .1 .1 .1 .0));
+        labels = eqb-true _ _ (not-false _ (t .1 .1 .1 .1 .0));
+        unused = t .1 .1 .1 .1 .1 .0;
+        unused-draining = t .1 .1 .1 .1 .1 .1 .0;
       }
 
   -- and where every test passes, nothing is refused
-  pub fits : (1 ≤ K .n) × (K .n ≤ 12) → (2 ≤ K .rule) × (K .rule ≤ 3) → length (K .faults) ≡ tableLen (K .n) → unusedSet (K .n) (K .faults) ≡ false
-      → m ≡ 2 ^ K .n → labelRefusal K m ≡ 0
+  pub fits : (1 ≤ K .n) × (K .n ≤ 12) → (2 ≤ K .rule) × (K .rule ≤ 3) → length (K .faults) ≡ tableLen (K .n) → length (K .draining) ≡ tableLen (K .n)
+      → unusedSet (K .n) (K .faults) ≡ false → unusedSet (K .n) (K .draining) ≡ false → m ≡ 2 ^ K .n → labelRefusal K m ≡ 0
   unfolding labelRefusal first isDimension
-  fits d r f u l =
+  fits d r f g u v l =
       rw (
         le-leb 1 (K .n) (d .0),
         le-leb (K .n) 12 (d .1),
         is-rule (K .rule) r,
         eq-eqb (length (K .faults)) (tableLen (K .n)) f,
+        eq-eqb (length (K .draining)) (tableLen (K .n)) g,
         eq-eqb m (2 ^ K .n) l,
         u,
+        v,
       )
 
   -- no number is above 18

@@ -1,4 +1,4 @@
--- How the table stands after r rounds: a node that does not work has its byte, a marked one 2, any other 0. These bytes tell the three kinds
+-- How the table stands after r rounds: a node that does not work has 3, a marked one 2, any other 0. These bytes tell the three kinds
 -- apart, so a sweep of the table marks what the next round of the definition marks.
 use mathlib.Core.Path.{_≡_, refl, sym, ap, ap₂, _∙_, subst}
 use mathlib.Core.Logic.{_⊎_, inl, inr}
@@ -8,7 +8,6 @@ use Prim.Native.Nat.{ℕ, _^_, _<_}
 use native.Mathlib.Omega.{arith}
 use lib.Dec.{eqb}
 use lib.ListN.{length, getD}
-use borrow.Author.Tests.{ne-eqb}
 use Rattle.cube.specs.Count.{count}
 use Rattle.cube.specs.Cube.{flip}
 use Rattle.cube.specs.Tables.{tab, labelIn}
@@ -16,9 +15,8 @@ use Rattle.cube.proofs.Bools.{either, clash}
 use Rattle.cube.proofs.Count.{count-same}
 use Rattle.cube.proofs.Cube.{flip-lt}
 use Rattle.cube.proofs.Front.{length-tab, getD-tab, tab-cong}
-use Rattle.rule.specs.Cabinet.{Cabinet, out, outByte}
+use Rattle.rule.specs.Cabinet.{Cabinet, out}
 use Rattle.rule.specs.Rule.{meets, newly, marked, quiet}
-use Rattle.rule.proofs.Cabinet.{out-high}
 use Rattle.rule.proofs.Rounds.{meets-same, marked-zero, marks-work}
 use Rattle.labels.specs.Passes.{Kept, KeptByte, kept-plain, kept-mark, kept-out, outIn, markIn, plainIn, fresh, started}
 
@@ -31,7 +29,7 @@ new K r = newly (K .n) (K .rule) (out K) (marks K r)
 
 -- the byte of x after r rounds
 unfoldable pub held : (K : Cabinet) (r x : ℕ) → ℕ
-held K r x = cond (out K x) (outByte K x) (cond (marks K r x) 2 0)
+held K r x = cond (out K x) 3 (cond (marks K r x) 2 0)
 
 pub record Stands (K : Cabinet) (l : List ℕ) (r : ℕ) : Type 0 where
   pub table : l ≡ tab (2 ^ K .n) (held K r)
@@ -46,7 +44,7 @@ module _ (K : Cabinet) where
   abbrev n : ℕ
   n = K .n
 
-  pub held-out : (r x : ℕ) → out K x ≡ true → held K r x ≡ outByte K x
+  pub held-out : (r x : ℕ) → out K x ≡ true → held K r x ≡ 3
   unfolding held
   held-out r x a = rw a
 
@@ -58,11 +56,11 @@ module _ (K : Cabinet) where
   unfolding held
   held-plain r x a b = rw (a, b)
 
-  pub stands-first : (l : List ℕ) → l ≡ tab (2 ^ n) (started (out K) (outByte K)) → Stands K l 0
+  pub stands-first : (l : List ℕ) → l ≡ tab (2 ^ n) (started (out K)) → Stands K l 0
   unfolding started held
   stands-first l e =
       record {
-        table = e ∙ tab-cong (2 ^ n) (started (out K) (outByte K)) (held K 0) (λ x _. rw (marked-zero n (K .rule) (out K) x));
+        table = e ∙ tab-cong (2 ^ n) (started (out K)) (held K 0) (λ x _. rw (marked-zero n (K .rule) (out K) x));
         loud = λ j h. absurd (omega arith);
       }
 
@@ -76,7 +74,7 @@ module _ (K : Cabinet) where
 
     -- a node does not work, is marked, or is neither
     pub data Kind (x : ℕ) : Type 0 where
-      is-out : out K x ≡ true → marks K r x ≡ false → labelIn l x ≡ outByte K x → Kind x
+      is-out : out K x ≡ true → marks K r x ≡ false → labelIn l x ≡ 3 → Kind x
       is-mark : out K x ≡ false → marks K r x ≡ true → labelIn l x ≡ 2 → Kind x
       is-plain : out K x ≡ false → marks K r x ≡ false → labelIn l x ≡ 0 → Kind x
 
@@ -97,7 +95,7 @@ module _ (K : Cabinet) where
         go (is-mark a b e) = subst KeptByte (sym e) kept-mark
         go (is-plain a b e) = subst KeptByte (sym e) kept-plain
 
-    out-is : (x : ℕ) → x < 2 ^ n → outIn l x ≡ out K x
+    pub out-is : (x : ℕ) → x < 2 ^ n → outIn l x ≡ out K x
     unfolding outIn
     out-is x h = go (kind x h)
       where
@@ -111,7 +109,7 @@ module _ (K : Cabinet) where
     mark-is x h = go (kind x h)
       where
         go : Kind x → eqb (labelIn l x) 2 ≡ marks K r x
-        go (is-out a b e) = ne-eqb (labelIn l x) 2 (λ q. omega (arith, out-high K x a)) ∙ sym b
+        go (is-out a b e) = rw e (sym b)
         go (is-mark a b e) = rw e (sym b)
         go (is-plain a b e) = rw e (sym b)
 
@@ -120,7 +118,7 @@ module _ (K : Cabinet) where
     plain-is x h = go (kind x h)
       where
         go : Kind x → eqb (labelIn l x) 0 ≡ not (out K x || marks K r x)
-        go (is-out a b e) = rw a (ne-eqb (labelIn l x) 0 (λ q. omega (arith, out-high K x a)))
+        go (is-out a b e) = rw (a, e)
         go (is-mark a b e) = rw (a, b, e)
         go (is-plain a b e) = rw (a, b, e)
 

@@ -10,14 +10,16 @@ use Rattle.rule.specs.Cabinet.{Cabinet, exchangesOf, isRule, labelsOf}
 use Rattle.labels.specs.declared.Labelled.{Labelled}
 use Rattle.labels.specs.declared.Labelled.the-variants.{Exchanges, Refused}
 
--- the refusals in order
+-- the refusals in order: the lengths of all tables before any unused bit, and the fault table before the table of draining nodes
 abbrev pub labelTests : (K : Cabinet) (m : ℕ) → List Test
 labelTests K m =
     not (isDimension (K .n)) ⇒ 1
     ∷ not (isRule (K .rule)) ⇒ 18
     ∷ not (eqb (length (K .faults)) (tableLen (K .n))) ⇒ 2
+    ∷ not (eqb (length (K .draining)) (tableLen (K .n))) ⇒ 2
     ∷ not (eqb m (2 ^ K .n)) ⇒ 2
     ∷ unusedSet (K .n) (K .faults) ⇒ 3
+    ∷ unusedSet (K .n) (K .draining) ⇒ 3
     ∷ []
 
 unfoldable pub labelRefusal : (K : Cabinet) (m : ℕ) → ℕ

@@ -52,15 +52,18 @@ ordinary n l x = markIn l x && some n (λ i. plainIn l (flip i x))
 
 -- ---- the passes
 
--- before the first round: F are the nodes that do not work, byte their bytes
-unfoldable pub started : (F : ℕ → Bool) (byte : ℕ → ℕ) (x : ℕ) → ℕ
-started F byte x = cond (F x) (byte x) 0
+-- before the first round: F are the nodes that do not work
+unfoldable pub started : (F : ℕ → Bool) (x : ℕ) → ℕ
+started F x = cond (F x) 3 0
 
--- b where p holds, elsewhere what stood there. A round puts 128 with p = fresh; in the end, with p = ordinary, 1 tells the ordinarily unsafe nodes from
--- the strongly unsafe ones
-unfoldable pub putWhere : (b : ℕ) (p : ℕ → Bool) (l : List ℕ) (x : ℕ) → ℕ
-putWhere b p l x = cond (p x) b (labelIn l x)
+-- a round: 128 where it marks, elsewhere what stood there
+unfoldable pub swept : (n k : ℕ) (l : List ℕ) (x : ℕ) → ℕ
+swept n k l x = cond (fresh n k l x) 128 (labelIn l x)
 
 -- the end of a round: its marks are marks of an earlier round from now on
 unfoldable pub settled : (l : List ℕ) (x : ℕ) → ℕ
 settled l x = cond (eqb (labelIn l x) 128) 2 (labelIn l x)
+
+-- the end of labelling: a node that does not work gets its own byte, and 1 tells the ordinarily unsafe nodes from the strongly unsafe ones
+unfoldable pub finished : (n : ℕ) (byte : ℕ → ℕ) (l : List ℕ) (x : ℕ) → ℕ
+finished n byte l x = cond (outIn l x) (byte x) (cond (ordinary n l x) 1 (labelIn l x))

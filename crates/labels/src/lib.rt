@@ -1,18 +1,19 @@
 // Labelling: which working nodes are safe, ordinarily unsafe or strongly unsafe. The rounds are kept in the lent label table itself, by the
 // bytes PLAIN, MARKED, OUT and NEW. A byte is what its node weighs in the test of a neighbour: 0, 2 or 3, and NEW weighs nothing in the low seven
-// bits, where the test looks. The last pass tells ORDINARY apart; PLAIN and MARKED stay as safe and strongly unsafe.
+// bits, where the test looks. The last pass tells ORDINARY from MARKED and DRAINING from OUT; PLAIN, MARKED and OUT stay as safe, strongly unsafe and
+// faulty.
 ghost use Prim.Native.Nat.{_/_, _<_, _≤_, _^_};
 ghost use Rattle.cube.specs.Count.{count, some};
 ghost use Rattle.cube.specs.Cube.{flip};
 ghost use Rattle.cube.specs.Tables.{nodeBit, tab, tableLen};
 ghost use Rattle.labels.specs.Labelling.{labelRefusal, labelled, labelsAfter};
-ghost use Rattle.labels.specs.Passes.{Kept, NodeOf, Sized, fresh, markIn, ordinary, outIn, plainIn, putWhere, settled, started};
+ghost use Rattle.labels.specs.Passes.{Kept, NodeOf, Sized, finished, fresh, markIn, ordinary, outIn, plainIn, settled, started, swept};
 ghost use Rattle.rule.specs.Cabinet.{cabinet, exchangesOf, isRule, labelsOf};
 ghost use Rattle.rule.specs.Looks.{looks, looksNear};
 ghost use Rattle.rule.specs.Rule.{meets};
 ghost use lib.Dec.{eqb};
 ghost use lib.ListN.{length};
-ghost use mathlib.Core.Bool.{cond};
+ghost use mathlib.Core.Bool.{cond, _||_};
 ghost use mathlib.Core.Path.{_≡_};
 use cube::is_dimension;
 use cube::node_bit;
@@ -26,7 +27,9 @@ const ORDINARY: u8 = 1; // in the end: ordinarily unsafe
 
 const MARKED: u8 = 2; // marked by an earlier round; in the end: strongly unsafe
 
-const OUT: u8 = 3; // does not work
+const OUT: u8 = 3; // does not work; in the end: faulty
+
+const DRAINING: u8 = 4; // in the end: draining
 
 const NEW: u8 = 128; // marked by this round
 
@@ -49,8 +52,8 @@ fn is_rule(k: usize) -> bool
     (2 <= k) & (k <= 3)
 }
 
-fn label_refusal(n: usize, rule: usize, faults: &[u8], m: usize) -> u32
-    ensures { λ r. ⌜ r ≡ labelRefusal (cabinet n rule (now (faults .entry))) m ⌝ }
+fn label_refusal(n: usize, rule: usize, faults: &[u8], draining: &[u8], m: usize) -> u32
+    ensures { λ r. ⌜ r ≡ labelRefusal (cabinet n rule (now (faults .entry)) (now (draining .entry))) m ⌝ }
 {
     if !is_dimension(n) {
         return 1;
@@ -61,10 +64,16 @@ fn label_refusal(n: usize, rule: usize, faults: &[u8], m: usize) -> u32
     if faults.len() != table_len(n) {
         return 2;
     }
+    if draining.len() != table_len(n) {
+        return 2;
+    }
     if m != nodes(n) {
         return 2;
     }
     if unused_set(n, faults) {
+        return 3;
+    }
+    if unused_set(n, draining) {
         return 3;
     }
     0
@@ -151,21 +160,27 @@ fn is_ordinary(n: usize, labels: &[u8], x: usize) -> bool
     test.holds
 }
 
-fn start_byte(faults: &[u8], k: usize) -> u8
+// The byte that node k starts with: by both tables, whether it works.
+fn start_byte(faults: &[u8], draining: &[u8], k: usize) -> u8
     requires { ⌜ k / 8 < length (now faults) ⌝ }
-    ensures { λ r. ⌜ r ≡ started (nodeBit (now (faults .entry))) (λ _. 3) k ⌝ }
+    requires { ⌜ k / 8 < length (now draining) ⌝ }
+    ensures { λ r. ⌜ r ≡ started (λ x. nodeBit (now (faults .entry)) x || nodeBit (now (draining .entry)) x) k ⌝ }
 {
-    if node_bit(faults, k) { OUT } else { PLAIN }
+    let faulty = node_bit(faults, k);
+    let drains = node_bit(draining, k);
+    if faulty | drains { OUT } else { PLAIN }
 }
 
 // The table before the first round.
-fn start(n: usize, faults: &[u8], labels: &mut [u8])
-    requires { ⌜ (length (now faults) ≡ tableLen n) × (length (now labels) ≡ 2 ^ n) ⌝ }
-    ensures { λ _. ⌜ now (labels .exit) ≡ tab (2 ^ n) (started (nodeBit (now (faults .entry))) (λ _. 3)) ⌝ }
+fn start(n: usize, faults: &[u8], draining: &[u8], labels: &mut [u8])
+    requires { ⌜ length (now faults) ≡ tableLen n ⌝ }
+    requires { ⌜ length (now draining) ≡ tableLen n ⌝ }
+    requires { ⌜ length (now labels) ≡ 2 ^ n ⌝ }
+    ensures { λ _. ⌜ now (labels .exit) ≡ tab (2 ^ n) (started (λ x. nodeBit (now (faults .entry)) x || nodeBit (now (draining .entry)) x)) ⌝ }
 {
     let mut k: usize = 0;
     while k < labels.len() {
-        labels[k] = start_byte(faults, k);
+        labels[k] = start_byte(faults, draining, k);
         k = k + 1;
     }
 }
@@ -176,7 +191,7 @@ fn sweep(n: usize, rule: usize, labels: &mut [u8]) -> usize
     requires { ⌜ Kept (now labels) ⌝ }
     requires { ⌜ Sized n (now labels) ⌝ }
     ensures marked { λ r. ⌜ r ≡ count (2 ^ n) (fresh n rule (now (labels .entry))) ⌝ }
-    ensures labels { λ r. ⌜ now (labels .exit) ≡ tab (2 ^ n) (putWhere 128 (fresh n rule (now (labels .entry))) (now (labels .entry))) ⌝ }
+    ensures labels { λ r. ⌜ now (labels .exit) ≡ tab (2 ^ n) (swept n rule (now (labels .entry))) ⌝ }
 {
     let mut marked: usize = 0;
     let mut x: usize = 0;
@@ -207,29 +222,52 @@ fn settle(labels: &mut [u8])
     }
 }
 
-// The end of labelling: tells the ordinarily unsafe nodes from the strongly unsafe ones.
-fn finish(n: usize, labels: &mut [u8])
+// The byte of a node that does not work, in the end: a node in both tables is faulty, so the fault table alone tells.
+fn out_byte(faults: &[u8], x: usize) -> u8
+    requires { ⌜ x / 8 < length (now faults) ⌝ }
+    ensures { λ r. ⌜ r ≡ cond (nodeBit (now (faults .entry)) x) 3 4 ⌝ }
+{
+    if node_bit(faults, x) { OUT } else { DRAINING }
+}
+
+// The byte of node x in the end.
+fn final_byte(n: usize, faults: &[u8], labels: &[u8], x: usize) -> u8
+    requires { ⌜ x / 8 < length (now faults) ⌝ }
+    requires { ⌜ NodeOf n (now labels) x ⌝ }
+    ensures { λ r. ⌜ r ≡ finished n (λ y. cond (nodeBit (now (faults .entry)) y) 3 4) (now (labels .entry)) x ⌝ }
+{
+    if labels[x] == OUT {
+        return out_byte(faults, x);
+    }
+    if is_ordinary(n, labels, x) {
+        return ORDINARY;
+    }
+    labels[x]
+}
+
+// The end of labelling: tells the ordinarily unsafe nodes from the strongly unsafe ones, and the draining nodes from the faulty ones.
+fn finish(n: usize, faults: &[u8], labels: &mut [u8])
+    requires { ⌜ length (now faults) ≡ tableLen n ⌝ }
     requires { ⌜ Sized n (now labels) ⌝ }
-    ensures { λ _. ⌜ now (labels .exit) ≡ tab (2 ^ n) (putWhere 1 (ordinary n (now (labels .entry))) (now (labels .entry))) ⌝ }
+    ensures { λ _. ⌜ now (labels .exit) ≡ tab (2 ^ n) (finished n (λ y. cond (nodeBit (now (faults .entry)) y) 3 4) (now (labels .entry))) ⌝ }
 {
     let mut x: usize = 0;
     while x < labels.len() {
-        if is_ordinary(n, labels, x) {
-            labels[x] = ORDINARY;
-        }
+        labels[x] = final_byte(n, faults, labels, x);
         x = x + 1;
     }
 }
 
-// Labels every node of an accepted table and answers the number of exchanges: each sweep is one, and the last is the first that marks nothing new.
-fn label_nodes(n: usize, rule: usize, faults: &[u8], labels: &mut [u8]) -> usize
+// Labels every node of an accepted cabinet and answers the number of exchanges: each sweep is one, and the last is the first that marks nothing new.
+fn label_nodes(n: usize, rule: usize, faults: &[u8], draining: &[u8], labels: &mut [u8]) -> usize
     requires { ⌜ (2 ≤ rule) × (rule ≤ 3) ⌝ }
     requires { ⌜ length (now faults) ≡ tableLen n ⌝ }
+    requires { ⌜ length (now draining) ≡ tableLen n ⌝ }
     requires { ⌜ Sized n (now labels) ⌝ }
-    ensures exchanges { λ r. ⌜ r ≡ exchangesOf (cabinet n rule (now (faults .entry))) ⌝ }
-    ensures labels { λ r. ⌜ now (labels .exit) ≡ labelsOf (cabinet n rule (now (faults .entry))) ⌝ }
+    ensures exchanges { λ r. ⌜ r ≡ exchangesOf (cabinet n rule (now (faults .entry)) (now (draining .entry))) ⌝ }
+    ensures labels { λ r. ⌜ now (labels .exit) ≡ labelsOf (cabinet n rule (now (faults .entry)) (now (draining .entry))) ⌝ }
 {
-    start(n, faults, labels);
+    start(n, faults, draining, labels);
     let mut exchanges: usize = 1;
     loop {
         let marked = sweep(n, rule, labels);
@@ -239,19 +277,19 @@ fn label_nodes(n: usize, rule: usize, faults: &[u8], labels: &mut [u8]) -> usize
         settle(labels);
         exchanges = exchanges + 1;
     }
-    finish(n, labels);
+    finish(n, faults, labels);
     exchanges
 }
 
 // Labels every node by the rule and answers the number of exchanges, the quiet one included, or refuses and leaves the label table as it was.
-pub fn label(n: usize, rule: usize, faults: &[u8], labels: &mut [u8]) -> Labelled
-    ensures answer { λ r. ⌜ r ≡ labelled (cabinet n rule (now (faults .entry))) (length (now (labels .entry))) ⌝ }
-    ensures labels { λ r. ⌜ now (labels .exit) ≡ labelsAfter (cabinet n rule (now (faults .entry))) (now (labels .entry)) ⌝ }
+pub fn label(n: usize, rule: usize, faults: &[u8], draining: &[u8], labels: &mut [u8]) -> Labelled
+    ensures answer { λ r. ⌜ r ≡ labelled (cabinet n rule (now (faults .entry)) (now (draining .entry))) (length (now (labels .entry))) ⌝ }
+    ensures labels { λ r. ⌜ now (labels .exit) ≡ labelsAfter (cabinet n rule (now (faults .entry)) (now (draining .entry))) (now (labels .entry)) ⌝ }
 {
-    let refusal = label_refusal(n, rule, faults, labels.len());
+    let refusal = label_refusal(n, rule, faults, draining, labels.len());
     if refusal != 0 {
         return Labelled::Refused(refusal);
     }
-    let exchanges = label_nodes(n, rule, faults, labels);
+    let exchanges = label_nodes(n, rule, faults, draining, labels);
     Labelled::Exchanges(exchanges)
 }

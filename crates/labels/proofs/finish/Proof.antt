@@ -1,26 +1,40 @@
--- `finish` goes once through the table. Invariant: before x the ordinarily unsafe nodes are told apart; the measure is what is left.
-use mathlib.Core.Path.{sym, _∙_}
-use mathlib.Core.Logic.{⊎-elim}
-use Prim.Native.Nat.{_<_, _-_}
+-- `finish` goes once through the table. Invariant: the places before x hold the bytes of the end; the measure is what is left.
+use mathlib.Core.Path.{_∙_}
+use mathlib.Core.Bool.{cond}
+use mathlib.Core.List.{List}
+use Prim.Native.Nat.{ℕ, _≤_, _-_}
 use native.Mathlib.Omega.{arith}
 use lib.ListN.{length}
-use Rattle.labels.specs.Passes.{ordinary, putWhere}
-use Rattle.cube.proofs.Filling.{Filled, fill-start, fill-end}
-use Rattle.labels.proofs.Marking.{put-here, put-not, ordinary-seen}
+use Rattle.cube.specs.Tables.{nodeBit}
+use Rattle.cube.proofs.Bools.{by-cases}
+use Rattle.cube.proofs.Tables.{node-room}
+use Rattle.labels.specs.Passes.{finished}
+use Rattle.cube.proofs.Filling.{Filled, fill-start, fill-write, fill-end}
+use Rattle.labels.proofs.Marking.{final-seen}
 use Rattle.labels.proofs.finish.Statement.{statement}
 use Rattle.labels.proofs.finish.Tie as tie
 
+-- the byte of a node that does not work
+abbrev own : (faults : List ℕ) (y : ℕ) → ℕ
+own faults y = cond (nodeBit faults y) 3 4
+
+own-high : (faults : List ℕ) (y : ℕ) → 3 ≤ own faults y
+own-high faults y = by-cases (λ b. 3 ≤ b) (nodeBit faults y) (λ _. omega arith) (λ _. omega arith)
+
 abbrev Inv-loop : tie.InvT-loop
-Inv-loop n labels₀ x₀ labels x = Filled (putWhere 1 (ordinary n labels₀) labels₀) labels₀ labels x
+Inv-loop n faults labels₀ x₀ labels x = Filled (finished n (own faults) labels₀) labels₀ labels x
 
 abbrev μ-loop : tie.MeasureT-loop
-μ-loop n labels₀ x₀ labels x = length labels₀ - x
+μ-loop n faults labels₀ x₀ labels x = length labels₀ - x
 
 loop-holds : tie.Need-loop-holds Inv-loop μ-loop
 loop-holds c = fill-start _ _
 
-is-ordinary-requires : tie.Need-is-ordinary-requires Inv-loop μ-loop
-is-ordinary-requires c κs = omega arith
+final-byte-requires : tie.Need-final-byte-requires Inv-loop μ-loop
+final-byte-requires c κs =
+    let s = c .before .before in
+    let a = s .before .before .before in
+    (node-room (a .args .n) (s .loop .x) _ (a .pre .0) (omega arith), omega arith)
 
 slice-write-labels : tie.Need-slice-write-labels Inv-loop μ-loop
 slice-write-labels c = omega arith
@@ -33,13 +47,8 @@ loop-less c = omega arith
 
 loop-again : tie.Need-loop-again Inv-loop μ-loop
 loop-again c =
-    let s = c .before .before .before .before in
-    let h : s .loop .x < length (s .before .before .args .labels .now) = omega arith in
-    let e = c .before .is-ordinary .ensures ∙ ordinary-seen _ _ _ _ (s .loop .inv) in
-    ⊎-elim
-    (λ w. rw (w .1) (put-here _ _ _ _ _ (s .loop .inv) h (sym e ∙ w .0 .taken)))
-    (λ w. rw (w .1) (put-not _ _ _ _ _ (s .loop .inv) h (sym e ∙ w .0 .left)))
-    (c .if1 .came)
+    let s = c .before .before .before in
+    fill-write _ _ _ _ (s .loop .inv) _ (omega arith) (c .final-byte .ensures ∙ final-seen _ _ (own-high _) _ _ _ (s .loop .inv))
 
 same-length : tie.Need-same-length Inv-loop μ-loop
 same-length c = c .before .loop .inv .sized
@@ -54,7 +63,7 @@ finish-spec =
     Inv-loop
     μ-loop
     loop-holds
-    is-ordinary-requires
+    final-byte-requires
     slice-write-labels
     add-x
     loop-less

@@ -1,4 +1,4 @@
--- `settled_byte` turns 1 into 2.
+-- `settled_byte` turns 128 into 2.
 use borrow.Author.Tests.{eq-eqb, ne-eqb}
 use Rattle.labels.proofs.settled_byte.Statement.{statement}
 use Rattle.labels.proofs.settled_byte.Tie as tie

@@ -6,7 +6,7 @@ use native.Mathlib.Omega.{arith}
 use lib.ListN.{length}
 use Rattle.cube.specs.Count.{count}
 use Rattle.cube.proofs.Count.{count-zero, count-bound}
-use Rattle.labels.specs.Passes.{fresh, putWhere}
+use Rattle.labels.specs.Passes.{fresh, swept}
 use Rattle.cube.proofs.Filling.{Filled, fill-start, fill-end}
 use Rattle.labels.proofs.Marking.{kept-on, sweep-here, sweep-not, fresh-seen}
 use Rattle.labels.proofs.sweep.Statement.{statement}
@@ -14,7 +14,7 @@ use Rattle.labels.proofs.sweep.Tie as tie
 
 abbrev Inv-loop : tie.InvT-loop
 Inv-loop n rule labels₀ marked₀ x₀ labels marked x =
-    Filled (putWhere 128 (fresh n rule labels₀) labels₀) labels₀ labels x × (marked ≡ count x (fresh n rule labels₀))
+    Filled (swept n rule labels₀) labels₀ labels x × (marked ≡ count x (fresh n rule labels₀))
 
 abbrev μ-loop : tie.MeasureT-loop
 μ-loop n rule labels₀ marked₀ x₀ labels marked x = length labels₀ - x
@@ -26,7 +26,7 @@ is-fresh-requires : tie.Need-is-fresh-requires Inv-loop μ-loop
 is-fresh-requires c κs =
     let s = c .before .before in
     let a = s .before .before in
-    (a .pre .0, (kept-on _ _ _ _ (s .loop .inv .0) (a .pre .1 .0), omega arith))
+    (a .pre .0, (kept-on _ _ _ _ _ (s .loop .inv .0) (a .pre .1 .0), omega arith))
 
 slice-write-labels : tie.Need-slice-write-labels Inv-loop μ-loop
 slice-write-labels c = omega arith
