@@ -28,7 +28,13 @@ fn pack(refusal: u32, kind: u32, value: usize) -> u32
 
 // Labels every node by the rule: the number of exchanges, or the refusal, which leaves the labels as they were.
 #[no_mangle]
-pub extern "C" fn hcube_label(n: u32, rule: u32, faults: &[u8], draining: &[u8], labels: &mut [u8]) -> u32
+pub extern "C" fn hcube_label(
+    n: u32,
+    rule: u32,
+    faults: &[u8],
+    draining: &[u8],
+    labels: &mut [u8],
+) -> u32
     ensures answer { λ r. ⌜ r ≡ labelNumber (labelled (cabinet n rule (now (faults .entry)) (now (draining .entry))) (length (now (labels .entry)))) ⌝ }
     ensures labels { λ r. ⌜ now (labels .exit) ≡ labelsAfter (cabinet n rule (now (faults .entry)) (now (draining .entry))) (now (labels .entry)) ⌝ }
 {

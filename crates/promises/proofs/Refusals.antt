@@ -94,7 +94,6 @@ module _ (K : Cabinet) (m : ℕ) where
       (also-test _ (λ e. label-3-faults (unused-says (K .n) (K .faults) .0 e)) (λ f.
       one-test _ (λ e. label-3-draining (unused-says (K .n) (K .draining) .0 e)) (said-3 f) none))))))
     where
-
       said-1 : LabelWhen K m 1 → not (isDimension (K .n)) ≡ true
       said-1 (label-1 w) = wrong-dimension (K .n) .1 w
 

@@ -27,7 +27,7 @@ use Rattle.hop.specs.Helpers.{placeRefusal}
 use Rattle.hop.specs.Hop.{decide, hop, hopRefusal, hopped}
 use Rattle.hop.proofs.Refusals.{misplaced, placed}
 use Rattle.hop.proofs.Scanning.{idle, suits-last}
-use Rattle.walk.specs.Walk.{last, refused, route, rowBytes, stops, walkFrom, walkRefusal, walked}
+use Rattle.walk.specs.Walk.{last, refused, route, rowBytes, stops, walkRefusal, walked}
 use Rattle.walk.proofs.Local.{last-same, route-across, walk-same}
 use Rattle.walk.proofs.Refusals.{walk-misplaced}
 use Rattle.theorems.specs.Before.{

@@ -11,7 +11,7 @@ use Rattle.cube.specs.Count.{least, some}
 use Rattle.cube.specs.Cube.{dist, flip}
 use Rattle.cube.specs.Refusal.{Test, first, _⇒_}
 use Rattle.cube.specs.Tables.{emptyTable, isDimension, nodeBit, tab, tableLen, unusedSet}
-use Rattle.rule.specs.Cabinet.{Cabinet, cabinet, isRule}
+use Rattle.rule.specs.Cabinet.{cabinet, isRule}
 use Rattle.rule.specs.Rule.{exchanges, label}
 use Rattle.scans.specs.Scans.{lowest, noScan}
 use Rattle.labels.specs.Labelling.{labelled, labelsAfter}

@@ -1,7 +1,5 @@
 -- `last_hop` asks of the lowest forward dimension what scan 0 asks of each: no other can lead to d.
-use mathlib.Core.Path.{_∙_}
 use native.Mathlib.Omega.{arith}
-use borrow.Author.Needs.{needs}
 use lib.Bits.{bitXor, xor-lt}
 use lib.Count.{trailingZeros}
 use Rattle.hop.proofs.Scanning.{last-left, last-taken}
