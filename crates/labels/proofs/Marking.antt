@@ -102,6 +102,11 @@ module _ (n : ℕ) (byte : ℕ → ℕ) (high : (y : ℕ) → 3 ≤ byte y) (s :
       (λ t. ap (λ v. eqb v 0) (sym (first-test (labelIn s y) 2 (some n (λ i. plainIn s (flip i y))) t))) (λ _. refl))
 
   -- what the pass asks of the table as it is written says what it asked of the table as it was
+  -- a byte below 2 stays
+  pub final-low : (x : ℕ) → labelIn s x < 2 → labelIn s x ≡ finished n byte s x
+  unfolding finished outIn ordinary markIn
+  final-low x h = rw (ne-eqb (labelIn s x) 3 (λ e. omega arith), ne-eqb (labelIn s x) 2 (λ e. omega arith))
+
   pub final-seen : (l : List ℕ) (x : ℕ) → Filled (finished n byte s) s l x → finished n byte l x ≡ finished n byte s x
   unfolding finished outIn ordinary markIn plainIn
   final-seen l x L =

@@ -245,7 +245,8 @@ fn final_byte(n: usize, faults: &[u8], labels: &[u8], x: usize) -> u8
     labels[x]
 }
 
-// The end of labelling: tells the ordinarily unsafe nodes from the strongly unsafe ones, and the draining nodes from the faulty ones.
+// The end of labelling: tells the ordinarily unsafe nodes from the strongly unsafe ones, and the draining nodes from the faulty ones. A node without a mark
+// keeps its byte.
 fn finish(n: usize, faults: &[u8], labels: &mut [u8])
     requires { ⌜ length (now faults) ≡ tableLen n ⌝ }
     requires { ⌜ Sized n (now labels) ⌝ }
@@ -253,7 +254,9 @@ fn finish(n: usize, faults: &[u8], labels: &mut [u8])
 {
     let mut x: usize = 0;
     while x < labels.len() {
-        labels[x] = final_byte(n, faults, labels, x);
+        if MARKED <= labels[x] {
+            labels[x] = final_byte(n, faults, labels, x);
+        }
         x = x + 1;
     }
 }

@@ -1,16 +1,17 @@
 -- `finish` goes once through the table. Invariant: the places before x hold the bytes of the end; the measure is what is left.
 use mathlib.Core.Path.{_∙_}
+use mathlib.Core.Logic.{⊎-elim}
 use mathlib.Core.Bool.{cond}
 use mathlib.Core.List.{List}
-use Prim.Native.Nat.{ℕ, _≤_, _-_}
+use Prim.Native.Nat.{ℕ, _≤_, _<_, _-_}
 use native.Mathlib.Omega.{arith}
 use lib.ListN.{length}
-use Rattle.cube.specs.Tables.{nodeBit}
+use Rattle.cube.specs.Tables.{labelIn, nodeBit}
 use Rattle.cube.proofs.Bools.{by-cases}
 use Rattle.cube.proofs.Tables.{node-room}
 use Rattle.labels.specs.Passes.{finished}
-use Rattle.cube.proofs.Filling.{Filled, fill-start, fill-write, fill-end}
-use Rattle.labels.proofs.Marking.{final-seen}
+use Rattle.cube.proofs.Filling.{Filled, fill-start, fill-here, fill-keep, fill-write, fill-end}
+use Rattle.labels.proofs.Marking.{final-low, final-seen}
 use Rattle.labels.proofs.finish.Statement.{statement}
 use Rattle.labels.proofs.finish.Tie as tie
 
@@ -30,9 +31,12 @@ abbrev μ-loop : tie.MeasureT-loop
 loop-holds : tie.Need-loop-holds Inv-loop μ-loop
 loop-holds c = fill-start _ _
 
+slice-read-if1 : tie.Need-slice-read-if1 Inv-loop μ-loop
+slice-read-if1 c = omega arith
+
 final-byte-requires : tie.Need-final-byte-requires Inv-loop μ-loop
 final-byte-requires c κs =
-    let s = c .before .before in
+    let s = c .before .before .before .before in
     let a = s .before .before .before in
     (node-room (a .args .n) (s .loop .x) _ (a .pre .0) (omega arith), omega arith)
 
@@ -46,9 +50,15 @@ loop-less : tie.Need-loop-less Inv-loop μ-loop
 loop-less c = omega arith
 
 loop-again : tie.Need-loop-again Inv-loop μ-loop
+unfolding labelIn
 loop-again c =
     let s = c .before .before .before in
-    fill-write _ _ _ _ (s .loop .inv) _ (omega arith) (c .final-byte .ensures ∙ final-seen _ _ (own-high _) _ _ _ (s .loop .inv))
+    let h : s .loop .x < length (s .before .before .before .args .labels .now) = omega arith in
+    let here = fill-here _ _ _ _ (s .loop .inv) in
+    ⊎-elim
+    (λ w. rw (w .3) (fill-write _ _ _ _ (s .loop .inv) _ h (w .2 .ensures ∙ final-seen _ _ (own-high _) _ _ _ (s .loop .inv))))
+    (λ w. rw (w .1) (fill-keep _ _ _ _ (s .loop .inv) h (final-low _ _ (own-high _) _ _ (omega (arith, here, w .0 .left)))))
+    (c .if1 .came)
 
 same-length : tie.Need-same-length Inv-loop μ-loop
 same-length c = c .before .loop .inv .sized
@@ -63,6 +73,7 @@ finish-spec =
     Inv-loop
     μ-loop
     loop-holds
+    slice-read-if1
     final-byte-requires
     slice-write-labels
     add-x
