@@ -17,7 +17,7 @@ use Rattle.hop.proofs.Local.{decide-same}
 use Rattle.hop.proofs.Scanning.{deliver, decided}
 
 module _ (n : ℕ) (lab : ℕ → ℕ) (c : ℕ) (near : List ℕ) (small : n ≤ 12) (copied : near ≡ gathered n lab c) where
-  near-at : (i : ℕ) → i < n → getD near i 0 ≡ lab (flip i c)
+  pub near-at : (i : ℕ) → i < n → getD near i 0 ≡ lab (flip i c)
   unfolding gathered
   near-at i h = rw copied (getD-tab 12 (λ k. cond (ltb k n) (lab (flip k c)) 0) i (omega arith) ∙ rw (lt-ltb i n h))
 

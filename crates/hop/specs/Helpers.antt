@@ -35,10 +35,6 @@ pub record Placed (n a b m : ℕ) : Type 0 where
 unfoldable pub gathered : (n : ℕ) (lab : ℕ → ℕ) (c : ℕ) → List ℕ
 gathered n lab c = tab 12 (λ i. cond (ltb i n) (lab (flip i c)) 0)
 
--- what raises the highest label to a number that is all ones in binary
-abbrev pub slack : ℕ
-slack = 3
-
 -- dimension i is in the set, a number whose bits are the dimensions, and the label of the neighbour across it is at most top
 unfoldable pub inSet : (set : ℕ) (near : ℕ → ℕ) (top i : ℕ) → Bool
 inSet set near top i = bit i set && leb (near i) top

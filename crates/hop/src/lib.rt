@@ -4,7 +4,7 @@ ghost use Prim.Native.Nat.{_+_, _*_, _<_, _≤_, _^_};
 ghost use Rattle.cube.specs.Count.{least, some};
 ghost use Rattle.cube.specs.Cube.{flip};
 ghost use Rattle.cube.specs.Tables.{highest, labelIn};
-ghost use Rattle.hop.specs.Helpers.{Placed, across, chosen, gathered, inSet, placeRefusal, slack};
+ghost use Rattle.hop.specs.Helpers.{Placed, across, chosen, gathered, inSet, placeRefusal};
 ghost use Rattle.hop.specs.Hop as spec;
 ghost use Rattle.scans.specs.Scans as scans;
 ghost use lib.Dec.{ltb};
@@ -18,10 +18,6 @@ use cube::neighbour;
 use cube::nodes;
 
 const DRAINING: u8 = 4; // the label of a draining node
-
-const SLACK: usize = 3; // what raises the highest label to a number that is all ones
-
-const ONES: usize = 7; // that number: HIGHEST + SLACK
 
 const NO_SCAN: usize = 6; // the scans are 0 to 5
 
@@ -59,30 +55,42 @@ pub fn place_refusal(n: usize, a: usize, b: usize, len: usize, other: bool) -> u
     0
 }
 
-// A label raised, so that the highest is all ones: raised labels joined by `|` are above that exactly where one of them is.
-fn raised(label: u8) -> usize
-    ensures { λ r. ⌜ r ≡ label + slack ⌝ }
+// Whether one of the first n labels is above the highest.
+fn some_above(n: usize, near: &[u8; 12]) -> bool
+    requires { ⌜ n ≤ 12 ⌝ }
+    ensures { λ r. ⌜ r ≡ some n (λ i. ltb highest (getD (now (near .entry)) i 0)) ⌝ }
 {
-    label as usize + SLACK
+    let mut i = 0;
+    while i < n {
+        if HIGHEST < near[i] {
+            return true;
+        }
+        i += 1;
+    }
+    false
 }
 
-// Reads the labels of c's neighbours, each once, into the first n places of near, and answers whether one is above the highest label. step is 2 ^ i.
+// Reads the labels of c's neighbours, each once, into the first n places of near, and answers whether one is above the highest label. None is above all of
+// them joined by `|`: so where that is no higher, as it is where no neighbour drains, they need not be looked at one by one. step is 2 ^ i.
 fn gather(n: usize, labels: &[u8], c: usize, near: &mut [u8; 12]) -> bool
     requires { ⌜ (n ≤ 12) × (c < 2 ^ n) × (length (now labels) ≡ 2 ^ n) × (now near ≡ replicate 12 0) ⌝ }
     ensures near { λ r. ⌜ now (near .exit) ≡ gathered n (labelIn (now (labels .entry))) c ⌝ }
     ensures high { λ r. ⌜ r ≡ some n (λ i. ltb highest (labelIn (now (labels .entry)) (flip i c))) ⌝ }
 {
-    let mut any: usize = 0;
+    let mut any: u8 = 0;
     let mut step: usize = 1;
     let mut i = 0;
     while i < n {
         let y = labels[c ^ step];
         near[i] = y;
-        any = any | raised(y);
+        any = any | y;
         step = step + step;
         i += 1;
     }
-    ONES < any
+    if any <= HIGHEST {
+        return false;
+    }
+    some_above(n, near)
 }
 
 // The lowest dimension of a set whose neighbour's label is at most top; n where there is none. The bits of a number are the set's dimensions:

@@ -1,7 +1,7 @@
--- `gather`: after i dimensions step is 2 ^ i, the first i places hold the labels of those neighbours, the others 0, and the labels joined are above the
--- highest exactly where one of them is. The measure is what is left of n.
-use mathlib.Core.Path.{_≡_, refl, ap, _∙_}
-use Prim.Native.Nat.{ℕ, _≤_, _-_, _^_}
+-- `gather`: after i dimensions step is 2 ^ i, the first i places hold the labels of those neighbours, the others 0, and none of them is above the labels
+-- joined. The measure is what is left of n.
+use mathlib.Core.Path.{_≡_, refl, sym, ap, _∙_}
+use Prim.Native.Nat.{ℕ, _≤_, _<_, _-_, _^_}
 use native.Mathlib.Nat.{pow-suc}
 use native.Mathlib.Numerals.{add-one}
 use native.Mathlib.Omega.{arith}
@@ -11,11 +11,12 @@ use lib.Bits.{bitXor, xor-lt}
 use lib.Dec.{ltb}
 use lib.ListN.{replicate}
 use lib.Pow.{pow-lt}
-use Rattle.cube.specs.Count.{least, some}
 use Rattle.cube.specs.Cube.{flip}
 use Rattle.cube.specs.Tables.{highest, labelIn}
+use Rattle.cube.proofs.Search.{some-none, some-same}
 use Rattle.cube.proofs.Front.{front, front-zero, front-zeros, front-write}
-use Rattle.hop.specs.Helpers.{gathered, slack}
+use Rattle.hop.specs.Helpers.{gathered}
+use Rattle.hop.proofs.Gathered.{near-at}
 use Rattle.hop.proofs.Joined.{joined-next}
 use Rattle.hop.proofs.gather.Statement.{statement}
 use Rattle.hop.proofs.gather.Tie as tie
@@ -23,14 +24,13 @@ use Rattle.hop.proofs.gather.Tie as tie
 abbrev Inv-loop : tie.InvT-loop
 Inv-loop n labels c near₀ any₀ step₀ i₀ near any step i =
     (i ≤ n) × (step ≡ 2 ^ i) × (near ≡ front (λ k. labelIn labels (flip k c)) i (replicate 12 0))
-    × (ltb 7 any ≡ some i (λ k. ltb highest (labelIn labels (flip k c))))
+    × ((k : ℕ) → k < i → labelIn labels (flip k c) ≤ any)
 
 abbrev μ-loop : tie.MeasureT-loop
 μ-loop n labels c near₀ any₀ step₀ i₀ near any step i = n - i
 
 loop-holds : tie.Need-loop-holds Inv-loop μ-loop
-unfolding some least
-loop-holds c = (omega arith, refl, c .before .pre .3 ∙ front-zero _ _, refl)
+loop-holds c = (omega arith, refl, c .before .pre .3 ∙ front-zero _ _, λ k h. absurd (omega arith))
 
 shared-slice-read-y : tie.Need-shared-slice-read-y Inv-loop μ-loop
 shared-slice-read-y c =
@@ -41,11 +41,8 @@ shared-slice-read-y c =
 element-write-near : tie.Need-element-write-near Inv-loop μ-loop
 element-write-near c = omega arith
 
-raised-requires : tie.Need-raised-requires Inv-loop μ-loop
-raised-requires c κs = search needs
-
 add-step : tie.Need-add-step Inv-loop μ-loop
-add-step c = omega (arith, pow-lt {i = c .before .before .before .loop .i} {j = 12} (omega arith))
+add-step c = omega (arith, pow-lt {i = c .before .before .loop .i} {j = 12} (omega arith))
 
 add-i : tie.Need-add-i Inv-loop μ-loop
 add-i c = omega arith
@@ -56,30 +53,56 @@ loop-less c = omega arith
 loop-again : tie.Need-loop-again Inv-loop μ-loop
 unfolding labelIn flip
 loop-again c =
-    let l = c .before .before .before .loop in
-    let a = c .before .before .before .before .before .args in
+    let l = c .before .before .loop in
+    let a = c .before .before .before .before .args in
     let f : ℕ → ℕ = λ k. labelIn (a .labels .now) (flip k (a .c)) in
     let e = ap (λ (x : ℕ). labelIn (a .labels .now) (bitXor (a .c) x)) (l .inv .1) in (
       omega arith,
       rw (add-one, pow-suc) (omega arith),
       front-write f (l .i) (replicate 12 0) (l .near) _ (omega arith) (l .inv .2) e,
-      joined-next 7 3 refl highest slack refl f (l .any) _ (l .i) (l .inv .3) (c .raised .ensures ∙ rw e),
+      joined-next f (l .any) _ (l .i) (l .inv .3) e,
     )
 
-returns : tie.Need-returns Inv-loop μ-loop
+-- behind the loop the places hold the labels of all neighbours
+all : (c : tie.After-loop Inv-loop μ-loop) → let a = c .before .before .before .args in c .before .loop .near ≡ gathered (a .n) (labelIn (a .labels .now)) (a .c)
 unfolding gathered
-returns c =
+all c =
     let s = c .before .before .before in
     let n = s .args .n in
     let l = c .before .loop in
     let f : ℕ → ℕ = λ k. labelIn (s .args .labels .now) (flip k (s .args .c)) in
-    let e : l .i ≡ n = omega arith in (
-      l .inv .2 ∙ ap (λ (i : ℕ). front f i (replicate 12 0)) e
-          ∙ front-zeros f (λ i. ltb i n) n 12 (s .pre .0) (λ i h. lt-ltb i n h) (λ i h. le-ltb i n h),
-      l .inv .3 ∙ ap (λ (i : ℕ). some i (λ k. ltb highest (f k))) e,
-    )
+    let e : l .i ≡ n = omega arith in
+    l .inv .2 ∙ ap (λ (i : ℕ). front f i (replicate 12 0)) e ∙ front-zeros f (λ i. ltb i n) n 12 (s .pre .0) (λ i h. lt-ltb i n h) (λ i h. le-ltb i n h)
+
+returns : tie.Need-returns Inv-loop μ-loop
+returns c =
+    let l = c .before in
+    let a = l .before .before .before .args in
+    let f : ℕ → ℕ = λ k. labelIn (a .labels .now) (flip k (a .c)) in
+    (all l, sym (some-none (a .n) (λ k. ltb highest (f k)) (λ k h. le-ltb highest (f k) (omega (arith, l .before .loop .inv .3 k (omega arith), c .if1 .taken)))))
+
+some-above-requires : tie.Need-some-above-requires Inv-loop μ-loop
+some-above-requires c κs = search needs
+
+returns-2 : tie.Need-returns-2 Inv-loop μ-loop
+returns-2 c =
+    let l = c .before .before .before in
+    let s = l .before .before .before in
+    (all l, c .some-above .ensures ∙ some-same _ _ _ (λ i h. ap (ltb highest) (near-at _ _ _ _ (s .pre .0) (all l) i h)))
 
 pub gather-spec : {M : Type 1} → statement M
 gather-spec =
     tie.close
-    (tie.spec Inv-loop μ-loop loop-holds shared-slice-read-y element-write-near raised-requires add-step add-i loop-less loop-again returns)
+    (tie.spec
+    Inv-loop
+    μ-loop
+    loop-holds
+    shared-slice-read-y
+    element-write-near
+    add-step
+    add-i
+    loop-less
+    loop-again
+    returns
+    some-above-requires
+    returns-2)
