@@ -7,11 +7,11 @@ use native.Mathlib.Decide.{ℕ-discrete}
 use native.Mathlib.Omega.{arith}
 use lib.Bits.{bitXor}
 use lib.Dec.{eqb, leb, ltb}
-use borrow.Author.Tests.{eq-eqb, eqb-true, leb-true, ne-eqb, lt-ltb, le-ltb, ltb-true, ltb-false}
+use borrow.Author.Tests.{eqb-true, leb-true, ne-eqb, lt-ltb, le-ltb, ltb-true, ltb-false}
 use Rattle.cube.specs.Count.{least}
 use Rattle.cube.specs.Cube.{apart, dist, flip}
 use Rattle.cube.proofs.Count.{below-suc}
-use Rattle.cube.proofs.Bools.{and-both, and-true, beq-true, clash, either, is-false}
+use Rattle.cube.proofs.Bools.{and-true, beq-true, clash, either, is-false}
 use Rattle.cube.proofs.Search.{least-is, the-least, least-none}
 use Rattle.cube.proofs.Cube.{apart-other, dist-self, dist-zero}
 use Rattle.cube.proofs.Laws.{across-one, agree-apart, one-across}
@@ -58,18 +58,16 @@ module _ (n c d own : ℕ) (near : ℕ → ℕ) where
       (one-across i c d (beq-true (apart i c d) true (b .0)) (eqb-true (dist c d) 1 (a .0)), omega (arith, leb-true 4 (near i) (l .0), leb-true (near i) 4 (l .1)))
 
   module _ (i : ℕ) (f : LowestOf n (bitXor c d) i) where
-    pub last-taken : (eqb (near i) 4 && eqb (flip i c) d) ≡ true → i ≡ lowest n c d own near 0
+    pub last-taken : flip i c ≡ d → near i ≡ 4 → i ≡ lowest n c d own near 0
     unfolding lowest apart
-    last-taken t =
-        let a = and-true (eqb (near i) 4) (eqb (flip i c) d) t in
-        sym (least-is n (takes c d own near 0) i (omega (arith, f .inside)) lower (λ _. last-suits i (eqb-true (flip i c) d (a .1)) (eqb-true (near i) 4 (a .0))))
+    last-taken e q = sym (least-is n (takes c d own near 0) i (omega (arith, f .inside)) lower (λ _. last-suits i e q))
       where
         lower : (j : ℕ) → j < i → takes c d own near 0 j ≡ false
         lower j l = is-false (λ t. clash (across-one j c d (suits-last j t .0) .0) (f .before j l))
 
-    pub last-left : (eqb (near i) 4 && eqb (flip i c) d) ≡ false → n ≡ lowest n c d own near 0
+    pub last-left : (flip i c ≡ d → near i ≡ 4 → ⊥) → n ≡ lowest n c d own near 0
     unfolding apart
-    last-left t = sym (idle 0 none)
+    last-left no-hop = sym (idle 0 none)
       where
         same : (j : ℕ) → flip j c ≡ d → j ≡ i
         same j e =
@@ -79,10 +77,10 @@ module _ (n c d own : ℕ) (near : ℕ → ℕ) where
             ]
 
         none : (j : ℕ) → takes c d own near 0 j ≡ false
-        none j = is-false (λ u.
-            let r = suits-last j u in
-            let q = same j (r .0) in
-            clash (and-both (eq-eqb (near i) 4 (ap near (sym q) ∙ r .1)) (eq-eqb (flip i c) d (ap (λ k. flip k c) (sym q) ∙ r .0))) t)
+        none j = is-false (λ t.
+            let r = suits-last j t in
+            let q = sym (same j (r .0)) in
+            no-hop (ap (λ k. flip k c) q ∙ r .0) (ap near q ∙ r .1))
 
   -- the third, by its test
   pub third-open : (eqb own 2 || leb (dist c d) 2) ≡ true → least n (inSet (bitXor c d) near 2) ≡ lowest n c d own near 3

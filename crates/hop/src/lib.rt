@@ -116,7 +116,10 @@ fn last_hop(n: usize, c: usize, d: usize, near: &[u8; 12]) -> usize
     ensures { λ r. ⌜ r ≡ scans.lowest n c d 0 (λ i. getD (now (near .entry)) i 0) 0 ⌝ }
 {
     let i = usize::trailing_zeros(c ^ d) as usize;
-    if (near[i] == DRAINING) & (neighbour(c, i) == d) {
+    if near[i] != DRAINING {
+        return n;
+    }
+    if neighbour(c, i) == d {
         return i;
     }
     n
