@@ -9,14 +9,15 @@ use native.Mathlib.Nat.{pow-suc}
 use native.Mathlib.Omega.{arith}
 use borrow.Author.Tests.{eq-eqb, le-leb, lt-leb}
 use lib.Bits.{bitAnd, bitXor, and-self, and-step, xor-step, xor-zero-r}
-use lib.Count.{trailingZeros, under, trailing-of-zero}
+use lib.Count.{ones, trailingZeros, under, trailing-of-zero}
 use lib.Dec.{eqb, leb}
 use lib.Pow.{pow-pos}
 use Rattle.cube.specs.Count.{least}
-use Rattle.cube.specs.Cube.{bit, flip, apart}
+use Rattle.cube.specs.Cube.{bit, flip, apart, dist}
 use Rattle.cube.proofs.Bools.{and-both, beq-no, beq-yes, by-cases, xor-not}
 use Rattle.cube.proofs.Search.{Least, the-least, least-found, least-is, least-same, find, least-none}
 use Rattle.cube.proofs.Cube.{bit-low, bit-suc, bit-none, bit-xor, bit-flip-other, bits-same, none-apart}
+use Rattle.cube.proofs.Laws.{across-one, one-across}
 use Rattle.hop.specs.Helpers.{inSet}
 use Rattle.scans.specs.Scans.{forward, spare, scanOf, suits}
 
@@ -108,6 +109,26 @@ lowest-of n x small h more = go (find n (λ i. bit i x))
 pub some-forward : (n c d : ℕ) → c < 2 ^ n → d < 2 ^ n → (c ≡ d → ⊥) → bitXor c d ≡ 0 → ⊥
 unfolding apart
 some-forward n c d hc hd far e = far (none-apart n c d hc hd (λ i _. ap (bit i) e ∙ bit-none i))
+
+-- the set of the dimensions in which c and d differ, without its lowest, is empty exactly where the neighbour across that one is d
+module _ (n c d i : ℕ) (f : LowestOf n (bitXor c d) i) where
+  abbrev x : ℕ
+  x = bitXor c d
+
+  same-dist : dist x 0 ≡ dist c d
+  unfolding dist
+  same-dist = ap ones (xor-zero-r x)
+
+  apart-zero : apart i x 0 ≡ true
+  unfolding apart
+  apart-zero = ap (bit i) (xor-zero-r x) ∙ f .has
+
+  pub only-one : bitAnd x (x - 1) ≡ 0 → flip i c ≡ d
+  unfolding apart
+  only-one e = one-across i c d (f .has) (sym same-dist ∙ across-one i x 0 (sym (f .rest) ∙ e) .1)
+
+  pub one-only : flip i c ≡ d → bitAnd x (x - 1) ≡ 0
+  one-only e = f .rest ∙ one-across i x 0 apart-zero (same-dist ∙ across-one i c d e .1)
 
 -- ---- the search in a set
 

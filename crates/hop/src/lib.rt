@@ -14,7 +14,6 @@ ghost use mathlib.Core.Path.{_≡_};
 use cube::HIGHEST;
 use cube::distance;
 use cube::is_dimension;
-use cube::neighbour;
 use cube::nodes;
 
 const DRAINING: u8 = 4; // the label of a draining node
@@ -110,16 +109,17 @@ fn lowest(n: usize, set: usize, near: &[u8; 12], top: u8) -> usize
     n
 }
 
-// The hop before the scans: to d itself, where it is c's neighbour across the lowest forward dimension, and draining. n where it is not.
+// The hop before the scans: to d itself, where only one dimension is forward, so that d is the neighbour across it, and d drains. n where it is not so.
 fn last_hop(n: usize, c: usize, d: usize, near: &[u8; 12]) -> usize
     requires { ⌜ (n ≤ 12) × (c < 2 ^ n) × (d < 2 ^ n) × (c ≢ d) ⌝ }
     ensures { λ r. ⌜ r ≡ scans.lowest n c d 0 (λ i. getD (now (near .entry)) i 0) 0 ⌝ }
 {
-    let i = usize::trailing_zeros(c ^ d) as usize;
-    if near[i] != DRAINING {
+    let forward = c ^ d;
+    if forward & (forward - 1) != 0 {
         return n;
     }
-    if neighbour(c, i) == d {
+    let i = usize::trailing_zeros(forward) as usize;
+    if near[i] == DRAINING {
         return i;
     }
     n
