@@ -11,11 +11,15 @@ void check_random_tables(void);
 void check_random_labels(void);
 void check_hop_reads(void);
 void check_label_buffer(void);
+void check_draining(void);        /* draining.c */
+void check_draining_ends(void);
+void check_bounds(void);          /* bounds.c */
 void check_long_walks(void);      /* long_walks.c */
 void check_damaged(void);         /* refusals.c */
 void check_lengths(void);
 void check_plain_numbers(void);
 void check_orders(void);          /* orders.c */
+void check_combinations(void);
 void check_notices(void);         /* notices.c */
 void check_notice_orders(void);
 void check_cut_notices(void);

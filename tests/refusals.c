@@ -12,7 +12,8 @@
 #include "lent.h"
 #include "reference.h"
 
-static uint8_t faults[MOST_LENT], labels[MOST_LENT], row[MOST_LENT];
+static uint8_t faults[MOST_LENT], draining[MOST_LENT];
+static uint8_t labels[MOST_LENT], row[MOST_LENT];
 
 /* ---- random damage */
 
@@ -68,7 +69,14 @@ static void damage_labels(uint32_t n, uint32_t c)
     if (random_below(8) == 0)
         labels[k] = (uint8_t)(LAST_LABEL + 1 + random_below(255 - LAST_LABEL));
     if (random_below(8) == 0)
-        labels[c & (nodes - 1)] = random_below(2) ? 255 : 3;
+        labels[c & (nodes - 1)] = (uint8_t[]){3, 4, 255}[random_below(3)];
+}
+
+/* A bit of the first byte more, which is none for a node where n is 1 or 2. */
+static void damage_table(uint8_t *table)
+{
+    if (random_below(4) == 0)
+        table[0] |= (uint8_t)(1u << random_below(8));
 }
 
 /* `fitting` is the dimension that the tables are made for. */
@@ -76,11 +84,14 @@ static void damaged_label(uint32_t n, uint32_t fitting)
 {
     struct label_question asked = fit_label(fitting, faults, labels);
     random_faults(fitting, random_density(fitting), faults);
-    if (random_below(4) == 0)
-        faults[0] |= (uint8_t)(1u << random_below(8));
+    random_draining(fitting, faults, draining);
+    damage_table(faults);
+    damage_table(draining);
     asked.n = n;
     asked.rule = any_rule();
     asked.faults_len = any_length(asked.faults_len);
+    asked.draining = draining;
+    asked.draining_len = any_length(asked.draining_len);
     asked.labels_len = any_length(asked.labels_len);
     check_label(asked);
 }
@@ -126,20 +137,31 @@ static void lengths_of(uint32_t n)
 {
     struct hop_question hop = fit_hop(n, 0, 1, labels);
     struct walk_question walk = fit_walk(n, 0, 1, labels, row);
-    struct label_question label = fit_label(n, faults, row);
-    size_t nodes = hop.labels_len, bytes = label.faults_len;
+    size_t nodes = hop.labels_len;
     memset(labels, 0, sizeof labels);
     for (unsigned a = 0; a < LENGTHS; a++) {
-        hop.labels_len = length_number(a, nodes);
-        walk.labels_len = label.labels_len = hop.labels_len;
+        walk.labels_len = hop.labels_len = length_number(a, nodes);
         check_hop(hop);
         for (unsigned b = 0; b < LENGTHS; b++) {
             walk.row_len = length_number(b, ROW_BYTES);
             check_walk(walk);
-            random_faults(n, 200, faults);
-            label.faults_len = length_number(b, bytes);
-            check_label(label);
         }
+    }
+}
+
+/* Every length of each of the three buffers beside every one of the others. */
+static void lengths_of_label(uint32_t n)
+{
+    struct label_question label = fit_label(n, faults, row);
+    size_t nodes = label.labels_len, bytes = label.faults_len;
+    label.draining = draining;
+    for (unsigned k = 0; k < LENGTHS * LENGTHS * LENGTHS; k++) {
+        random_faults(n, 200, faults);
+        random_faults(n, 200, draining);
+        label.labels_len = length_number(k % LENGTHS, nodes);
+        label.faults_len = length_number(k / LENGTHS % LENGTHS, bytes);
+        label.draining_len = length_number(k / LENGTHS / LENGTHS, bytes);
+        check_label(label);
     }
 }
 
@@ -155,6 +177,10 @@ static void lengths_with(uint8_t *big, size_t beyond)
     hop.labels_len += beyond;
     walk.labels_len += beyond;
     expect(ask_label(label) == REFUSED(2), "fault table");
+    label = fit_label(3, small + 8, small);
+    label.draining = big;
+    label.draining_len += beyond;
+    expect(ask_label(label) == REFUSED(2), "draining table");
     expect(ask_hop(hop) == REFUSED(2), "hop");
     expect(ask_walk(walk) == REFUSED(2), "walk");
     label = fit_label(3, small, big);
@@ -187,8 +213,10 @@ void check_lengths(void)
 {
     begin_group("lengths from 0 to far too long");
     random_bytes(row, sizeof row);
-    for (uint32_t n = 1; n <= 12; n++)
+    for (uint32_t n = 1; n <= 12; n++) {
         lengths_of(n);
+        lengths_of_label(n);
+    }
     lengths_beyond_32_bits();
     end_group();
 }
