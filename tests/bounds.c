@@ -50,15 +50,15 @@ static void bounds_of(uint32_t n, uint32_t s, uint32_t d, int some)
 {
     uint8_t row[ROW_BYTES];
     uint32_t answer = walk_by(labels, n, s, d, row);
+    uint32_t last = row_place(row, HCUBE_VALUE(answer) % ROW_PLACES);
     if (labels[s] >= HCUBE_FAULTY || labels[d] == HCUBE_FAULTY)
         return;
     if (some)
         some_safe(n, s, d, answer);
     else
-        none_safe(n, s, d, answer, row_place(row, HCUBE_VALUE(answer) % ROW_PLACES));
-    if (answer >> 16 == 0)
-        expect(row_place(row, answer % ROW_PLACES) == d,
-               "n = %u: walk %u to %u does not arrive", n, s, d);
+        none_safe(n, s, d, answer, last);
+    expect(answer >> 16 || last == d, "n = %u: walk %u to %u does not arrive", n,
+           s, d);
 }
 
 static int has_safe_node(uint32_t n)

@@ -3,9 +3,9 @@
 #define GROUPS_H
 
 void check_worked_numbers(void);  /* worked.c */
-void check_small_cubes(void);     /* tables.c */
-void check_most_exchanges(void);
+void check_most_exchanges(void);  /* exchanges.c */
 void check_one_exchange(void);
+void check_small_cubes(void);     /* tables.c */
 void check_moved(void);
 void check_random_tables(void);
 void check_random_labels(void);
@@ -15,11 +15,11 @@ void check_draining(void);        /* draining.c */
 void check_draining_ends(void);
 void check_bounds(void);          /* bounds.c */
 void check_long_walks(void);      /* long_walks.c */
+void check_lengths(void);         /* lengths.c */
 void check_damaged(void);         /* refusals.c */
-void check_lengths(void);
+void check_combinations(void);
 void check_plain_numbers(void);
 void check_orders(void);          /* orders.c */
-void check_combinations(void);
 void check_notices(void);         /* notices.c */
 void check_notice_orders(void);
 void check_cut_notices(void);

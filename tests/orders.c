@@ -79,44 +79,6 @@ static uint32_t label_answer(const struct order *order)
     return check_label(asked);
 }
 
-/* The refusal that is due, by the order of the tests; 0 if none is. 16 is a bit of
- * no node for n = 1 and 2. */
-static unsigned label_refusal(const struct order *order)
-{
-    if (order->n < 1 || order->n > 12)
-        return 1;
-    if (order->rule_more < -1 || order->rule_more > 0)
-        return 18;
-    if (order->faults_more || order->draining_more || order->labels_more)
-        return 2;
-    return order->n < 3 && (order->fault_byte | order->draining_byte) & 16 ? 3 : 0;
-}
-
-static void combination(unsigned number)
-{
-    static const uint32_t dimensions[] = {0, 1, 2, 3, 13, 257, 258};
-    static const uint8_t bytes[] = {0, 3, 16};
-    struct order order = {.n = dimensions[number % 7],
-                          .rule_more = (int)(number / 7 % 4) - 2,
-                          .faults_more = (int)(number / 28 % 3) - 1,
-                          .draining_more = (int)(number / 84 % 3) - 1,
-                          .labels_more = (int)(number / 252 % 3) - 1,
-                          .fault_byte = bytes[number / 756 % 3],
-                          .draining_byte = bytes[number / 2268]};
-    unsigned due = label_refusal(&order);
-    uint32_t answer = label_answer(&order);
-    expect(due ? answer == REFUSED(due) : answer >> 16 == 0,
-           "combination %u: %08x, where %u is due", number, answer, due);
-}
-
-void check_combinations(void)
-{
-    begin_group("labelling, all that is refused in every combination");
-    for (unsigned number = 0; number < 3 * 2268; number++)
-        combination(number);
-    end_group();
-}
-
 /* ---- hop. n = 260 is 4 once narrowed. */
 
 static const struct order hop_orders[] = {

@@ -1,10 +1,8 @@
 /*
  * refusals.c: labelling, hop and walk on inputs that are refused: random damage,
- * lengths of every kind, and numbers that would fit once narrowed.
+ * all that labelling refuses at once, and numbers that would fit once narrowed.
  */
-#define _DEFAULT_SOURCE /* MAP_ANONYMOUS, MAP_NORESERVE */
 #include <string.h>
-#include <sys/mman.h>
 
 #include "cases.h"
 #include "check.h"
@@ -122,102 +120,52 @@ void check_damaged(void)
     end_group();
 }
 
-/* ---- lengths */
+/* ---- labelling, with all that can be wrong in every combination */
 
-/* Lengths around the exact one; the last is far too long. */
-static size_t length_number(unsigned k, size_t exact)
+/* 16 is a bit of no node where n is 1 or 2. */
+static int has_unused_bit(struct label_question asked)
 {
-    const size_t lengths[] = {0, 1, exact / 2, exact - 1, exact, exact + 1,
-                              2 * exact, exact + 256, exact + 65536, MOST_LENT};
-    return lengths[k];
-}
-#define LENGTHS 10u
-
-static void lengths_of(uint32_t n)
-{
-    struct hop_question hop = fit_hop(n, 0, 1, labels);
-    struct walk_question walk = fit_walk(n, 0, 1, labels, row);
-    size_t nodes = hop.labels_len;
-    memset(labels, 0, sizeof labels);
-    for (unsigned a = 0; a < LENGTHS; a++) {
-        walk.labels_len = hop.labels_len = length_number(a, nodes);
-        check_hop(hop);
-        for (unsigned b = 0; b < LENGTHS; b++) {
-            walk.row_len = length_number(b, ROW_BYTES);
-            check_walk(walk);
-        }
-    }
+    return asked.n < 3 && (asked.faults[0] | asked.draining[0]) & 16;
 }
 
-/* Every length of each of the three buffers beside every one of the others. */
-static void lengths_of_label(uint32_t n)
+/* The refusal that is due, by document 02's order; 0 if none is. */
+static unsigned label_refusal(struct label_question asked, int wrong_length)
 {
-    struct label_question label = fit_label(n, faults, row);
-    size_t nodes = label.labels_len, bytes = label.faults_len;
-    label.draining = draining;
-    for (unsigned k = 0; k < LENGTHS * LENGTHS * LENGTHS; k++) {
-        random_faults(n, 200, faults);
-        random_faults(n, 200, draining);
-        label.labels_len = length_number(k % LENGTHS, nodes);
-        label.faults_len = length_number(k / LENGTHS % LENGTHS, bytes);
-        label.draining_len = length_number(k / LENGTHS / LENGTHS, bytes);
-        check_label(label);
-    }
+    if (asked.n < 1 || asked.n > 12)
+        return 1;
+    if (asked.rule < 2 || asked.rule > 3)
+        return 18;
+    return wrong_length ? 2 : has_unused_bit(asked) ? 3 : 0;
 }
 
-/* Each buffer of n = 3 in turn is `big` and too long: right in the low 32 bits
- * of its length alone. */
-static void lengths_with(uint8_t *big, size_t beyond)
+/* The parts of the number choose what is wrong; lengths are one too short, right
+ * or one too long for n, or for what it is once narrowed to a byte. */
+static void combination(unsigned number)
 {
-    uint8_t small[ROW_BYTES] = {0};
-    struct label_question label = fit_label(3, big, small);
-    struct hop_question hop = fit_hop(3, 0, 1, big);
-    struct walk_question walk = fit_walk(3, 0, 1, big, small);
-    label.faults_len += beyond;
-    hop.labels_len += beyond;
-    walk.labels_len += beyond;
-    expect(ask_label(label) == REFUSED(2), "fault table");
-    label = fit_label(3, small + 8, small);
-    label.draining = big;
-    label.draining_len += beyond;
-    expect(ask_label(label) == REFUSED(2), "draining table");
-    expect(ask_hop(hop) == REFUSED(2), "hop");
-    expect(ask_walk(walk) == REFUSED(2), "walk");
-    label = fit_label(3, small, big);
-    walk = fit_walk(3, 0, 1, small, big);
-    label.labels_len += beyond;
-    walk.row_len += beyond;
-    expect(ask_label(label) == REFUSED(2), "label table");
-    expect(ask_walk(walk) == REFUSED(2), "row");
-    big[0] = 3;
-    expect(hcube_read_notice(big, beyond, small, 1) == NOTICE_READ(3, 0, 2),
-           "notice");
-    expect(hcube_read_notice(big, 2, big + 8, beyond + 1) ==
-               NOTICE_REFUSED(2, 0),
-           "notice's table");
+    static const uint32_t dimensions[] = {0, 1, 2, 3, 13, 257, 258};
+    static const uint8_t bytes[] = {0, 3, 16};
+    uint32_t n = dimensions[number % 7], answer;
+    struct label_question asked = fit_label(n & 255, faults, labels);
+    unsigned lengths = number / 28 % 27, due;
+    asked.n = n;
+    asked.rule = 1 + number / 7 % 4;
+    asked.faults_len += lengths % 3 - (size_t)1;
+    asked.draining = draining;
+    asked.draining_len += lengths / 3 % 3 - (size_t)1;
+    asked.labels_len += lengths / 9 - (size_t)1;
+    faults[0] = bytes[number / 756 % 3];
+    draining[0] = bytes[number / 2268];
+    due = label_refusal(asked, lengths != 13);
+    answer = check_label(asked);
+    expect(due ? answer == REFUSED(due) : answer >> 16 == 0,
+           "combination %u: %08x, where %u is due", number, answer, due);
 }
 
-static void lengths_beyond_32_bits(void)
+void check_combinations(void)
 {
-    size_t beyond = (size_t)1 << 32;
-    uint8_t *big = mmap(NULL, beyond + 4096, PROT_READ | PROT_WRITE,
-                        MAP_PRIVATE | MAP_ANONYMOUS | MAP_NORESERVE, -1, 0);
-    expect(big != MAP_FAILED, "no address space of 4 GiB");
-    if (big == MAP_FAILED)
-        return;
-    lengths_with(big, beyond);
-    munmap(big, beyond + 4096);
-}
-
-void check_lengths(void)
-{
-    begin_group("lengths from 0 to far too long");
-    random_bytes(row, sizeof row);
-    for (uint32_t n = 1; n <= 12; n++) {
-        lengths_of(n);
-        lengths_of_label(n);
-    }
-    lengths_beyond_32_bits();
+    begin_group("labelling, all that is refused in every combination");
+    for (unsigned number = 0; number < 3 * 2268; number++)
+        combination(number);
     end_group();
 }
 
