@@ -86,13 +86,13 @@ static void bounds_of_all(uint32_t n)
 void check_bounds(void)
 {
     begin_group("bounds of walks, to working and to draining nodes");
-    for (unsigned k = 0; k < 3600; k++) {
+    for (unsigned k = 0; k < 2400; k++) {
         uint32_t n = 1 + k % 12;
         random_cabinet(n, random_density(n));
         label_cabinet(n, 2 + k / 12 % 2);
         bounds_of_some(n);
     }
-    for (unsigned k = 0; k < 400; k++) {
+    for (unsigned k = 0; k < 300; k++) {
         random_cabinet(4, 150 + random_below(150));
         label_cabinet(4, 3);
         bounds_of_all(4);

@@ -40,19 +40,22 @@ static void lengths_of(uint32_t n)
     }
 }
 
-/* Every length of each of the three buffers beside every one of the others. */
+/* Every length of two buffers at once, while the third has the right one: the
+ * fault table, the draining table and the label table in turn. */
 static void lengths_of_label(uint32_t n)
 {
-    struct label_question label = fit_label(n, faults, row);
-    size_t nodes = label.labels_len, bytes = label.faults_len;
-    label.draining = draining;
-    for (unsigned k = 0; k < LENGTHS * LENGTHS * LENGTHS; k++) {
+    struct label_question asked = fit_label(n, faults, row);
+    size_t nodes = asked.labels_len, bytes = asked.faults_len;
+    asked.draining = draining;
+    for (unsigned k = 0; k < 3 * LENGTHS * LENGTHS; k++) {
+        unsigned right = k % 3, a = k / 3 % LENGTHS, b = k / 3 / LENGTHS;
         random_faults(n, 200, faults);
         random_faults(n, 200, draining);
-        label.labels_len = length_number(k % LENGTHS, nodes);
-        label.faults_len = length_number(k / LENGTHS % LENGTHS, bytes);
-        label.draining_len = length_number(k / LENGTHS / LENGTHS, bytes);
-        check_label(label);
+        asked.faults_len = right == 0 ? bytes : length_number(a, bytes);
+        asked.draining_len =
+            right == 1 ? bytes : length_number(right == 0 ? a : b, bytes);
+        asked.labels_len = right == 2 ? nodes : length_number(b, nodes);
+        check_label(asked);
     }
 }
 

@@ -61,13 +61,14 @@ static size_t any_length(size_t exact)
 /* Some bytes that are no label: none, one at a place near c, or one anywhere. */
 static void damage_labels(uint32_t n, uint32_t c)
 {
+    static const uint8_t own[] = {HCUBE_FAULTY, HCUBE_DRAINING, 255};
     uint32_t nodes = 1u << n, k = random_below(nodes);
     if (random_below(4) == 0)
         labels[(c ^ 1u << random_below(n)) & (nodes - 1)] = LAST_LABEL + 1;
     if (random_below(8) == 0)
         labels[k] = (uint8_t)(LAST_LABEL + 1 + random_below(255 - LAST_LABEL));
     if (random_below(8) == 0)
-        labels[c & (nodes - 1)] = (uint8_t[]){3, 4, 255}[random_below(3)];
+        labels[c & (nodes - 1)] = own[random_below(COUNT(own))];
 }
 
 /* A bit of the first byte more, which is none for a node where n is 1 or 2. */
