@@ -35,6 +35,11 @@ static size_t table_bytes(uint32_t n)
     return n <= 3 ? 1 : ((size_t)1 << n) / 8;
 }
 
+int in_table(const uint8_t *table, uint32_t k)
+{
+    return table[k / 8] >> (k % 8) & 1;
+}
+
 void random_faults(uint32_t n, unsigned per_mille, uint8_t *faults)
 {
     memset(faults, 0, table_bytes(n));
@@ -90,13 +95,13 @@ size_t put_notice(uint32_t n, const uint8_t *faults, uint8_t *bytes,
     uint32_t count = 0, due = 0;
     size_t at;
     for (uint32_t k = 0; k < 1u << n; k++)
-        count += faults[k / 8] >> (k % 8) & 1;
+        count += (uint32_t)in_table(faults, k);
     *places++ = 0;
     at = put_number(n, bytes);
     *places++ = at;
     at += put_number(count, bytes + at);
     for (uint32_t k = 0; k < 1u << n; k++)
-        if (faults[k / 8] >> (k % 8) & 1) {
+        if (in_table(faults, k)) {
             *places++ = at;
             at += put_number(k - due, bytes + at);
             due = k + 1;

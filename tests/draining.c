@@ -22,14 +22,14 @@ static unsigned count_near(uint32_t n, uint32_t k, const uint8_t *bytes,
     return count;
 }
 
-/* Document 01's labels of a fault table, as it has them. A mark is 2 and is put in
- * place: that makes the same labels, and says nothing of exchanges. */
+/* Document 01's labels of a fault table; it knows no draining node. A mark is 2 and
+ * is put in place: that makes the same labels, and says nothing of exchanges. */
 static void older_labels(uint32_t n, uint32_t rule, const uint8_t *table,
                          uint8_t *older)
 {
     int something_new;
     for (uint32_t k = 0; k < 1u << n; k++)
-        older[k] = table[k / 8] >> (k % 8) & 1 ? 3 : 0;
+        older[k] = in_table(table, k) ? 3 : 0;
     do {
         something_new = 0;
         for (uint32_t k = 0; k < 1u << n; k++)
@@ -51,9 +51,9 @@ static void counts_as_faulty(uint32_t n, uint32_t rule)
     uint32_t answer = label_cabinet(n, rule);
     memcpy(got, labels, (size_t)1 << n);
     for (uint32_t k = 0; k < 1u << n; k++)
-        want[k] = faults[k / 8] >> (k % 8) & 1     ? HCUBE_FAULTY
-                  : draining[k / 8] >> (k % 8) & 1 ? HCUBE_DRAINING
-                                                   : HCUBE_SAFE;
+        want[k] = in_table(faults, k)     ? HCUBE_FAULTY
+                  : in_table(draining, k) ? HCUBE_DRAINING
+                                          : HCUBE_SAFE;
     for (size_t k = 0; k < HCUBE_FAULT_BYTES(n); k++) {
         faults[k] |= draining[k];
         draining[k] = 0;

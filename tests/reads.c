@@ -21,11 +21,6 @@ static uint8_t faults[512], draining[512];
 
 static uint8_t out[4096], marked[4096], next_marked[4096];
 
-static int has_bit(const uint8_t *table, uint32_t x)
-{
-    return table[x / 8] >> (x % 8) & 1;
-}
-
 /* The first so many neighbours of x settle that it meets the rule. */
 static int settled(uint32_t x, uint32_t so_many)
 {
@@ -134,7 +129,7 @@ static void expect_pass(void)
 /* The last pass tells the ordinarily unsafe nodes and the draining ones. */
 static int is_told(uint32_t x)
 {
-    return out[x] ? !has_bit(faults, x) : marked[x] && first_safe(x) < n;
+    return out[x] ? !in_table(faults, x) : marked[x] && first_safe(x) < n;
 }
 
 /* It reads each node's own label, and of an unsafe one the neighbours up to the
@@ -169,7 +164,7 @@ static void expect_labelling(void)
     exchanges = 0;
     tests = reads = defined = reads_before = 0;
     for (uint32_t x = 0; x < HCUBE_NODES(n); x++)
-        out[x] = has_bit(faults, x) || has_bit(draining, x);
+        out[x] = in_table(faults, x) || in_table(draining, x);
     memset(marked, 0, sizeof marked);
     watch_begin();
     hcube_label(n, rule, faults, HCUBE_FAULT_BYTES(n), draining,
