@@ -21,7 +21,8 @@
 
 static uint32_t n, rule;
 static size_t nodes, fault_bytes;
-static uint8_t faults[512], labels[4096], scratch[4096], row[34];
+static uint8_t faults[512], draining[512];
+static uint8_t labels[4096], scratch[4096], row[34];
 static uint32_t from[PAIRS], to[PAIRS];
 static unsigned repetitions, above, rows;
 static double highest;
@@ -35,9 +36,14 @@ static uint32_t label_once(int side)
 {
     switch (side) {
     case ARCHIVE:
-        return hcube_label(n, rule, faults, fault_bytes, scratch, nodes);
-    case GCC: return gcc_label(n, rule, faults, fault_bytes, scratch, nodes);
-    default: return clang_label(n, rule, faults, fault_bytes, scratch, nodes);
+        return hcube_label(n, rule, faults, fault_bytes, draining, fault_bytes,
+                           scratch, nodes);
+    case GCC:
+        return gcc_label(n, rule, faults, fault_bytes, draining, fault_bytes,
+                         scratch, nodes);
+    default:
+        return clang_label(n, rule, faults, fault_bytes, draining, fault_bytes,
+                           scratch, nodes);
     }
 }
 
@@ -124,20 +130,22 @@ static void set_dimension(uint32_t dimension)
     nodes = HCUBE_NODES(n);
     fault_bytes = HCUBE_FAULT_BYTES(n);
     memset(faults, 0, sizeof faults);
+    memset(draining, 0, sizeof draining);
 }
 
-static void add_fault(uint32_t k)
+static void add_node(uint8_t *table, uint32_t k)
 {
-    faults[k / 8] |= (uint8_t)(1u << (k % 8));
+    table[k / 8] |= (uint8_t)(1u << (k % 8));
 }
 
-static void add_faults(unsigned count)
+/* Random nodes that are in neither table yet. */
+static void add_nodes(uint8_t *table, unsigned count)
 {
     while (count) {
         uint32_t k = random_below((uint32_t)nodes);
-        if (faults[k / 8] >> (k % 8) & 1)
+        if ((faults[k / 8] | draining[k / 8]) >> (k % 8) & 1)
             continue;
-        add_fault(k);
+        add_node(table, k);
         count--;
     }
 }
@@ -147,7 +155,19 @@ static uint32_t working_node(void)
     uint32_t k;
     do
         k = random_below((uint32_t)nodes);
-    while (labels[k] == HCUBE_FAULTY);
+    while (labels[k] >= HCUBE_FAULTY);
+    return k;
+}
+
+/* If there are draining nodes, every second pair is for one of them. */
+static uint32_t destination(unsigned pair)
+{
+    uint32_t k;
+    if (pair % 2 == 0 || !memchr(labels, HCUBE_DRAINING, nodes))
+        return working_node();
+    do
+        k = random_below((uint32_t)nodes);
+    while (labels[k] != HCUBE_DRAINING);
     return k;
 }
 
@@ -163,10 +183,11 @@ static void expect_alike(uint32_t (*question)(int), const char *name)
 
 static void prepare(void)
 {
-    clang_label(n, rule, faults, fault_bytes, labels, nodes);
+    clang_label(n, rule, faults, fault_bytes, draining, fault_bytes, labels,
+                nodes);
     for (unsigned k = 0; k < PAIRS; k++) {
         from[k] = working_node();
-        to[k] = working_node();
+        to[k] = destination(k);
     }
     expect_alike(label_once, "label");
     expect_alike(hop_all, "hop");
@@ -185,22 +206,49 @@ static void print_row(const char *name)
     fflush(stdout);
 }
 
-static void print_table(void)
+static void set_worst(void)
 {
-    static const unsigned counts[] = {0, 12, 41, 410};
-    char name[32];
-    for (unsigned k = 0; k < 4; k++) {
-        set_dimension(12);
-        add_faults(counts[k]);
-        snprintf(name, sizeof name, "%u faults", counts[k]);
-        print_row(name);
-    }
     set_dimension(12);
     if (rule == HCUBE_RULE_CHIU_WU)
         memcpy(faults, worst_table, sizeof worst_table);
     else
         for (unsigned k = 0; k < COUNT(worst_by_2); k++)
-            add_fault(worst_by_2[k]);
+            add_node(faults, worst_by_2[k]);
+}
+
+static void print_random(unsigned faulty, unsigned drained)
+{
+    char name[32];
+    set_dimension(12);
+    add_nodes(faults, faulty);
+    add_nodes(draining, drained);
+    if (drained)
+        snprintf(name, sizeof name, "%u and %u", faulty, drained);
+    else
+        snprintf(name, sizeof name, "%u faults", faulty);
+    print_row(name);
+}
+
+static void print_table(void)
+{
+    static const unsigned counts[] = {0, 12, 41, 410};
+    for (unsigned k = 0; k < COUNT(counts); k++)
+        print_random(counts[k], 0);
+    set_worst();
+    print_row("worst");
+}
+
+/* Half of the nodes that do not work are draining. */
+static void print_draining(void)
+{
+    static const unsigned counts[] = {6, 20, 205};
+    for (unsigned k = 0; k < COUNT(counts); k++)
+        print_random(counts[k], counts[k]);
+    set_worst();
+    for (size_t k = 0; k < fault_bytes; k++) {
+        draining[k] = faults[k] & 0x55;
+        faults[k] &= 0xaa;
+    }
     print_row("worst");
 }
 
@@ -208,7 +256,7 @@ static void print_scaling(void)
 {
     for (uint32_t dimension = 4; dimension <= 12; dimension += 2) {
         set_dimension(dimension);
-        add_faults(1u << dimension >> 4);
+        add_nodes(faults, 1u << dimension >> 4);
         print_row("1/16 faulty");
     }
 }
@@ -228,6 +276,9 @@ int main(int count, char **words)
     rule = HCUBE_RULE_CHIU_WU;
     printf("\nscaling\n%s", head);
     print_scaling();
+    printf("\nfaulty and draining nodes, every second pair for a draining one\n%s",
+           head);
+    print_draining();
     printf("\nhighest ratio %.2f; above 1.0: %u of %u\n", highest, above, 3 * rows);
     return 0;
 }

@@ -10,7 +10,7 @@
 #define JOIN(a, b) JOIN2(a, b)
 #define NAME(name) JOIN(PREFIX, name)
 
-enum { SAFE, ORDINARY, STRONG, FAULTY };
+enum { SAFE, ORDINARY, STRONG, FAULTY, DRAINING };
 enum { MARKED = STRONG, FRESH = 128 }; /* while the exchanges go on */
 enum { DELIVER, HOP, HALTED };
 
@@ -61,20 +61,41 @@ static int has_safe_neighbour(uint32_t n, uint32_t k, const uint8_t *labels)
     return 0;
 }
 
+/* The table before the first exchange. A draining node counts as faulty until
+ * the exchanges are over. */
+static void start(const uint8_t *faults, const uint8_t *draining,
+                  uint8_t *labels, size_t nodes)
+{
+    for (size_t k = 0; k < nodes; k++)
+        labels[k] = (faults[k / 8] | draining[k / 8]) >> (k % 8) & 1 ? FAULTY
+                                                                     : SAFE;
+}
+
+/* Tells the draining nodes that are not faulty from those that are. */
+static void put_draining(const uint8_t *faults, const uint8_t *draining,
+                         size_t bytes, uint8_t *labels)
+{
+    for (size_t k = 0; k < bytes; k++)
+        for (unsigned alone = draining[k] & ~faults[k]; alone;
+             alone &= alone - 1)
+            labels[8 * k + (size_t)__builtin_ctz(alone)] = DRAINING;
+}
+
 uint32_t NAME(label)(uint32_t n, uint32_t rule, const uint8_t *faults,
-                     size_t faults_len, uint8_t *labels, size_t labels_len)
+                     size_t faults_len, const uint8_t *draining,
+                     size_t draining_len, uint8_t *labels, size_t labels_len)
 {
     uint32_t exchanges = 1;
     if (n < 1 || n > 12)
         return refused(1);
     if (rule < 2 || rule > 3)
         return refused(18);
-    if (faults_len != ((1u << n) + 7) / 8 || labels_len != 1u << n)
+    if (faults_len != ((1u << n) + 7) / 8 || draining_len != faults_len ||
+        labels_len != 1u << n)
         return refused(2);
-    if (n < 3 && faults[0] >> (1u << n))
+    if (n < 3 && (faults[0] | draining[0]) >> (1u << n))
         return refused(3);
-    for (size_t k = 0; k < labels_len; k++)
-        labels[k] = faults[k / 8] >> (k % 8) & 1 ? FAULTY : SAFE;
+    start(faults, draining, labels, labels_len);
     while (sweep(n, rule, labels, labels_len)) {
         settle(labels, labels_len);
         exchanges++;
@@ -82,6 +103,7 @@ uint32_t NAME(label)(uint32_t n, uint32_t rule, const uint8_t *faults,
     for (uint32_t k = 0; k < labels_len; k++)
         if (labels[k] == MARKED && has_safe_neighbour(n, k, labels))
             labels[k] = ORDINARY;
+    put_draining(faults, draining, draining_len, labels);
     return exchanges;
 }
 
@@ -92,14 +114,25 @@ struct around {
     uint8_t neighbour[12];
 };
 
-/* Reads the n + 1 labels; whether all are 3 at most. */
+static int all_labels(const uint8_t *labels, size_t count)
+{
+    uint8_t largest = 0;
+    for (size_t k = 0; k < count; k++)
+        if (labels[k] > largest)
+            largest = labels[k];
+    return largest <= DRAINING;
+}
+
+/* Reads the n + 1 labels; whether each is one. Where none is draining they show it
+ * at once, joined; otherwise they are looked at one by one. */
 static int gather(uint32_t n, uint32_t c, const uint8_t *labels,
                   struct around *around)
 {
     uint8_t bits = around->own = labels[c];
     for (uint32_t i = 0, step = 1; i < n; i++, step += step)
         bits |= around->neighbour[i] = labels[c ^ step];
-    return bits <= 3;
+    return bits <= DRAINING ||
+           (around->own <= DRAINING && all_labels(around->neighbour, n));
 }
 
 /* First dimension of the set whose neighbour has this label at most; else n. */
@@ -119,6 +152,11 @@ static uint32_t chosen(uint32_t n, uint32_t forward,
                        const struct around *around)
 {
     uint32_t spare = forward ^ ((1u << n) - 1), i;
+    if (!(forward & (forward - 1))) { /* then the neighbour across it is d */
+        i = (uint32_t)__builtin_ctz(forward);
+        if (around->neighbour[i] == DRAINING)
+            return i;
+    }
     if ((i = scan(n, forward, SAFE, around)) < n)
         return i;
     if ((i = scan(n, forward, ORDINARY, around)) < n)
@@ -144,7 +182,7 @@ uint32_t NAME(hop)(uint32_t n, uint32_t c, uint32_t d, const uint8_t *labels,
         return refused(5);
     if (!gather(n, c, labels, &around))
         return refused(4);
-    if (around.own == FAULTY)
+    if (around.own == FAULTY || (around.own == DRAINING && c != d))
         return refused(6);
     if (c == d)
         return DELIVER << 16;
@@ -153,14 +191,6 @@ uint32_t NAME(hop)(uint32_t n, uint32_t c, uint32_t d, const uint8_t *labels,
 }
 
 /* ---- walk */
-
-static int all_labels(const uint8_t *labels, size_t nodes)
-{
-    uint8_t bits = 0;
-    for (size_t k = 0; k < nodes; k++)
-        bits |= labels[k];
-    return bits <= 3;
-}
 
 uint32_t NAME(walk)(uint32_t n, uint32_t s, uint32_t d, const uint8_t *labels,
                     size_t labels_len, uint8_t *row, size_t row_len)
@@ -176,7 +206,7 @@ uint32_t NAME(walk)(uint32_t n, uint32_t s, uint32_t d, const uint8_t *labels,
         return refused(5);
     if (!all_labels(labels, labels_len))
         return refused(4);
-    if (labels[s] == FAULTY)
+    if (labels[s] >= FAULTY)
         return refused(6);
     if (labels[d] == FAULTY)
         return refused(7);

@@ -10,7 +10,8 @@
 
 #define DECLARE(prefix)                                                        \
     uint32_t prefix##label(uint32_t n, uint32_t rule, const uint8_t *faults,   \
-                           size_t faults_len, uint8_t *labels,                 \
+                           size_t faults_len, const uint8_t *draining,         \
+                           size_t draining_len, uint8_t *labels,               \
                            size_t labels_len);                                 \
     uint32_t prefix##hop(uint32_t n, uint32_t c, uint32_t d,                   \
                          const uint8_t *labels, size_t labels_len);            \

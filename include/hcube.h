@@ -6,7 +6,9 @@
  *
  * Fault table: one bit a node, node k in byte k / 8 at bit k % 8 (bit 0 is the
  * lowest), HCUBE_FAULT_BYTES(n) bytes; for n = 1 and 2 the unused high bits
- * are zero. Label table: one byte a node, HCUBE_NODES(n) bytes.
+ * are zero. Draining table: the same, for nodes under withdrawal, which still
+ * take what is addressed to them and forward nothing. A node in both is faulty;
+ * one in neither works. Label table: one byte a node, HCUBE_NODES(n) bytes.
  *
  * What holds for every call:
  * - A pointer is not null and its bytes may be read (where it is not const,
@@ -35,7 +37,7 @@
 extern "C" {
 #endif
 
-/* Sizes in bytes: of a label table, a fault table, a walk's row. */
+/* Sizes in bytes: of a label table, a fault or draining table, a walk's row. */
 #define HCUBE_NODES(n) ((size_t)1 << (n))
 #define HCUBE_FAULT_BYTES(n) ((HCUBE_NODES(n) + 7) / 8)
 #define HCUBE_ROW_BYTES 34
@@ -45,9 +47,10 @@ extern "C" {
 #define HCUBE_ORDINARY 1 /* ordinarily unsafe: some neighbour is safe */
 #define HCUBE_STRONG 2   /* strongly unsafe: no neighbour is safe */
 #define HCUBE_FAULTY 3
+#define HCUBE_DRAINING 4 /* forwards nothing, but may be a destination */
 
-/* Rules by which nodes are labelled. The number says how many faulty or unsafe
- * neighbours make a node unsafe. */
+/* Rules by which nodes are labelled. The number says how many neighbours that
+ * do not work or are unsafe make a node unsafe. */
 #define HCUBE_RULE_LEE_HAYES 2 /* the older one */
 #define HCUBE_RULE_CHIU_WU 3
 
@@ -55,10 +58,11 @@ extern "C" {
 #define HCUBE_ACCEPTED 0
 #define HCUBE_BAD_DIMENSION 1    /* dimension not 1 to 12 */
 #define HCUBE_BAD_LENGTH 2       /* a lent buffer is not exactly its length */
-#define HCUBE_UNUSED_BIT 3       /* an unused bit is set in the fault table */
-#define HCUBE_BAD_LABEL 4        /* a label byte above 3 */
+#define HCUBE_UNUSED_BIT 3       /* unused bit set: fault or draining table */
+#define HCUBE_BAD_LABEL 4        /* a label byte above 4 */
 #define HCUBE_BAD_NODE 5         /* a node number is 2^n or more */
-#define HCUBE_FAULTY_SOURCE 6    /* source or current node has label 3 */
+#define HCUBE_FAULTY_SOURCE 6    /* source or current node has label 3 or 4; a
+                                  * hop at a draining destination delivers */
 #define HCUBE_FAULTY_TARGET 7    /* the walk's destination has label 3 */
 #define HCUBE_TOO_MANY_HOPS 8    /* the walk needs more than n + 4 hops */
 #define HCUBE_CUT_SHORT 9        /* bytes end before a number is complete */
@@ -88,14 +92,21 @@ extern "C" {
 #define HCUBE_NOTICE_COUNT(answer) (((answer) >> 32) & 0xffff)
 
 /*
- * Labels every node of the cube whose faulty nodes `faults` gives.
+ * Labels every node of the cube whose faulty nodes `faults` gives and whose
+ * draining nodes `draining` gives. A node in `faults` gets label 3, in both
+ * tables or not; a node in `draining` alone gets label 4. The others work.
  *
  * A working node is unsafe if it has two or more faulty neighbours, or `rule`
- * or more that are faulty or unsafe; this is applied to all nodes at once, in
- * one exchange of their states after the other, until one brings nothing new.
- * An unsafe node is strongly unsafe if none of its neighbours is safe, otherwise
- * ordinarily unsafe. Hop and walk go by the labels, whichever rule made them;
- * all cards of a cabinet are labelled by one rule.
+ * or more that are faulty or unsafe, where a draining neighbour counts as
+ * faulty; this is applied to all nodes at once, in one exchange of their states
+ * after the other, until one brings nothing new. An unsafe node is strongly
+ * unsafe if none of its neighbours is safe, otherwise ordinarily unsafe. Hop
+ * and walk go by the labels, whichever rule made them; all cards of a cabinet
+ * are labelled by one rule.
+ *
+ * So the number of exchanges and the labels of working nodes are the same as if
+ * the draining nodes were faulty. Where no bit of `draining` is set, answer and
+ * labels are those of the faults alone, and no label is 4.
  *
  * From HCUBE_RULE_LEE_HAYES to HCUBE_RULE_CHIU_WU a node that is safe stays
  * safe, no label grows, and a walk that was delivered still is. With
@@ -105,14 +116,17 @@ extern "C" {
  * Refusals, in order:
  *   1   n is not 1 to 12
  *   18  rule is not HCUBE_RULE_LEE_HAYES or HCUBE_RULE_CHIU_WU
- *   2   faults_len is not HCUBE_FAULT_BYTES(n), or labels_len not HCUBE_NODES(n)
- *   3   n is 1 or 2 and a bit for a node of 2^n or more is set in `faults`
+ *   2   faults_len or draining_len is not HCUBE_FAULT_BYTES(n), or labels_len
+ *       not HCUBE_NODES(n)
+ *   3   n is 1 or 2 and a bit for a node of 2^n or more is set in `faults` or
+ *       in `draining`
  * Accepted: kind 0, value the number of exchanges, the last of which brought
  * nothing new: 1 at least. All 2^n bytes of `labels` are written; what they held
  * before does not matter.
  */
 uint32_t hcube_label(uint32_t n, uint32_t rule,
                      const uint8_t *faults, size_t faults_len,
+                     const uint8_t *draining, size_t draining_len,
                      uint8_t *labels, size_t labels_len);
 
 /*
@@ -123,14 +137,15 @@ uint32_t hcube_label(uint32_t n, uint32_t rule,
  *   1  n is not 1 to 12
  *   2  labels_len is not HCUBE_NODES(n)
  *   5  c or d is 2^n or more
- *   4  the label of c or of a neighbour of c is above 3
- *   6  the label of c is 3
+ *   4  the label of c or of a neighbour of c is above 4
+ *   6  the label of c is 3, or it is 4 and c is not d
  * Accepted: kind HCUBE_DELIVER (c is d) with value 0; HCUBE_HOP with the
  * dimension to cross as value; or HCUBE_HALTED with value 0.
  *
  * With l the number of bits in which c and d differ, the dimension is the first
  * hit of these scans, each from dimension 0 up (forward: c and d differ in it;
- * spare: they do not):
+ * spare: they do not; a draining neighbour counts as faulty from scan 1 on):
+ *   0  c and d differ in one bit alone and d is draining: the hop to d
  *   1  forward, the neighbour is safe
  *   2  forward, the neighbour is safe or ordinarily unsafe
  *   3  forward, the neighbour is not faulty, and c is strongly unsafe or l <= 2
@@ -142,14 +157,15 @@ uint32_t hcube_hop(uint32_t n, uint32_t c, uint32_t d,
 
 /*
  * Walks from node s to node d, one hcube_hop after the other, over any table
- * of label bytes 0 to 3.
+ * of label bytes 0 to 4. d may be draining. Whatever the table, every node of
+ * the walk before its last works.
  *
  * Refusals, in order:
  *   1  n is not 1 to 12
  *   2  labels_len is not HCUBE_NODES(n), or row_len not HCUBE_ROW_BYTES
  *   5  s or d is 2^n or more
- *   4  any byte of `labels` is above 3
- *   6  the label of s is 3
+ *   4  any byte of `labels` is above 4
+ *   6  the label of s is 3 or 4, also where s is d
  *   7  the label of d is 3
  *   8  after n + 4 hops the decision is another hop
  * Accepted: kind HCUBE_WALK_DELIVERED or HCUBE_WALK_HALTED, value the number

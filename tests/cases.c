@@ -30,9 +30,19 @@ void random_bytes(uint8_t *bytes, size_t len)
         bytes[k] = (uint8_t)random_bits();
 }
 
+static size_t table_bytes(uint32_t n)
+{
+    return n <= 3 ? 1 : ((size_t)1 << n) / 8;
+}
+
+int in_table(const uint8_t *table, uint32_t k)
+{
+    return table[k / 8] >> (k % 8) & 1;
+}
+
 void random_faults(uint32_t n, unsigned per_mille, uint8_t *faults)
 {
-    memset(faults, 0, n <= 3 ? 1 : ((size_t)1 << n) / 8);
+    memset(faults, 0, table_bytes(n));
     for (uint32_t k = 0; k < 1u << n; k++)
         if (random_below(1000) < per_mille)
             faults[k / 8] |= (uint8_t)(1u << (k % 8));
@@ -47,6 +57,19 @@ unsigned random_density(uint32_t n)
     case 2: return random_below(1001);
     case 3: return 1000;
     default: return 20 + random_below(2000 / n);
+    }
+}
+
+void random_draining(uint32_t n, uint8_t *faults, uint8_t *draining)
+{
+    switch (random_below(4)) {
+    case 0: memset(draining, 0, table_bytes(n)); return;
+    case 1: random_faults(n, 1000 / (1u << n) + 1, draining); return;
+    case 2: random_faults(n, random_density(n), draining); return;
+    }
+    for (size_t k = 0; k < table_bytes(n); k++) {
+        draining[k] = (uint8_t)(faults[k] & random_bits());
+        faults[k] &= (uint8_t)(~draining[k] | random_bits());
     }
 }
 
@@ -72,13 +95,13 @@ size_t put_notice(uint32_t n, const uint8_t *faults, uint8_t *bytes,
     uint32_t count = 0, due = 0;
     size_t at;
     for (uint32_t k = 0; k < 1u << n; k++)
-        count += faults[k / 8] >> (k % 8) & 1;
+        count += (uint32_t)in_table(faults, k);
     *places++ = 0;
     at = put_number(n, bytes);
     *places++ = at;
     at += put_number(count, bytes + at);
     for (uint32_t k = 0; k < 1u << n; k++)
-        if (faults[k / 8] >> (k % 8) & 1) {
+        if (in_table(faults, k)) {
             *places++ = at;
             at += put_number(k - due, bytes + at);
             due = k + 1;

@@ -1,6 +1,6 @@
 /*
  * cases.h: what the tests' inputs are made of: random numbers with a fixed
- * seed, fault tables, label tables, notices.
+ * seed, fault tables, draining tables, label tables, notices.
  */
 #ifndef CASES_H
 #define CASES_H
@@ -18,8 +18,13 @@ void random_bytes(uint8_t *bytes, size_t len);
 /* A random number below `bound`, which is not 0. */
 uint32_t random_below(uint32_t bound);
 
+/* Whether the node is in the fault or draining table. */
+int in_table(const uint8_t *table, uint32_t k);
 /* A good fault table in which each node is faulty with chance per_mille/1000. */
 void random_faults(uint32_t n, unsigned per_mille, uint8_t *faults);
+/* A draining table beside it: empty, one or two nodes, any, or half of the faulty
+ * ones, of which half are taken out of the fault table. */
+void random_draining(uint32_t n, uint8_t *faults, uint8_t *draining);
 /* A chance per mille: none, few, some, many or all in turn. */
 unsigned random_density(uint32_t n);
 /* Label bytes, each one a random byte of 0 to `most`. */

@@ -71,7 +71,7 @@ void expect(int holds, const char *why, ...)
 
 /* ---- library against reference */
 
-static struct lent read_only, writable;
+static struct lent read_only, draining, writable;
 static uint8_t wanted[MOST_LENT];
 
 /* One more of this number, if there is room for it; if not, the case fails. */
@@ -107,16 +107,20 @@ uint32_t check_label(struct label_question asked)
     uint32_t answer, want;
     int same;
     lend(&read_only, asked.faults, asked.faults_len);
+    lend(&draining, asked.draining, asked.draining_len);
     lend(&writable, asked.labels, asked.labels_len);
     lent.faults = read_only.bytes;
+    lent.draining = draining.bytes;
     lent.labels = writable.bytes;
     memcpy(wanted, asked.labels, asked.labels_len);
-    want = ref_label(asked.n, asked.rule, asked.faults, asked.faults_len, wanted,
+    want = ref_label(asked.n, asked.rule, asked.faults, asked.faults_len,
+                     asked.draining, asked.draining_len, wanted,
                      asked.labels_len);
     answer = ask_label(lent);
     expect(answer == want, "label n=%u by %u: %08x, not %08x", asked.n,
            asked.rule, answer, want);
-    same = lent_is(&read_only, asked.faults) && lent_is(&writable, wanted);
+    same = lent_is(&read_only, asked.faults) &&
+           lent_is(&draining, asked.draining) && lent_is(&writable, wanted);
     expect(same, "label n=%u by %u (%08x): wrong bytes", asked.n, asked.rule,
            want);
     count_labels(asked, want, wanted);
@@ -132,6 +136,7 @@ static void count_hop(struct hop_question asked, uint32_t answer)
         return;
     SEEN(cube[HOP], asked.n);
     SEEN(hop_kind, HCUBE_KIND(answer));
+    SEEN(hop_at, asked.labels[asked.c]);
     SEEN(scan, ref_scan(asked.n, asked.c, asked.d, asked.labels, &dimension));
     if (HCUBE_KIND(answer) == HCUBE_HOP)
         SEEN(dimension, dimension);
@@ -153,19 +158,39 @@ uint32_t check_hop(struct hop_question asked)
     return answer;
 }
 
-static void count_walk(uint32_t n, uint32_t answer)
+static void count_walk(struct walk_question asked, uint32_t answer)
 {
     uint32_t hops = HCUBE_VALUE(answer);
     SEEN(refusal[WALK], HCUBE_REFUSAL(answer));
     if (HCUBE_REFUSAL(answer))
         return;
-    SEEN(cube[WALK], n);
+    SEEN(cube[WALK], asked.n);
     SEEN(walk_kind, HCUBE_KIND(answer));
     if (HCUBE_KIND(answer) != HCUBE_WALK_DELIVERED)
         return;
     SEEN(walk_hops, hops);
-    if (hops == n + 4)
-        SEEN(longest, n);
+    if (asked.labels[asked.d] == HCUBE_DRAINING)
+        SEEN(drained_hops, hops);
+    if (hops == asked.n + 4)
+        SEEN(longest, asked.n);
+}
+
+/* Whatever the labels, and whatever the reference says: a walk goes from neighbour
+ * to neighbour, and no node before its last is faulty or draining. */
+static void check_way(struct walk_question asked, uint32_t answer)
+{
+    uint32_t hops = HCUBE_VALUE(answer), here = asked.s;
+    int passes = 1;
+    if (HCUBE_REFUSAL(answer) || hops >= ROW_PLACES)
+        return;
+    for (uint32_t k = 0; k <= hops; k++) {
+        uint32_t next = row_place(asked.row, k);
+        passes &= next < 1u << asked.n &&
+                  ref_distance(asked.n, here, next) == (k > 0) &&
+                  (k == hops || asked.labels[next] < HCUBE_FAULTY);
+        here = next;
+    }
+    expect(passes, "walk n=%u %u to %u: no way", asked.n, asked.s, asked.d);
 }
 
 uint32_t check_walk(struct walk_question asked)
@@ -186,8 +211,9 @@ uint32_t check_walk(struct walk_question asked)
     same = lent_is(&read_only, asked.labels) && lent_is(&writable, wanted);
     expect(same, "walk n=%u %u to %u (%08x): wrong bytes", asked.n, asked.s,
            asked.d, want);
-    count_walk(asked.n, want);
+    count_walk(asked, want);
     memcpy(asked.row, writable.bytes, asked.row_len);
+    check_way(asked, answer);
     return answer;
 }
 

@@ -18,9 +18,10 @@ int failed_groups(void);
 void expect(int holds, const char *why, ...);
 
 /* Each asks library and reference on guarded copies of the buffers and expects
- * the same answer, the same bytes in each buffer, and every other byte kept.
- * The caller's own writable buffer then has what the library left in it. The
- * library's answer is returned. */
+ * the same answer, the same bytes in each buffer, and every other byte kept; of a
+ * walk also that it goes from neighbour to neighbour and that each node before
+ * its last works. The caller's own writable buffer then has what the library left
+ * in it. The library's answer is returned. */
 uint32_t check_label(struct label_question asked);
 uint32_t check_hop(struct hop_question asked);
 uint32_t check_walk(struct walk_question asked);
@@ -35,10 +36,12 @@ struct seen {
     unsigned long refusal[QUESTIONS][MOST_REFUSAL + 1];
     unsigned long cube[QUESTIONS][13]; /* accepted calls, by n */
     unsigned long hop_kind[3];         /* deliver, hop, halted */
+    unsigned long hop_at[MOST_LABEL + 1]; /* accepted hops, by c's label */
     unsigned long dimension[12];       /* that a hop crossed */
-    unsigned long scan[6];             /* that decided a hop; 0: none did */
+    unsigned long scan[NO_SCAN + 1];   /* that decided a hop; see ref_scan */
     unsigned long walk_kind[2];        /* delivered, halted */
     unsigned long walk_hops[17];       /* of delivered walks */
+    unsigned long drained_hops[17];    /* of those to a draining node */
     unsigned long longest[13];         /* delivered in n + 4 hops, by n */
     unsigned long rule[4];             /* by which labels were made */
     unsigned long exchanges[11];       /* 10: ten or more */

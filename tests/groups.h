@@ -3,17 +3,21 @@
 #define GROUPS_H
 
 void check_worked_numbers(void);  /* worked.c */
-void check_small_cubes(void);     /* tables.c */
-void check_most_exchanges(void);
+void check_most_exchanges(void);  /* exchanges.c */
 void check_one_exchange(void);
+void check_small_cubes(void);     /* tables.c */
 void check_moved(void);
 void check_random_tables(void);
 void check_random_labels(void);
 void check_hop_reads(void);
 void check_label_buffer(void);
+void check_draining(void);        /* draining.c */
+void check_draining_ends(void);
+void check_bounds(void);          /* bounds.c */
 void check_long_walks(void);      /* long_walks.c */
+void check_lengths(void);         /* lengths.c */
 void check_damaged(void);         /* refusals.c */
-void check_lengths(void);
+void check_combinations(void);
 void check_plain_numbers(void);
 void check_orders(void);          /* orders.c */
 void check_notices(void);         /* notices.c */

@@ -46,7 +46,7 @@ HOLDS(table_bytes_12, HCUBE_NODES(12) == 4096 && HCUBE_FAULT_BYTES(12) == 512);
 HOLDS(rules, HCUBE_RULE_LEE_HAYES == 2 && HCUBE_RULE_CHIU_WU == 3 &&
                  HCUBE_BAD_RULE == 18);
 HOLDS(labels, HCUBE_SAFE == 0 && HCUBE_ORDINARY == 1 && HCUBE_STRONG == 2 &&
-                  HCUBE_FAULTY == 3);
+                  HCUBE_FAULTY == 3 && HCUBE_DRAINING == 4);
 HOLDS(kinds, HCUBE_DELIVER == 0 && HCUBE_HOP == 1 && HCUBE_HALTED == 2 &&
                  HCUBE_WALK_DELIVERED == 0 && HCUBE_WALK_HALTED == 1);
 HOLDS(refusals_1, HCUBE_ACCEPTED == 0 && HCUBE_BAD_DIMENSION == 1 &&
@@ -57,15 +57,16 @@ HOLDS(refusals_6, HCUBE_FAULTY_SOURCE == 6 && HCUBE_FAULTY_TARGET == 7 &&
 HOLDS(refusals_10, HCUBE_BAD_GROUP == 10 && HCUBE_BAD_COUNT == 11 &&
                        HCUBE_BAD_ADDRESS == 12);
 
-uint64_t use_all(const uint8_t *bytes, uint8_t *faults, uint8_t *labels,
-                 uint8_t *row);
+uint64_t use_all(const uint8_t *bytes, uint8_t *faults, const uint8_t *draining,
+                 uint8_t *labels, uint8_t *row);
 
-uint64_t use_all(const uint8_t *bytes, uint8_t *faults, uint8_t *labels,
-                 uint8_t *row)
+uint64_t use_all(const uint8_t *bytes, uint8_t *faults, const uint8_t *draining,
+                 uint8_t *labels, uint8_t *row)
 {
     uint64_t notice = hcube_read_notice(bytes, 12, faults, HCUBE_FAULT_BYTES(4));
     uint32_t n = (uint32_t)HCUBE_NOTICE_DIMENSION(notice);
     uint32_t all = hcube_label(n, HCUBE_RULE_CHIU_WU, faults,
+                               HCUBE_FAULT_BYTES(n), draining,
                                HCUBE_FAULT_BYTES(n), labels, HCUBE_NODES(n));
     all += hcube_hop(n, 0, 1, labels, HCUBE_NODES(n));
     all += hcube_walk(n, 0, 1, labels, HCUBE_NODES(n), row, HCUBE_ROW_BYTES);

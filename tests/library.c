@@ -52,10 +52,13 @@ static void check_coverage(void)
     end_group();
     begin_group("coverage of endings, scans and exchanges");
     CAME_UP("kind of hop", hop_kind, 0, 2);
-    CAME_UP("scan", scan, 0, 5);
+    CAME_UP("hop at a working node, label", hop_at, 0, 2);
+    CAME_UP("hop at a draining node, label", hop_at, 4, 4);
+    CAME_UP("scan", scan, 0, NO_SCAN);
     CAME_UP("dimension crossed", dimension, 0, 11);
     CAME_UP("kind of walk", walk_kind, 0, 1);
     CAME_UP("hops of a walk", walk_hops, 0, 16);
+    CAME_UP("hops of a walk to a draining node", drained_hops, 1, 16);
     CAME_UP("walk of n + 4 hops, n", longest, 4, 12);
     CAME_UP("rule", rule, 2, 3);
     CAME_UP("exchanges", exchanges, 1, 10);
@@ -72,6 +75,7 @@ int main(void)
     random_seed(20);
     check_worked_numbers();
     check_orders();
+    check_combinations();
     check_notice_orders();
     check_plain_numbers();
     check_lengths();
@@ -79,6 +83,9 @@ int main(void)
     check_most_exchanges();
     check_one_exchange();
     check_moved();
+    check_draining();
+    check_draining_ends();
+    check_bounds();
     check_random_tables();
     check_random_labels();
     check_long_walks();

@@ -22,7 +22,8 @@ static unsigned hops_to(uint32_t n, uint32_t s, uint32_t d)
     uint32_t dimension = 0;
     way[0] = s;
     while (way[hops] != d) {
-        if (hops == FAR || !ref_scan(n, way[hops], d, labels, &dimension))
+        if (hops == FAR ||
+            ref_scan(n, way[hops], d, labels, &dimension) == NO_SCAN)
             return 0;
         way[hops + 1] = way[hops] ^ 1u << dimension;
         hops++;
@@ -30,11 +31,19 @@ static unsigned hops_to(uint32_t n, uint32_t s, uint32_t d)
     return hops;
 }
 
+/* To d, which is safe, and by the same way where it is draining instead. */
 static void check_here(uint32_t n, uint32_t s, uint32_t d)
 {
-    uint8_t row[ROW_BYTES];
+    uint8_t row[ROW_BYTES], drained[ROW_BYTES];
+    uint32_t answer;
     memset(row, 0xee, sizeof row);
-    check_walk(fit_walk(n, s, d, labels, row));
+    memset(drained, 0xee, sizeof drained);
+    answer = check_walk(fit_walk(n, s, d, labels, row));
+    labels[d] = HCUBE_DRAINING;
+    expect(check_walk(fit_walk(n, s, d, labels, drained)) == answer &&
+               !memcmp(row, drained, sizeof row),
+           "n = %u: another walk %u to %u where it is draining", n, s, d);
+    labels[d] = HCUBE_SAFE;
 }
 
 /* Gives nodes beside the way other labels until it has the wanted number of

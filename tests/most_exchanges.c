@@ -5,7 +5,8 @@
  *   most_exchanges RULE N STEPS SEED hill climbing, dimension after dimension
  *
  * Prints rule, dimension, exchanges and the table in hex. The tables that it found
- * stand as literals in tests/tables.c and bench/worst.h.
+ * stand as literals in tests/exchanges.c and bench/worst.h. A draining node counts
+ * as a faulty one here, so that a draining table beside them adds nothing.
  *
  * A set of nodes is an array of 64-bit words, so that an exchange is a few word
  * operations for each dimension.

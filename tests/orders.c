@@ -15,12 +15,13 @@ struct order {
     unsigned first, second;
     uint32_t n, s, d;   /* s: the walk's source, or the hop's current node */
     int rule_more;      /* for labelling: beyond rule 3 */
-    uint8_t fault_byte; /* each byte of the fault table */
+    uint8_t fault_byte, draining_byte; /* each byte of the table */
     const char *labels; /* for hop and walk: a digit a byte, x for no label */
-    int faults_more, labels_more, row_more; /* bytes beyond what fits */
+    int faults_more, draining_more, labels_more, row_more; /* beyond what fits */
 };
 
-static uint8_t faults[MOST_LENT], labels[MOST_LENT], row[MOST_LENT];
+/* The longest fault and draining tables are those of n = 13, and a byte more. */
+static uint8_t faults[2048], draining[2048], labels[MOST_LENT], row[MOST_LENT];
 
 /* ---- labelling. 1 and 3 meet only where n is right once narrowed. */
 
@@ -29,19 +30,25 @@ static const struct order label_orders[] = {
     {.first = 1, .second = 18, .n = 13, .rule_more = -2},
     {.first = 1, .second = 18, .n = 260, .rule_more = -3},
     {.first = 1, .second = 2, .n = 0, .faults_more = 1},
+    {.first = 1, .second = 2, .n = 0, .draining_more = 1},
     {.first = 1, .second = 2, .n = 0, .labels_more = 1},
     {.first = 1, .second = 2, .n = 13, .faults_more = -1, .labels_more = 1},
+    {.first = 1, .second = 2, .n = 13, .draining_more = -1024},
     {.first = 1, .second = 2, .n = 13, .faults_more = -1024,
      .labels_more = -8192},
     {.first = 1, .second = 3, .n = 257, .fault_byte = 255},
     {.first = 1, .second = 3, .n = 258, .fault_byte = 255},
     {.first = 1, .second = 3, .n = 0, .fault_byte = 255},
+    {.first = 1, .second = 3, .n = 257, .draining_byte = 4},
+    {.first = 1, .second = 3, .n = 258, .draining_byte = 128},
     {.first = 18, .second = 2, .n = 4, .rule_more = 1, .faults_more = 1},
     {.first = 18, .second = 2, .n = 4, .rule_more = -2, .labels_more = -1},
     {.first = 18, .second = 2, .n = 1, .rule_more = 256, .faults_more = -1},
     {.first = 18, .second = 2, .n = 12, .rule_more = -3, .labels_more = 1},
+    {.first = 18, .second = 2, .n = 4, .rule_more = 1, .draining_more = -1},
     {.first = 18, .second = 3, .n = 1, .rule_more = 1, .fault_byte = 4},
     {.first = 18, .second = 3, .n = 2, .rule_more = -2, .fault_byte = 255},
+    {.first = 18, .second = 3, .n = 1, .rule_more = 1, .draining_byte = 4},
     {.first = 2, .second = 3, .n = 1, .fault_byte = 4, .labels_more = 1},
     {.first = 2, .second = 3, .n = 1, .fault_byte = 128, .labels_more = -1},
     {.first = 2, .second = 3, .n = 1, .fault_byte = 4, .faults_more = 1},
@@ -51,15 +58,23 @@ static const struct order label_orders[] = {
      .labels_more = -1},
     {.first = 2, .second = 3, .n = 2, .fault_byte = 255, .labels_more = -4},
     {.first = 2, .second = 3, .n = 1, .fault_byte = 255, .faults_more = -1},
+    {.first = 2, .second = 3, .n = 1, .fault_byte = 4, .draining_more = 1},
+    {.first = 2, .second = 3, .n = 2, .fault_byte = 16, .draining_more = -1},
+    {.first = 2, .second = 3, .n = 1, .draining_byte = 4, .faults_more = 1},
+    {.first = 2, .second = 3, .n = 2, .draining_byte = 16, .draining_more = 1},
+    {.first = 2, .second = 3, .n = 2, .draining_byte = 255, .labels_more = 1},
 };
 
 static uint32_t label_answer(const struct order *order)
 {
     struct label_question asked = fit_label(order->n & 255, faults, labels);
     memset(faults, order->fault_byte, sizeof faults);
+    memset(draining, order->draining_byte, sizeof draining);
     asked.n = order->n;
     asked.rule += (uint32_t)order->rule_more;
     asked.faults_len += (size_t)order->faults_more;
+    asked.draining = draining;
+    asked.draining_len += (size_t)order->draining_more;
     asked.labels_len += (size_t)order->labels_more;
     return check_label(asked);
 }
@@ -76,19 +91,24 @@ static const struct order hop_orders[] = {
     {.first = 1, .second = 4, .n = 0, .labels = "x"},
     {.first = 1, .second = 6, .n = 260, .d = 1, .labels = "3333333333333333"},
     {.first = 1, .second = 6, .n = 0, .labels = "3"},
+    {.first = 1, .second = 6, .n = 260, .d = 1, .labels = "4444444444444444"},
     {.first = 2, .second = 5, .n = 2, .s = 4, .labels = "00000"},
     {.first = 2, .second = 5, .n = 2, .d = 4, .labels = "000"},
     {.first = 2, .second = 4, .n = 2, .d = 1, .labels = "xxxxx"},
     {.first = 2, .second = 4, .n = 2, .d = 1, .labels = "xxx"},
     {.first = 2, .second = 6, .n = 2, .d = 1, .labels = "33333"},
     {.first = 2, .second = 6, .n = 2, .d = 1, .labels = "333"},
+    {.first = 2, .second = 6, .n = 2, .d = 1, .labels = "44444"},
     {.first = 5, .second = 4, .n = 2, .d = 4, .labels = "xxxx"},
     {.first = 5, .second = 4, .n = 2, .s = 4, .labels = "xxxx"},
     {.first = 5, .second = 6, .n = 2, .d = 4, .labels = "3000"},
     {.first = 5, .second = 6, .n = 2, .s = 4, .labels = "3333"},
+    {.first = 5, .second = 6, .n = 2, .d = 4, .labels = "4000"},
     {.first = 4, .second = 6, .n = 2, .d = 3, .labels = "3x00"},
     {.first = 4, .second = 6, .n = 2, .labels = "30x0"},
     {.first = 4, .second = 6, .n = 3, .s = 7, .labels = "00000x03"},
+    {.first = 4, .second = 6, .n = 2, .d = 3, .labels = "4x00"},
+    {.first = 4, .second = 6, .n = 3, .s = 7, .labels = "000x0004"},
 };
 
 /* Puts the digits into `labels`; how many there are. */
@@ -121,6 +141,7 @@ static const struct order walk_orders[] = {
     {.first = 1, .second = 5, .n = 260, .d = 16, .labels = "0000000000000000"},
     {.first = 1, .second = 4, .n = 260, .d = 1, .labels = "000000000000000x"},
     {.first = 1, .second = 6, .n = 260, .d = 1, .labels = "3000000000000000"},
+    {.first = 1, .second = 6, .n = 260, .d = 1, .labels = "4000000000000000"},
     {.first = 1, .second = 7, .n = 260, .d = 1, .labels = "0300000000000000"},
     {.first = 1, .second = 8, .n = 260, .d = 3, .labels = "0330033033333333"},
     {.first = 2, .second = 5, .n = 2, .s = 4, .labels = "00000"},
@@ -130,6 +151,7 @@ static const struct order walk_orders[] = {
     {.first = 2, .second = 4, .n = 2, .d = 1, .labels = "000x", .row_more = -1},
     {.first = 2, .second = 6, .n = 2, .d = 1, .labels = "300"},
     {.first = 2, .second = 6, .n = 2, .d = 1, .labels = "3000", .row_more = -34},
+    {.first = 2, .second = 6, .n = 2, .labels = "4000", .row_more = -1},
     {.first = 2, .second = 7, .n = 2, .d = 1, .labels = "03000"},
     {.first = 2, .second = 7, .n = 2, .d = 1, .labels = "0300", .row_more = 2},
     {.first = 2, .second = 8, .n = 3, .d = 3, .labels = "033003300"},
@@ -137,16 +159,21 @@ static const struct order walk_orders[] = {
     {.first = 5, .second = 4, .n = 2, .s = 4, .labels = "000x"},
     {.first = 5, .second = 4, .n = 2, .d = 4, .labels = "x000"},
     {.first = 5, .second = 6, .n = 2, .d = 4, .labels = "3000"},
+    {.first = 5, .second = 6, .n = 2, .d = 4, .labels = "4000"},
     {.first = 5, .second = 7, .n = 2, .s = 4, .d = 1, .labels = "0300"},
     {.first = 5, .second = 8, .n = 3, .s = 65536, .d = 3, .labels = "03300330"},
     {.first = 5, .second = 8, .n = 3, .d = 8 + 3, .labels = "03300330"},
     {.first = 4, .second = 6, .n = 2, .d = 1, .labels = "300x"},
     {.first = 4, .second = 6, .n = 2, .labels = "300x"},
+    {.first = 4, .second = 6, .n = 2, .d = 1, .labels = "400x"},
+    {.first = 4, .second = 6, .n = 2, .labels = "400x"},
     {.first = 4, .second = 7, .n = 2, .d = 1, .labels = "030x"},
     {.first = 4, .second = 8, .n = 3, .d = 3, .labels = "0330033x"},
     {.first = 6, .second = 7, .n = 2, .d = 1, .labels = "3300"},
     {.first = 6, .second = 7, .n = 2, .labels = "3000"},
+    {.first = 6, .second = 7, .n = 2, .d = 1, .labels = "4300"},
     {.first = 6, .second = 8, .n = 4, .s = 8, .d = 3, .labels = "0330033033333333"},
+    {.first = 6, .second = 8, .n = 4, .s = 8, .d = 3, .labels = "0330033043333333"},
     {.first = 7, .second = 8, .n = 3, .d = 3, .labels = "03330330"},
 };
 

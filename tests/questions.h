@@ -31,6 +31,8 @@ struct label_question {
     uint32_t n, rule;
     const uint8_t *faults;
     size_t faults_len;
+    const uint8_t *draining;
+    size_t draining_len;
     uint8_t *labels;
     size_t labels_len;
 };
@@ -49,8 +51,8 @@ struct walk_question {
     size_t row_len;
 };
 
-/* Questions in which each length is the one that n asks for, and the rule is 3.
- * A test of refusals then changes what is to be refused. */
+/* Questions in which each length is the one that n asks for, the rule is 3 and no
+ * node is draining. A test of refusals then changes what is to be refused. */
 struct label_question fit_label(uint32_t n, const uint8_t *faults,
                                 uint8_t *labels);
 struct hop_question fit_hop(uint32_t n, uint32_t c, uint32_t d,
@@ -62,6 +64,9 @@ struct walk_question fit_walk(uint32_t n, uint32_t s, uint32_t d,
 uint32_t ask_label(struct label_question asked);
 uint32_t ask_hop(struct hop_question asked);
 uint32_t ask_walk(struct walk_question asked);
+
+/* The node at this place of an accepted walk's row. */
+uint32_t row_place(const uint8_t *row, uint32_t k);
 
 /* Whole answers. A refusal has zero in every other field; that of a notice has
  * the place of the number concerned as its value. */

@@ -2,7 +2,7 @@
  * reads.c: which labels the archive reads, watched while its machine code runs,
  * against document 02's request A6: the test of a node reads its neighbours'
  * labels one by one, lowest dimension first, and no more of them than settle it.
- * Here all that is expected is worked out anew from the fault table.
+ * Here all that is expected is worked out anew from the two tables.
  *
  *   reads           checks; prints `ok ..` and `FAIL ..`
  *   reads table     how many labels were read, for docs/PERFORMANCE.md
@@ -15,21 +15,21 @@
 #include "watch.h"
 
 static uint32_t n, rule;
-static uint8_t faults[512];
+static uint8_t faults[512], draining[512];
 
-/* ---- the rounds, by the fault table: 1 where a node is faulty, has a mark */
+/* ---- the rounds, by the tables: 1 where a node does not work, has a mark */
 
-static uint8_t faulty[4096], marked[4096], next_marked[4096];
+static uint8_t out[4096], marked[4096], next_marked[4096];
 
 /* The first so many neighbours of x settle that it meets the rule. */
 static int settled(uint32_t x, uint32_t so_many)
 {
-    unsigned out = 0, bad = 0;
+    unsigned faulty = 0, bad = 0;
     for (uint32_t i = 0; i < so_many; i++) {
-        out += faulty[x ^ 1u << i];
-        bad += faulty[x ^ 1u << i] || marked[x ^ 1u << i];
+        faulty += out[x ^ 1u << i];
+        bad += out[x ^ 1u << i] || marked[x ^ 1u << i];
     }
-    return out >= 2 || bad >= rule;
+    return faulty >= 2 || bad >= rule;
 }
 
 /* How many neighbours the test looks at: the least number that settles it. */
@@ -45,7 +45,7 @@ static uint32_t looked(uint32_t x)
 static uint32_t first_safe(uint32_t x)
 {
     uint32_t i = 0;
-    while (i < n && (faulty[x ^ 1u << i] || marked[x ^ 1u << i]))
+    while (i < n && (out[x ^ 1u << i] || marked[x ^ 1u << i]))
         i++;
     return i;
 }
@@ -56,7 +56,7 @@ static uint32_t read_before(uint32_t x)
 {
     unsigned bad = 0;
     for (uint32_t i = 0; i < n; i++)
-        bad += faulty[x ^ 1u << i] || marked[x ^ 1u << i];
+        bad += out[x ^ 1u << i] || marked[x ^ 1u << i];
     return bad == 2 ? 2 * n : n;
 }
 
@@ -98,7 +98,7 @@ static int expect_sweep(void)
     for (uint32_t x = 0; x < HCUBE_NODES(n); x++) {
         size_t from;
         expect_access(0, x, "a node of a sweep");
-        if (faulty[x] || marked[x])
+        if (out[x] || marked[x])
             continue;
         from = at;
         expect_neighbours(x, looked(x), "the test of the rule");
@@ -126,20 +126,26 @@ static void expect_pass(void)
     }
 }
 
-/* The last pass: each node's own label, and of an unsafe one the neighbours up
- * to the first safe one. */
+/* The last pass tells the ordinarily unsafe nodes and the draining ones. */
+static int is_told(uint32_t x)
+{
+    return out[x] ? !in_table(faults, x) : marked[x] && first_safe(x) < n;
+}
+
+/* It reads each node's own label, and of an unsafe one the neighbours up to the
+ * first safe one. A label that it tells is written; another may be once more. */
 static void expect_finish(void)
 {
     for (uint32_t x = 0; x < HCUBE_NODES(n); x++) {
+        uint32_t safe = first_safe(x);
         expect_access(0, x, "a node of the last pass");
-        if (faulty[x] || !marked[x])
-            continue;
-        if (first_safe(x) == n) {
-            expect_neighbours(x, n, "the test for a safe neighbour");
-        } else {
-            expect_neighbours(x, first_safe(x) + 1, "the test for a safe neighbour");
-            expect_access(1, x, "an ordinarily unsafe label");
-        }
+        if (!out[x] && marked[x])
+            expect_neighbours(x, safe < n ? safe + 1 : n,
+                              "the test for a safe neighbour");
+        if (is_told(x))
+            expect_access(1, x, "a label of the last pass");
+        else if (at < noted && notes[at].is_write && notes[at].place == x)
+            at++;
     }
 }
 
@@ -149,7 +155,7 @@ static void expect_end(void)
         snprintf(wrong, sizeof wrong, "%u accesses too many", (unsigned)(noted - at));
 }
 
-/* Labels the fault table at hand under watch. */
+/* Labels the tables at hand under watch. */
 static void expect_labelling(void)
 {
     uint8_t *labels = watched_table();
@@ -158,10 +164,11 @@ static void expect_labelling(void)
     exchanges = 0;
     tests = reads = defined = reads_before = 0;
     for (uint32_t x = 0; x < HCUBE_NODES(n); x++)
-        faulty[x] = faults[x / 8] >> (x % 8) & 1;
+        out[x] = in_table(faults, x) || in_table(draining, x);
     memset(marked, 0, sizeof marked);
     watch_begin();
-    hcube_label(n, rule, faults, HCUBE_FAULT_BYTES(n), labels, HCUBE_NODES(n));
+    hcube_label(n, rule, faults, HCUBE_FAULT_BYTES(n), draining,
+                HCUBE_FAULT_BYTES(n), labels, HCUBE_NODES(n));
     watch_end();
     while (at < noted && notes[at].is_write) /* the table before the first round */
         at++;
@@ -206,6 +213,7 @@ static void check_labelling(void)
     *wrong = 0;
     for (unsigned k = 0; k < tables * COUNT(densities) && !*wrong; k++) {
         random_faults(n, densities[k % COUNT(densities)], faults);
+        random_draining(n, faults, draining);
         rule = 2 + (k + n) % 2;
         expect_labelling();
         cases++;
@@ -216,7 +224,7 @@ static void check_labelling(void)
 static void check_hops(void)
 {
     unsigned cases = 0;
-    random_labels(n, 3, watched_table());
+    random_labels(n, HCUBE_DRAINING, watched_table());
     *wrong = 0;
     for (unsigned k = 0; k < 200 && !*wrong; k++) {
         expect_hop(random_below(HCUBE_NODES(n)), random_below(HCUBE_NODES(n)));
@@ -237,7 +245,7 @@ static void print_row(unsigned per_mille)
         return;
     }
     for (uint32_t x = 0; x < HCUBE_NODES(n); x++)
-        count += faulty[x];
+        count += out[x];
     printf("%2u %6u %9u %9lu %8.2f %10.2f %9.2f\n", n, count, exchanges, tests,
            (double)reads / (double)tests, (double)defined / (double)tests,
            (double)reads_before / (double)tests);

@@ -1,12 +1,13 @@
 /*
- * reference.c: document 01 in the most direct C: one array of marks for each
- * side of an exchange, every scan a loop over the label table itself.
+ * reference.c: document 01, with A4 of document 02, in the most direct C: one
+ * array of marks for each side of an exchange, every scan a loop over the label
+ * table itself.
  */
 #include "reference.h"
 
 #include <string.h>
 
-enum { SAFE, ORDINARY, STRONG, FAULTY };
+enum { SAFE, ORDINARY, STRONG, FAULTY, DRAINING };
 
 static uint32_t nodes_of(uint32_t n)
 {
@@ -25,18 +26,29 @@ static uint32_t packed(uint32_t refusal, uint32_t kind, uint32_t value)
 
 /* ---- labels */
 
-static int is_faulty(const uint8_t *faults, uint32_t k)
+static int has_bit(const uint8_t *table, uint32_t k)
 {
-    return faults[k / 8] >> (k % 8) & 1;
+    return table[k / 8] >> (k % 8) & 1;
 }
 
-static int meets_rule(uint32_t n, uint32_t rule, const uint8_t *faults,
+/* The label of a node that does not work; 0 if it works. */
+static uint8_t out_label(const uint8_t *faults, const uint8_t *draining,
+                         uint32_t k)
+{
+    if (has_bit(faults, k))
+        return FAULTY;
+    if (has_bit(draining, k))
+        return DRAINING;
+    return 0;
+}
+
+static int meets_rule(uint32_t n, uint32_t rule, const uint8_t *out,
                       const uint8_t *marked, uint32_t k)
 {
     unsigned faulty = 0, unsafe = 0;
     for (uint32_t i = 0; i < n; i++) {
         uint32_t neighbour = k ^ (1u << i);
-        if (is_faulty(faults, neighbour))
+        if (out[neighbour])
             faulty++;
         else if (marked[neighbour])
             unsafe++;
@@ -46,15 +58,15 @@ static int meets_rule(uint32_t n, uint32_t rule, const uint8_t *faults,
 
 /* One exchange, which is one round: the marks after it from those before.
  * Whether it brought something new. */
-static int exchange(uint32_t n, uint32_t rule, const uint8_t *faults,
+static int exchange(uint32_t n, uint32_t rule, const uint8_t *out,
                     const uint8_t *marked, uint8_t *next)
 {
     int something_new = 0;
     for (uint32_t k = 0; k < nodes_of(n); k++) {
         next[k] = marked[k];
-        if (is_faulty(faults, k) || marked[k])
+        if (out[k] || marked[k])
             continue;
-        if (meets_rule(n, rule, faults, marked, k)) {
+        if (meets_rule(n, rule, out, marked, k)) {
             next[k] = 1;
             something_new = 1;
         }
@@ -62,35 +74,37 @@ static int exchange(uint32_t n, uint32_t rule, const uint8_t *faults,
     return something_new;
 }
 
-static int has_safe_neighbour(uint32_t n, const uint8_t *faults,
+static int has_safe_neighbour(uint32_t n, const uint8_t *out,
                               const uint8_t *marked, uint32_t k)
 {
     for (uint32_t i = 0; i < n; i++) {
         uint32_t neighbour = k ^ (1u << i);
-        if (!is_faulty(faults, neighbour) && !marked[neighbour])
+        if (!out[neighbour] && !marked[neighbour])
             return 1;
     }
     return 0;
 }
 
 unsigned ref_exchanges(uint32_t n, uint32_t rule, const uint8_t *faults,
-                       uint8_t *labels)
+                       const uint8_t *draining, uint8_t *labels)
 {
-    uint8_t marked[MOST_NODES], next[MOST_NODES];
+    uint8_t out[MOST_NODES], marked[MOST_NODES], next[MOST_NODES];
     unsigned exchanges = 0;
     int something_new;
+    for (uint32_t k = 0; k < nodes_of(n); k++)
+        out[k] = out_label(faults, draining, k);
     memset(marked, 0, sizeof marked);
     do {
-        something_new = exchange(n, rule, faults, marked, next);
+        something_new = exchange(n, rule, out, marked, next);
         exchanges++;
         memcpy(marked, next, nodes_of(n));
     } while (something_new);
     for (uint32_t k = 0; k < nodes_of(n); k++) {
-        if (is_faulty(faults, k))
-            labels[k] = FAULTY;
+        if (out[k])
+            labels[k] = out[k];
         else if (!marked[k])
             labels[k] = SAFE;
-        else if (has_safe_neighbour(n, faults, marked, k))
+        else if (has_safe_neighbour(n, out, marked, k))
             labels[k] = ORDINARY;
         else
             labels[k] = STRONG;
@@ -98,8 +112,14 @@ unsigned ref_exchanges(uint32_t n, uint32_t rule, const uint8_t *faults,
     return exchanges;
 }
 
+static int has_unused_bit(uint32_t n, const uint8_t *table)
+{
+    return (n == 1 && table[0] > 3) || (n == 2 && table[0] > 15);
+}
+
 uint32_t ref_label(uint32_t n, uint32_t rule,
                    const uint8_t *faults, size_t faults_len,
+                   const uint8_t *draining, size_t draining_len,
                    uint8_t *labels, size_t labels_len)
 {
     if (n < 1 || n > 12)
@@ -108,18 +128,20 @@ uint32_t ref_label(uint32_t n, uint32_t rule,
         return packed(18, 0, 0);
     if (faults_len != ref_fault_bytes(n))
         return packed(2, 0, 0);
+    if (draining_len != ref_fault_bytes(n))
+        return packed(2, 0, 0);
     if (labels_len != nodes_of(n))
         return packed(2, 0, 0);
-    if (n == 1 && faults[0] > 3)
+    if (has_unused_bit(n, faults))
         return packed(3, 0, 0);
-    if (n == 2 && faults[0] > 15)
+    if (has_unused_bit(n, draining))
         return packed(3, 0, 0);
-    return packed(0, 0, ref_exchanges(n, rule, faults, labels));
+    return packed(0, 0, ref_exchanges(n, rule, faults, draining, labels));
 }
 
 /* ---- one hop */
 
-static unsigned distance(uint32_t n, uint32_t c, uint32_t d)
+unsigned ref_distance(uint32_t n, uint32_t c, uint32_t d)
 {
     unsigned differing = 0;
     for (uint32_t i = 0; i < n; i++)
@@ -131,10 +153,12 @@ static unsigned distance(uint32_t n, uint32_t c, uint32_t d)
 static int scan_takes(unsigned scan, int forward, uint8_t neighbour,
                       uint8_t own, unsigned l)
 {
+    int works = neighbour != FAULTY && neighbour != DRAINING;
     switch (scan) {
+    case 0: return forward && neighbour == DRAINING && l == 1;
     case 1: return forward && neighbour == SAFE;
     case 2: return forward && (neighbour == SAFE || neighbour == ORDINARY);
-    case 3: return forward && neighbour != FAULTY && (own == STRONG || l <= 2);
+    case 3: return forward && works && (own == STRONG || l <= 2);
     case 4: return !forward && neighbour == SAFE;
     default: return !forward && (neighbour == SAFE || neighbour == ORDINARY);
     }
@@ -143,10 +167,10 @@ static int scan_takes(unsigned scan, int forward, uint8_t neighbour,
 unsigned ref_scan(uint32_t n, uint32_t c, uint32_t d, const uint8_t *labels,
                   uint32_t *dimension)
 {
-    unsigned l = distance(n, c, d);
+    unsigned l = ref_distance(n, c, d);
     if (l == 0)
-        return 0;
-    for (unsigned scan = 1; scan <= 5; scan++)
+        return NO_SCAN;
+    for (unsigned scan = 0; scan <= 5; scan++)
         for (uint32_t i = 0; i < n; i++) {
             int forward = (c >> i & 1) != (d >> i & 1);
             if (scan_takes(scan, forward, labels[c ^ (1u << i)], labels[c], l)) {
@@ -154,7 +178,7 @@ unsigned ref_scan(uint32_t n, uint32_t c, uint32_t d, const uint8_t *labels,
                 return scan;
             }
         }
-    return 0;
+    return NO_SCAN;
 }
 
 uint32_t ref_hop(uint32_t n, uint32_t c, uint32_t d,
@@ -174,9 +198,11 @@ uint32_t ref_hop(uint32_t n, uint32_t c, uint32_t d,
             return packed(4, 0, 0);
     if (labels[c] == FAULTY)
         return packed(6, 0, 0);
+    if (labels[c] == DRAINING && c != d)
+        return packed(6, 0, 0);
     if (c == d)
         return packed(0, 0, 0);
-    if (ref_scan(n, c, d, labels, &dimension) == 0)
+    if (ref_scan(n, c, d, labels, &dimension) == NO_SCAN)
         return packed(0, 2, 0);
     return packed(0, 1, dimension);
 }
@@ -192,7 +218,7 @@ static unsigned walk_good(uint32_t n, uint32_t s, uint32_t d,
     *hops = 0;
     places[0] = s;
     while (current != d) {
-        if (ref_scan(n, current, d, labels, &dimension) == 0)
+        if (ref_scan(n, current, d, labels, &dimension) == NO_SCAN)
             return 1;
         if (*hops == n + 4)
             return 8;
@@ -220,7 +246,7 @@ uint32_t ref_walk(uint32_t n, uint32_t s, uint32_t d,
     for (uint32_t k = 0; k < nodes_of(n); k++)
         if (labels[k] > LAST_LABEL)
             return packed(4, 0, 0);
-    if (labels[s] == FAULTY)
+    if (labels[s] == FAULTY || labels[s] == DRAINING)
         return packed(6, 0, 0);
     if (labels[d] == FAULTY)
         return packed(7, 0, 0);

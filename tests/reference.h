@@ -1,8 +1,8 @@
 /*
  * reference.h: the rules of document 01, with the older one of document 02's
- * request A13 beside its own, once more, in plain C, to hold the
- * library and the listing program against. The first four functions have the
- * same interface as the library's.
+ * request A13 beside its own and the draining nodes of A4, once more, in plain
+ * C, to hold the library and the listing program against. The first four
+ * functions have the same interface as the library's.
  */
 #ifndef REFERENCE_H
 #define REFERENCE_H
@@ -18,10 +18,11 @@
 #define MOST_INPUT 16384
 
 /* The largest byte that is a label. */
-#define LAST_LABEL 3
+#define LAST_LABEL 4
 
 uint32_t ref_label(uint32_t n, uint32_t rule,
                    const uint8_t *faults, size_t faults_len,
+                   const uint8_t *draining, size_t draining_len,
                    uint8_t *labels, size_t labels_len);
 uint32_t ref_hop(uint32_t n, uint32_t c, uint32_t d,
                  const uint8_t *labels, size_t labels_len);
@@ -39,17 +40,22 @@ unsigned ref_number(const uint8_t *bytes, size_t len, size_t *place,
 /* What the listing program prints for this input. */
 void ref_listing(const uint8_t *bytes, size_t len, FILE *out);
 
-/* The scan, 1 to 5, that decides at c for d; 0 if none hits or c is d. The
- * dimension goes to *dimension. All inputs are in range. */
+/* The scan, 1 to 5, that decides at c for d; 0 for the hop to a draining d, which
+ * is tried before them; NO_SCAN if none hits or c is d. The dimension goes to
+ * *dimension. All inputs are in range. */
+#define NO_SCAN 6
 unsigned ref_scan(uint32_t n, uint32_t c, uint32_t d, const uint8_t *labels,
                   uint32_t *dimension);
 
-/* Exchanges, the quiet one included, and final labels of a good fault table, by
- * rule 2 or 3. */
+/* Exchanges, the quiet one included, and final labels of a good fault table and
+ * a good draining table, by rule 2 or 3. */
 unsigned ref_exchanges(uint32_t n, uint32_t rule, const uint8_t *faults,
-                       uint8_t *labels);
+                       const uint8_t *draining, uint8_t *labels);
 
-/* Length of a fault table. */
+/* Length of a fault table and of a draining table. */
 size_t ref_fault_bytes(uint32_t n);
+
+/* In how many dimensions c and d differ. */
+unsigned ref_distance(uint32_t n, uint32_t c, uint32_t d);
 
 #endif

@@ -136,6 +136,7 @@ static void print_pairs(const uint8_t *bytes, size_t len, size_t place,
 
 void ref_listing(const uint8_t *bytes, size_t len, FILE *out)
 {
+    static const uint8_t none_draining[MOST_FAULT_BYTES];
     uint8_t faults[MOST_FAULT_BYTES], labels[MOST_NODES];
     uint32_t n = 0;
     size_t place = 0;
@@ -155,6 +156,7 @@ void ref_listing(const uint8_t *bytes, size_t len, FILE *out)
         fprintf(out, "notice refused %u %u\n", refusal, (unsigned)place);
         return;
     }
-    print_first_line(n, labels, ref_exchanges(n, 3, faults, labels), out);
+    print_first_line(n, labels,
+                     ref_exchanges(n, 3, faults, none_draining, labels), out);
     print_pairs(bytes, len, place, n, labels, out);
 }

@@ -1,10 +1,8 @@
 /*
  * refusals.c: labelling, hop and walk on inputs that are refused: random damage,
- * lengths of every kind, and numbers that would fit once narrowed.
+ * all that labelling refuses at once, and numbers that would fit once narrowed.
  */
-#define _DEFAULT_SOURCE /* MAP_ANONYMOUS, MAP_NORESERVE */
 #include <string.h>
-#include <sys/mman.h>
 
 #include "cases.h"
 #include "check.h"
@@ -12,7 +10,8 @@
 #include "lent.h"
 #include "reference.h"
 
-static uint8_t faults[MOST_LENT], labels[MOST_LENT], row[MOST_LENT];
+static uint8_t faults[MOST_LENT], draining[MOST_LENT];
+static uint8_t labels[MOST_LENT], row[MOST_LENT];
 
 /* ---- random damage */
 
@@ -62,13 +61,21 @@ static size_t any_length(size_t exact)
 /* Some bytes that are no label: none, one at a place near c, or one anywhere. */
 static void damage_labels(uint32_t n, uint32_t c)
 {
+    static const uint8_t own[] = {HCUBE_FAULTY, HCUBE_DRAINING, 255};
     uint32_t nodes = 1u << n, k = random_below(nodes);
     if (random_below(4) == 0)
         labels[(c ^ 1u << random_below(n)) & (nodes - 1)] = LAST_LABEL + 1;
     if (random_below(8) == 0)
         labels[k] = (uint8_t)(LAST_LABEL + 1 + random_below(255 - LAST_LABEL));
     if (random_below(8) == 0)
-        labels[c & (nodes - 1)] = random_below(2) ? 255 : 3;
+        labels[c & (nodes - 1)] = own[random_below(COUNT(own))];
+}
+
+/* A bit of the first byte more, which is none for a node where n is 1 or 2. */
+static void damage_table(uint8_t *table)
+{
+    if (random_below(4) == 0)
+        table[0] |= (uint8_t)(1u << random_below(8));
 }
 
 /* `fitting` is the dimension that the tables are made for. */
@@ -76,11 +83,14 @@ static void damaged_label(uint32_t n, uint32_t fitting)
 {
     struct label_question asked = fit_label(fitting, faults, labels);
     random_faults(fitting, random_density(fitting), faults);
-    if (random_below(4) == 0)
-        faults[0] |= (uint8_t)(1u << random_below(8));
+    random_draining(fitting, faults, draining);
+    damage_table(faults);
+    damage_table(draining);
     asked.n = n;
     asked.rule = any_rule();
     asked.faults_len = any_length(asked.faults_len);
+    asked.draining = draining;
+    asked.draining_len = any_length(asked.draining_len);
     asked.labels_len = any_length(asked.labels_len);
     check_label(asked);
 }
@@ -111,85 +121,52 @@ void check_damaged(void)
     end_group();
 }
 
-/* ---- lengths */
+/* ---- labelling, with all that can be wrong in every combination */
 
-/* Lengths around the exact one; the last is far too long. */
-static size_t length_number(unsigned k, size_t exact)
+/* 16 is a bit of no node where n is 1 or 2. */
+static int has_unused_bit(struct label_question asked)
 {
-    const size_t lengths[] = {0, 1, exact / 2, exact - 1, exact, exact + 1,
-                              2 * exact, exact + 256, exact + 65536, MOST_LENT};
-    return lengths[k];
-}
-#define LENGTHS 10u
-
-static void lengths_of(uint32_t n)
-{
-    struct hop_question hop = fit_hop(n, 0, 1, labels);
-    struct walk_question walk = fit_walk(n, 0, 1, labels, row);
-    struct label_question label = fit_label(n, faults, row);
-    size_t nodes = hop.labels_len, bytes = label.faults_len;
-    memset(labels, 0, sizeof labels);
-    for (unsigned a = 0; a < LENGTHS; a++) {
-        hop.labels_len = length_number(a, nodes);
-        walk.labels_len = label.labels_len = hop.labels_len;
-        check_hop(hop);
-        for (unsigned b = 0; b < LENGTHS; b++) {
-            walk.row_len = length_number(b, ROW_BYTES);
-            check_walk(walk);
-            random_faults(n, 200, faults);
-            label.faults_len = length_number(b, bytes);
-            check_label(label);
-        }
-    }
+    return asked.n < 3 && (asked.faults[0] | asked.draining[0]) & 16;
 }
 
-/* Each buffer of n = 3 in turn is `big` and too long: right in the low 32 bits
- * of its length alone. */
-static void lengths_with(uint8_t *big, size_t beyond)
+/* The refusal that is due, by document 02's order; 0 if none is. */
+static unsigned label_refusal(struct label_question asked, int wrong_length)
 {
-    uint8_t small[ROW_BYTES] = {0};
-    struct label_question label = fit_label(3, big, small);
-    struct hop_question hop = fit_hop(3, 0, 1, big);
-    struct walk_question walk = fit_walk(3, 0, 1, big, small);
-    label.faults_len += beyond;
-    hop.labels_len += beyond;
-    walk.labels_len += beyond;
-    expect(ask_label(label) == REFUSED(2), "fault table");
-    expect(ask_hop(hop) == REFUSED(2), "hop");
-    expect(ask_walk(walk) == REFUSED(2), "walk");
-    label = fit_label(3, small, big);
-    walk = fit_walk(3, 0, 1, small, big);
-    label.labels_len += beyond;
-    walk.row_len += beyond;
-    expect(ask_label(label) == REFUSED(2), "label table");
-    expect(ask_walk(walk) == REFUSED(2), "row");
-    big[0] = 3;
-    expect(hcube_read_notice(big, beyond, small, 1) == NOTICE_READ(3, 0, 2),
-           "notice");
-    expect(hcube_read_notice(big, 2, big + 8, beyond + 1) ==
-               NOTICE_REFUSED(2, 0),
-           "notice's table");
+    if (asked.n < 1 || asked.n > 12)
+        return 1;
+    if (asked.rule < 2 || asked.rule > 3)
+        return 18;
+    return wrong_length ? 2 : has_unused_bit(asked) ? 3 : 0;
 }
 
-static void lengths_beyond_32_bits(void)
+/* The parts of the number choose what is wrong; lengths are one too short, right
+ * or one too long for n, or for what it is once narrowed to a byte. */
+static void combination(unsigned number)
 {
-    size_t beyond = (size_t)1 << 32;
-    uint8_t *big = mmap(NULL, beyond + 4096, PROT_READ | PROT_WRITE,
-                        MAP_PRIVATE | MAP_ANONYMOUS | MAP_NORESERVE, -1, 0);
-    expect(big != MAP_FAILED, "no address space of 4 GiB");
-    if (big == MAP_FAILED)
-        return;
-    lengths_with(big, beyond);
-    munmap(big, beyond + 4096);
+    static const uint32_t dimensions[] = {0, 1, 2, 3, 13, 257, 258};
+    static const uint8_t bytes[] = {0, 3, 16};
+    uint32_t n = dimensions[number % 7], answer;
+    struct label_question asked = fit_label(n & 255, faults, labels);
+    unsigned lengths = number / 28 % 27, due;
+    asked.n = n;
+    asked.rule = 1 + number / 7 % 4;
+    asked.faults_len += lengths % 3 - (size_t)1;
+    asked.draining = draining;
+    asked.draining_len += lengths / 3 % 3 - (size_t)1;
+    asked.labels_len += lengths / 9 - (size_t)1;
+    faults[0] = bytes[number / 756 % 3];
+    draining[0] = bytes[number / 2268];
+    due = label_refusal(asked, lengths != 13);
+    answer = check_label(asked);
+    expect(due ? answer == REFUSED(due) : answer >> 16 == 0,
+           "combination %u: %08x, where %u is due", number, answer, due);
 }
 
-void check_lengths(void)
+void check_combinations(void)
 {
-    begin_group("lengths from 0 to far too long");
-    random_bytes(row, sizeof row);
-    for (uint32_t n = 1; n <= 12; n++)
-        lengths_of(n);
-    lengths_beyond_32_bits();
+    begin_group("labelling, all that is refused in every combination");
+    for (unsigned number = 0; number < 3 * 2268; number++)
+        combination(number);
     end_group();
 }
 

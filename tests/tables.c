@@ -1,48 +1,16 @@
 /*
- * tables.c: library against reference over fault tables and label tables, all
- * of them in small cubes and random ones up to dimension 12.
+ * tables.c: library against reference over fault and draining tables and over
+ * label tables, all of them in small cubes and random ones up to dimension 12.
  */
 #include <string.h>
 
+#include "cabinet.h"
 #include "cases.h"
 #include "check.h"
 #include "groups.h"
-#include "reference.h"
 
 #define RANDOM_TABLES 24000
 #define RANDOM_LABEL_TABLES 12000
-
-static uint8_t faults[MOST_FAULT_BYTES], labels[MOST_NODES];
-
-/* Labels the fault table at hand by the rule into a buffer that holds anything. */
-static uint32_t label_table(uint32_t n, uint32_t rule)
-{
-    struct label_question asked = fit_label(n, faults, labels);
-    random_bytes(labels, (size_t)1 << n);
-    asked.rule = rule;
-    return check_label(asked);
-}
-
-static void hop_and_walk(uint32_t n, uint32_t s, uint32_t d)
-{
-    uint8_t row[ROW_BYTES];
-    random_bytes(row, sizeof row);
-    check_hop(fit_hop(n, s, d, labels));
-    check_walk(fit_walk(n, s, d, labels, row));
-}
-
-static void all_pairs(uint32_t n)
-{
-    for (uint32_t s = 0; s < 1u << n; s++)
-        for (uint32_t d = 0; d < 1u << n; d++)
-            hop_and_walk(n, s, d);
-}
-
-static void some_pairs(uint32_t n, unsigned count)
-{
-    while (count--)
-        hop_and_walk(n, random_below(1u << n), random_below(1u << n));
-}
 
 /* Puts the label table of this number; 0 if there are not so many. */
 static int put_labels(uint32_t n, unsigned number)
@@ -52,17 +20,34 @@ static int put_labels(uint32_t n, unsigned number)
     return number == 0;
 }
 
-/* Every fault table up to n = 3 with every pair, and every byte that is none
- * since an unused bit is set; every label table up to n = 2 with every pair. */
+/* Labels by both rules, and all pairs by each label table once: a node that is in
+ * both tables has the label of one that is in the fault table alone, and the two
+ * rules' labels may be the same. */
+static void small_cabinet(uint32_t n, unsigned pair)
+{
+    uint8_t by_2[8];
+    int wanted;
+    faults[0] = (uint8_t)pair;
+    draining[0] = (uint8_t)(pair >> 8);
+    wanted = HCUBE_REFUSAL(label_cabinet(n, 2)) == 0 &&
+             !(faults[0] & draining[0]);
+    if (wanted)
+        all_pairs(n);
+    memcpy(by_2, labels, sizeof by_2);
+    label_cabinet(n, 3);
+    if (wanted && memcmp(by_2, labels, (size_t)1 << n))
+        all_pairs(n);
+}
+
+/* Every fault table with every draining table up to n = 3 with every pair, and
+ * every byte that is none since an unused bit is set; every label table up to
+ * n = 2 with every pair. */
 void check_small_cubes(void)
 {
-    begin_group("all fault tables to n = 3, both rules, all pairs");
+    begin_group("all pairs of tables to n = 3, both rules, all pairs");
     for (uint32_t n = 1; n <= 3; n++)
-        for (unsigned table = 0; table < 512; table++) {
-            faults[0] = (uint8_t)(table / 2);
-            if (HCUBE_REFUSAL(label_table(n, 2 + table % 2)) == 0)
-                all_pairs(n);
-        }
+        for (unsigned pair = 0; pair < 65536; pair++)
+            small_cabinet(n, pair);
     end_group();
     begin_group("all label tables to n = 2, all pairs");
     for (uint32_t n = 1; n <= 2; n++)
@@ -71,116 +56,19 @@ void check_small_cubes(void)
     end_group();
 }
 
-/* Exchanges, and a table that takes them (found by tests/most_exchanges.c): for
- * n = 1 to 5 the most there are, by each rule; for n = 6 to 8 the most known. */
-struct most {
-    uint32_t exchanges;
-    uint8_t table[32];
-};
-
-static const struct most most_by_3[9] = {
-    {0, {0}},
-    {1, {0x00}},
-    {2, {0x06}},
-    {3, {0x16}},
-    {5, {0x58, 0x03}},
-    {10, {0xa8, 0x10, 0x20, 0x05}},
-    {19, {0x04, 0x22, 0x14, 0x00, 0x09, 0x40, 0x00, 0x42}},
-    {33, {0x00, 0x00, 0x80, 0x04, 0x00, 0x10, 0x00, 0x02,
-          0x80, 0x00, 0x10, 0x00, 0x00, 0x0a, 0x24, 0x04}},
-    {48, {0x08, 0x00, 0x80, 0x00, 0x00, 0x00, 0x04, 0x24,
-          0x20, 0x01, 0x00, 0x00, 0x00, 0x10, 0x00, 0x00,
-          0x22, 0x02, 0x00, 0x00, 0x00, 0x00, 0x00, 0x00,
-          0x00, 0x00, 0x00, 0x40, 0x18, 0x00, 0x00, 0x00}},
-};
-
-static const struct most most_by_2[9] = {
-    {0, {0}},
-    {1, {0x00}},
-    {2, {0x06}},
-    {4, {0x19}},
-    {6, {0x18, 0x01}},
-    {9, {0x04, 0x10, 0x22, 0x02}},
-    {13, {0x04, 0x00, 0x20, 0x00, 0x02, 0x00, 0x20, 0x40}},
-    {17, {0x00, 0x00, 0x10, 0x00, 0x00, 0x02, 0x00, 0x00,
-          0x80, 0x00, 0x01, 0x00, 0x00, 0x00, 0x00, 0x10}},
-    {22, {0x20, 0x00, 0x80, 0x00, 0x00, 0x00, 0x10, 0x00,
-          0x00, 0x00, 0x00, 0x00, 0x40, 0x00, 0x00, 0x00,
-          0x00, 0x00, 0x00, 0x00, 0x00, 0x04, 0x00, 0x00,
-          0x00, 0x00, 0x00, 0x20, 0x00, 0x00, 0x00, 0x00}},
-};
-
-static uint32_t most_of_all_tables(uint32_t n, uint32_t rule)
-{
-    uint32_t found = 0;
-    for (uint32_t table = 0; table < 1u << (1u << n); table++) {
-        uint32_t exchanges;
-        faults[0] = (uint8_t)table;
-        faults[1] = (uint8_t)(table >> 8);
-        exchanges = label_table(n, rule);
-        if (exchanges > found)
-            found = exchanges;
-    }
-    return found;
-}
-
-static void most_exchanges_by(uint32_t rule, const struct most *most)
-{
-    for (uint32_t n = 1; n <= 8; n++) {
-        memcpy(faults, most[n].table, sizeof most[n].table);
-        expect(label_table(n, rule) == most[n].exchanges,
-               "n = %u by %u: not %u exchanges", n, rule, most[n].exchanges);
-        if (n <= 4)
-            expect(most_of_all_tables(n, rule) == most[n].exchanges,
-                   "n = %u by %u: %u is not the most", n, rule,
-                   most[n].exchanges);
-    }
-}
-
-void check_most_exchanges(void)
-{
-    begin_group("most exchanges, all fault tables of n = 4, both rules");
-    most_exchanges_by(2, most_by_2);
-    most_exchanges_by(3, most_by_3);
-    end_group();
-}
-
-/* The quiet exchange alone: no node is faulty, or every node is. */
-void check_one_exchange(void)
-{
-    begin_group("one exchange: no faults, and all nodes faulty");
-    for (unsigned k = 0; k < 24; k++) {
-        uint32_t n = 1 + k % 12, rule = 2 + k / 12;
-        memset(faults, 0, sizeof faults);
-        expect(label_table(n, rule) == 1, "n = %u, no faults: not 1 exchange", n);
-        memset(faults, n < 3 ? (1 << (1 << n)) - 1 : 255, sizeof faults);
-        expect(label_table(n, rule) == 1, "n = %u, all faulty: not 1 exchange",
-               n);
-    }
-    end_group();
-}
-
-static uint32_t walk_by(uint32_t n, uint32_t s, uint32_t d, const uint8_t *by)
-{
-    uint8_t row[ROW_BYTES];
-    random_bytes(row, sizeof row);
-    return check_walk(fit_walk(n, s, d, by, row));
-}
-
 /* A walk that the old labels delivered is delivered by the new; where the old ones
  * have a safe node they deliver it, in the distance and two hops at most. */
 static void two_walks(uint32_t n, uint32_t s, uint32_t d, const uint8_t *old,
                       int some_safe)
 {
-    uint32_t before = walk_by(n, s, d, old), after = walk_by(n, s, d, labels);
-    uint32_t distance = 0;
-    for (uint32_t i = 0; i < n; i++)
-        distance += (s ^ d) >> i & 1;
-    if (old[s] == HCUBE_FAULTY || old[d] == HCUBE_FAULTY)
+    uint8_t row[ROW_BYTES];
+    uint32_t before = walk_by(old, n, s, d, row);
+    uint32_t after = walk_by(labels, n, s, d, row);
+    if (old[s] >= HCUBE_FAULTY || old[d] == HCUBE_FAULTY)
         return;
     expect(before >> 16 || !(after >> 16), "n = %u: walk %u to %u is lost", n, s,
            d);
-    expect(!some_safe || before <= distance + 2,
+    expect(!some_safe || before <= ref_distance(n, s, d) + 2,
            "n = %u: walk %u to %u takes %08x", n, s, d, before);
 }
 
@@ -190,9 +78,9 @@ static void moved(uint32_t n)
 {
     static uint8_t old[MOST_NODES];
     unsigned grown = 0, safe = 0, strong = 0;
-    label_table(n, 2);
+    label_cabinet(n, 2);
     memcpy(old, labels, (size_t)1 << n);
-    label_table(n, 3);
+    label_cabinet(n, 3);
     for (uint32_t k = 0; k < 1u << n; k++) {
         grown += labels[k] > old[k];
         safe += old[k] == HCUBE_SAFE;
@@ -208,10 +96,10 @@ static void moved(uint32_t n)
 
 void check_moved(void)
 {
-    begin_group("3,600 tables labelled by rule 2 and by rule 3");
+    begin_group("3,600 pairs of tables labelled by rule 2 and by rule 3");
     for (unsigned k = 0; k < 3600; k++) {
         uint32_t n = 1 + k % 12;
-        random_faults(n, random_density(n) / (1 + k / 12 % 3), faults);
+        random_cabinet(n, random_density(n) / (1 + k / 12 % 3));
         moved(n);
     }
     end_group();
@@ -219,24 +107,24 @@ void check_moved(void)
 
 void check_random_tables(void)
 {
-    begin_group("24,000 random fault tables to n = 12, by rules 2 and 3");
+    begin_group("24,000 random pairs of tables to n = 12, by rules 2 and 3");
     for (unsigned k = 0; k < RANDOM_TABLES; k++) {
         uint32_t n = 1 + k % 12;
-        random_faults(n, random_density(n), faults);
-        label_table(n, 2 + k / 12 % 2);
+        random_cabinet(n, random_density(n));
+        label_cabinet(n, 2 + k / 12 % 2);
         some_pairs(n, 8);
     }
     end_group();
 }
 
-/* Label bytes of no fault table: mostly safe, mostly not, or evenly mixed. */
+/* Label bytes of no cabinet: mostly safe, mostly not, or evenly mixed. */
 static void mixed_labels(uint32_t n)
 {
     unsigned safe = random_below(100);
     random_labels(n, LAST_LABEL, labels);
     for (uint32_t k = 0; k < 1u << n; k++)
         if (random_below(100) < safe)
-            labels[k] = random_below(100) < 50 ? 0 : 3;
+            labels[k] = (uint8_t)(random_below(2) ? 0 : 3 + random_below(2));
 }
 
 void check_random_labels(void)
@@ -279,7 +167,8 @@ void check_label_buffer(void)
         uint32_t n = 1 + k % 12, answer;
         struct label_question asked = fit_label(n, faults, first);
         asked.rule = 2 + k / 12 % 2;
-        random_faults(n, random_density(n), faults);
+        asked.draining = draining;
+        random_cabinet(n, random_density(n));
         memset(first, 0, sizeof first);
         answer = check_label(asked);
         asked.labels = labels;

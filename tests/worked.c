@@ -1,7 +1,8 @@
 /*
  * worked.c: the numbers that document 01 gives ("Numbers on both sides"), with
  * the exchanges of document 02's request A3 for its rounds, and numbers of our
- * own for its older rule (A13), each as a literal, asked of the library.
+ * own for its older rule (A13) and its draining nodes (A4), each as a literal,
+ * asked of the library.
  */
 #include <string.h>
 
@@ -14,18 +15,27 @@
 static uint8_t labels[64];
 static uint32_t n;
 
-/* Labels a table of one or two bytes by the rule and expects so many exchanges. */
-static void label_by(uint32_t rule, uint32_t dimension, unsigned faults,
-                     uint32_t exchanges)
+/* Labels tables of one or two bytes by the rule and expects so many exchanges. */
+static void label_with(uint32_t rule, uint32_t dimension, unsigned faults,
+                       unsigned draining, uint32_t exchanges)
 {
     uint8_t table[2] = {(uint8_t)faults, (uint8_t)(faults >> 8)};
+    uint8_t drained[2] = {(uint8_t)draining, (uint8_t)(draining >> 8)};
     struct label_question asked = fit_label(dimension, table, labels);
     uint32_t answer;
     n = dimension;
     asked.rule = rule;
+    asked.draining = drained;
     memset(labels, 0xee, sizeof labels);
     answer = check_label(asked);
-    expect(answer == exchanges, "labels of %04x: answer %08x", faults, answer);
+    expect(answer == exchanges, "labels of %04x, draining %04x: answer %08x",
+           faults, draining, answer);
+}
+
+static void label_by(uint32_t rule, uint32_t dimension, unsigned faults,
+                     uint32_t exchanges)
+{
+    label_with(rule, dimension, faults, 0, exchanges);
 }
 
 static void label(uint32_t dimension, unsigned faults, uint32_t exchanges)
@@ -106,6 +116,67 @@ static void older_rule(void)
     labels_are("3113300000000000");
 }
 
+/* Figure 1 with node 15 draining: the labels and walks of the others stay. */
+static void last_node_drained(void)
+{
+    label_with(3, 4, 0x0114, 0x8000, 3);
+    labels_are("1030301030101024");
+    walk(13, 0, 3, "d910");
+    walk(14, 0, 5, "ecd910");
+    walk(7, 15, 1, "7f");
+    walk(14, 15, 1, "ef");
+    walk(3, 15, 2, "37f");
+    walk(0, 15, 4, "0137f");
+    walk(15, 0, REFUSED(6), "");
+    walk(15, 15, REFUSED(6), "");
+    hop(7, 15, 0x10003);
+    hop(15, 15, 0);
+    hop(15, 7, REFUSED(6));
+    label_with(3, 4, 0x8114, 0x8000, 3);
+    labels_are("1030301030101023");
+    walk(7, 15, REFUSED(7), "");
+    label_with(2, 4, 0x0114, 0x8000, 5);
+    labels_are("2232322232222224");
+    walk(0, 15, 4, "0137f");
+}
+
+/* Figure 1 with a fifth node that does not work. Node 9 was on the way from 13 to
+ * 0, which goes around it now; without node 1 no node is safe. */
+static void one_more_drained(void)
+{
+    label_with(3, 4, 0x8114, 0x0200, 3);
+    labels_are("1030301034212123");
+    walk(13, 0, 3, "d510");
+    walk(14, 0, 5, "e67510");
+    walk(13, 9, 1, "d9");
+    walk(6, 9, 4, "67519");
+    walk(14, 9, 3, "ecd9");
+    walk(9, 0, REFUSED(6), "");
+    label_with(3, 4, 0x8114, 0x0002, 3);
+    labels_are("2432322232222223");
+    walk(13, 0, HALTED(1), "dc");
+    walk(13, 1, 2, "d91");
+    hop(9, 0, 0x20000);
+    hop(9, 1, 0x10003);
+}
+
+static void small_drained(void)
+{
+    label_with(3, 1, 0x00, 0x01, 1);
+    labels_are("40");
+    walk(1, 0, 1, "10");
+    walk(0, 1, REFUSED(6), "");
+    label_with(3, 2, 0x02, 0x06, 2);
+    labels_are("2342");
+    walk(0, 3, HALTED(0), "0");
+    walk(0, 2, 1, "02");
+    walk(0, 1, REFUSED(7), "");
+    label_with(3, 3, 0x12, 0x04, 3);
+    labels_are("23423222");
+    walk(7, 0, HALTED(1), "76");
+    walk(5, 2, 3, "5762");
+}
+
 static void small_cubes(void)
 {
     label(1, 0x01, 1);
@@ -129,16 +200,24 @@ static void swinging(void)
     hop(4, 3, 0x10002);
 }
 
+static void no_walk(void)
+{
+    for (uint32_t s = 0; s < 1u << n; s++)
+        for (uint32_t d = 0; d < 1u << n; d++)
+            walk(s, d, REFUSED(6), "");
+}
+
 static void none_and_all(void)
 {
     for (uint32_t dimension = 1; dimension <= 4; dimension++) {
+        unsigned all = (1u << (1u << dimension)) - 1;
         label(dimension, 0, 1);
         for (uint32_t k = 0; k < 1u << n; k++)
             expect(labels[k] == 0, "no faults: %u is not safe", k);
-        label(dimension, (1u << (1u << dimension)) - 1, 1);
-        for (uint32_t s = 0; s < 1u << n; s++)
-            for (uint32_t d = 0; d < 1u << n; d++)
-                walk(s, d, REFUSED(6), "");
+        label(dimension, all, 1);
+        no_walk();
+        label_with(3, dimension, 0, all, 1);
+        no_walk();
     }
 }
 
@@ -163,6 +242,9 @@ void check_worked_numbers(void)
     figure_1();
     no_node_safe();
     older_rule();
+    last_node_drained();
+    one_more_drained();
+    small_drained();
     small_cubes();
     swinging();
     none_and_all();

@@ -1,7 +1,7 @@
 /*
  * The load of kernel/test; a driver needs nothing of it. Whoever writes a number of milliseconds to
  * /proc/hcube_hammer has all stored answers compared again and again for that long, in his own process and
- * with interrupts on, while a timer interrupts every 100 microseconds and compares a pair itself.
+ * with interrupts on, while a timer interrupts every 100 microseconds and compares a pair itself, of each cube in turn.
  */
 #include <linux/atomic.h>
 #include <linux/hrtimer.h>
@@ -22,18 +22,18 @@ static atomic64_t pairs, interrupts, wrong;
 
 struct hammer {
 	struct hrtimer timer;
-	uint32_t pair;
+	uint32_t turn;
 	uint8_t labels[HCUBE_MOST_NODES];
 };
 
 static enum hrtimer_restart interrupted(struct hrtimer *timer)
 {
 	struct hammer *hammer = container_of(timer, struct hammer, timer);
-	const struct hcube_cube *cube = &hcube_stored[0];
-	uint32_t nodes = hcube_nodes(cube);
+	const struct hcube_cube *cube = &hcube_stored[hammer->turn % hcube_stored_count];
+	uint32_t nodes = hcube_nodes(cube), pair = hammer->turn / hcube_stored_count % (nodes * nodes);
 
-	hammer->pair = (hammer->pair + 1) % (nodes * nodes);
-	if (!hcube_pair_is_right(cube, cube->labels, hammer->pair / nodes, hammer->pair % nodes))
+	hammer->turn++;
+	if (!hcube_pair_is_right(cube, cube->labels, pair / nodes, pair % nodes))
 		atomic64_inc(&wrong);
 	atomic64_inc(&interrupts);
 	hrtimer_forward_now(timer, HAMMER_PERIOD);

@@ -39,11 +39,12 @@ bool hcube_labels_are_right(const struct hcube_cube *cube, uint8_t *labels)
 {
 	size_t nodes = hcube_nodes(cube);
 
-	if (!cube->has_faults) {
+	if (!cube->has_tables) {
 		memcpy(labels, cube->labels, nodes);
 		return true;
 	}
 	memset(labels, HCUBE_UNTOUCHED, nodes);
-	return hcube_label(cube->n, cube->rule, cube->faults, cube->faults_len, labels, nodes) == cube->label &&
+	return hcube_label(cube->n, cube->rule, cube->faults, cube->table_len, cube->draining, cube->table_len, labels,
+			   nodes) == cube->label &&
 	       memcmp(labels, cube->labels, nodes) == 0;
 }

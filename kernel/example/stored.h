@@ -20,10 +20,11 @@ struct hcube_cube {
 	const char *name;
 	uint32_t n;
 	uint32_t rule;
-	bool has_faults; /* else its labels are given, and there is nothing to label */
+	bool has_tables; /* else its labels are given, and there is nothing to label */
 	uint32_t label;
 	const uint8_t *faults;
-	size_t faults_len;
+	const uint8_t *draining;
+	size_t table_len; /* of either */
 	const uint8_t *labels;
 	const struct hcube_answer *answers; /* that of source s and destination d at s * (2^n + 1) + d */
 };
