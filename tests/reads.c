@@ -126,26 +126,19 @@ static void expect_pass(void)
     }
 }
 
-/* The last pass tells the ordinarily unsafe nodes and the draining ones. */
-static int is_told(uint32_t x)
-{
-    return out[x] ? !in_table(faults, x) : marked[x] && first_safe(x) < n;
-}
-
-/* It reads each node's own label, and of an unsafe one the neighbours up to the
- * first safe one. A label that it tells is written; another may be once more. */
+/* The last pass: each node's own label, of an unsafe one the neighbours up to the
+ * first safe one, and the label of each that is unsafe or does not work. */
 static void expect_finish(void)
 {
     for (uint32_t x = 0; x < HCUBE_NODES(n); x++) {
         uint32_t safe = first_safe(x);
         expect_access(0, x, "a node of the last pass");
-        if (!out[x] && marked[x])
+        if (!out[x] && !marked[x])
+            continue;
+        if (!out[x])
             expect_neighbours(x, safe < n ? safe + 1 : n,
                               "the test for a safe neighbour");
-        if (is_told(x))
-            expect_access(1, x, "a label of the last pass");
-        else if (at < noted && notes[at].is_write && notes[at].place == x)
-            at++;
+        expect_access(1, x, "a label of the last pass");
     }
 }
 
