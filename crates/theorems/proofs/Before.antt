@@ -1,5 +1,5 @@
 -- Where no node drains, nothing changed. An empty table names no node, so the nodes that do not work are the faulty ones, each with byte 3, and its tests pass.
--- Labels without a 4 let scan 0 take nothing, and none of them is 4 or above exactly where none is above 3.
+-- Labels without a 4 let scan 0 take nothing, and one of them is above 4 exactly where it is above 3.
 use mathlib.Core.Bool.{Bool, true, false, not, _&&_, _||_}
 use mathlib.Core.List.{List, [], _∷_}
 use mathlib.Core.Logic.{_⊎_, inl, inr, ⊎-elim, _≢_}
