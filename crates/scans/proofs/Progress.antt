@@ -46,6 +46,10 @@ module _ (lab : ℕ → ℕ) (d x : ℕ) where
   rank-le = rank-within .1
 
 module _ (n : ℕ) (lab : ℕ → ℕ) (G : Good n lab) (d : ℕ) (hd : d < 2 ^ n) (wd : Receives (lab d)) where
+  -- a pick leads to a node that works, or to the destination
+  abbrev Entered : (x : ℕ) → Type 0
+  Entered x = NotFaulty (lab x) ⊎ (x ≡ d)
+
   -- ---- what scans that take nothing say of the label of c
 
   module _ (c : ℕ) (hc : c < 2 ^ n) where
@@ -103,9 +107,9 @@ module _ (n : ℕ) (lab : ℕ → ℕ) (G : Good n lab) (d : ℕ) (hd : d < 2 ^ 
     spare-falls : (i : ℕ) → i < n → Spare c d i → 1 < dist c d → lab (flip i c) < lab c → rank lab d (flip i c) < rank lab d c
     spare-falls i hi f l w = omega (arith, dist-rise n i c d hc hd hi (agree-apart i c d f), rank-le lab d (flip i c), rank-far lab d c l)
 
-    -- a pick leads to a node that works, or to the destination, and the rank falls
+    -- each pick does, and the rank falls
     falls : 0 < dist c d → {s i : ℕ} → i < n → Hit lab c d s i → ((t : ℕ) → t < s → Misses n lab c d t)
-        → (NotFaulty (lab (flip i c)) ⊎ (flip i c ≡ d)) × (rank lab d (flip i c) < rank lab d c)
+        → Entered (flip i c) × (rank lab d (flip i c) < rank lab d c)
     falls p {s} {i} hi (scan0 e q) m =
         let r = across-one i c d e in
         (inr e, forward-falls i hi (apart-differ i c d (r .0)) (λ l. absurd (omega (arith, r .1))))
@@ -147,9 +151,9 @@ module _ (n : ℕ) (lab : ℕ → ℕ) (G : Good n lab) (d : ℕ) (hd : d < 2 ^ 
   -- every scan leads from c nearer, to a node that works or to the destination
   abbrev Nearer : (c : ℕ) → Type 0
   Nearer c =
-      (s i : ℕ) → i < n → Hit lab c d s i → ((t : ℕ) → t < s → Misses n lab c d t) → Forward c d i × (NotFaulty (lab (flip i c)) ⊎ (flip i c ≡ d))
+      (s i : ℕ) → i < n → Hit lab c d s i → ((t : ℕ) → t < s → Misses n lab c d t) → Forward c d i × Entered (flip i c)
 
-  to-end : (c i : ℕ) → flip i c ≡ d → Forward c d i × (NotFaulty (lab (flip i c)) ⊎ (flip i c ≡ d))
+  to-end : (c i : ℕ) → flip i c ≡ d → Forward c d i × Entered (flip i c)
   to-end c i e = (apart-differ i c d (across-one i c d e .0), inr e)
 
   -- where they do from every node, the distance falls
@@ -163,7 +167,7 @@ module _ (n : ℕ) (lab : ℕ → ℕ) (G : Good n lab) (d : ℕ) (hd : d < 2 ^ 
         stuck = stuck;
       }
     where
-      stepped : (c s i : ℕ) → Inside n lab d c → 0 < dist c d → Picks n lab c d s i → Forward c d i × (NotFaulty (lab (flip i c)) ⊎ (flip i c ≡ d))
+      stepped : (c s i : ℕ) → Inside n lab d c → 0 < dist c d → Picks n lab c d s i → Forward c d i × Entered (flip i c)
       stepped c s i p far k = step c p far s i (k .dimension) (k .hits) (k .earlier)
 
   -- so it is where the destination is safe, and something is always picked;

@@ -35,10 +35,10 @@ use Rattle.theorems.proofs.Walks.{hops-on, not-there}
 
 -- ---- no hop enters a node that is labelled faulty or draining but the destination, whatever the table
 
-abbrev Works : (lab : ℕ → ℕ) (d x : ℕ) → Type 0
-Works lab d x = (lab x ≤ 2) ⊎ (x ≡ d)
+abbrev WorksOrEnds : (lab : ℕ → ℕ) (d x : ℕ) → Type 0
+WorksOrEnds lab d x = (lab x ≤ 2) ⊎ (x ≡ d)
 
-hit-works : {lab : ℕ → ℕ} {c d s i : ℕ} → Hit lab c d s i → Works lab d (flip i c)
+hit-works : {lab : ℕ → ℕ} {c d s i : ℕ} → Hit lab c d s i → WorksOrEnds lab d (flip i c)
 hit-works (scan0 e _) = inr e
 hit-works (scan1 _ e) = inl (omega (arith, e))
 hit-works (scan2 _ l) = inl (omega (arith, l))
@@ -46,13 +46,13 @@ hit-works (scan3 _ l _) = inl l
 hit-works (scan4 _ e) = inl (omega (arith, e))
 hit-works (scan5 _ l) = inl (omega (arith, l))
 
-onto-works : (n : ℕ) (lab : ℕ → ℕ) (c d : ℕ) (x : Decision) → Works lab d c → Picked n lab c d x → Works lab d (onto x c)
+onto-works : (n : ℕ) (lab : ℕ → ℕ) (c d : ℕ) (x : Decision) → WorksOrEnds lab d c → Picked n lab c d x → WorksOrEnds lab d (onto x c)
 unfolding onto
 onto-works n lab c d x h (arrived _) = h
 onto-works n lab c d x h (took _ _ p) = hit-works (p .hits)
 onto-works n lab c d x h (stopped _ _) = h
 
-spot-works : (n : ℕ) (lab : ℕ → ℕ) (d s : ℕ) → Works lab d s → (k : ℕ) → Works lab d (spot (route n lab d) s k)
+spot-works : (n : ℕ) (lab : ℕ → ℕ) (d s : ℕ) → WorksOrEnds lab d s → (k : ℕ) → WorksOrEnds lab d (spot (route n lab d) s k)
 unfolding spot
 spot-works n lab d s h zero = h
 spot-works n lab d s h (suc k) =
@@ -70,7 +70,7 @@ module _ (n s d m room : ℕ) (lab : ℕ → ℕ) (ok : walkRefusal n s d m room
   inside : (k : ℕ) → at k < 2 ^ n
   inside = spot-lt n lab d s (G .placed .first)
 
-  works : (k : ℕ) → Works lab d (at k)
+  works : (k : ℕ) → WorksOrEnds lab d (at k)
   works = spot-works n lab d s (inl (G .source))
 
   -- so 6 is given nowhere on the way
