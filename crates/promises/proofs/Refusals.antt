@@ -169,30 +169,30 @@ module _ (n : ℕ) (lab : ℕ → ℕ) (d s : ℕ) where
   -- where each decision is a hop, the places are the walk's
   same-places : (f : AllHops n lab d s) (k : ℕ) → k ≤ n + 4 → W.spot (W.route n lab d) s k ≡ f .0 k
   unfolding W.turn
-  same-places f zero h = spot-zero n lab d s ∙ sym (f .1)
+  same-places f zero h = spot-zero (W.route n lab d) s ∙ sym (f .1)
   same-places f (suc k) h =
       let e : W.spot (W.route n lab d) s k ≡ f .0 k = same-places f k (omega arith) in
       let q = f .2 k (omega arith) in
-      ap (W.spot (W.route n lab d) s) (sym (add-one k)) ∙ spot-next n lab d s k (q .0) (ap (λ (x : ℕ). H.hop n lab x d) e ∙ q .1) ∙ ap (flip (q .0)) e
+      ap (W.spot (W.route n lab d) s) (sym (add-one k)) ∙ spot-next (W.route n lab d) s k (q .0) (ap (λ (x : ℕ). H.hop n lab x d) e ∙ q .1) ∙ ap (flip (q .0)) e
       ∙ sym (q .2) ∙ ap (f .0) (add-one k)
 
   eight : (not (W.stops (W.last n (W.route n lab d) s)) ≡ true) ↔ AllHops n lab d s
   unfolding W.last W.stops W.turn
-  eight = (λ e. (W.spot (W.route n lab d) s, spot-zero n lab d s, all (not-true _ e)), given)
+  eight = (λ e. (W.spot (W.route n lab d) s, spot-zero (W.route n lab d) s, all (not-true _ e)), given)
     where
       all : W.stops (W.last n (W.route n lab d) s) ≡ false → (k : ℕ) → k ≤ n + 4
           → (i : ℕ) × (W.turn (W.route n lab d) s k ≡ Hop i) × (W.spot (W.route n lab d) s (k + 1) ≡ flip i (W.spot (W.route n lab d) s k))
       all e k h =
           let r = is-hop (W.turn (W.route n lab d) s k)
-          (⊎-elim (λ (q : k ≡ W.hops n (W.route n lab d) s). rw q e) (λ (l : k < W.hops n (W.route n lab d) s). hops-on n lab d s k l) (eq-or-lt-of-le (omega (arith, full)))) in
-          (r .0, r .1, spot-next n lab d s k (r .0) (r .1))
+          (⊎-elim (λ (q : k ≡ W.hops n (W.route n lab d) s). rw q e) (λ (l : k < W.hops n (W.route n lab d) s). hops-on n (W.route n lab d) s k l) (eq-or-lt-of-le (omega (arith, full)))) in
+          (r .0, r .1, spot-next (W.route n lab d) s k (r .0) (r .1))
         where
           full : ¬ (W.hops n (W.route n lab d) s < n + 4)
-          full l = clash (hops-end n lab d s l) e
+          full l = clash (hops-end n (W.route n lab d) s l) e
 
       given : AllHops n lab d s → not (W.stops (W.last n (W.route n lab d) s)) ≡ true
       given f =
-          let h = hops-within n lab d s in
+          let h = hops-within n (W.route n lab d) s in
           let r = f .2 (W.hops n (W.route n lab d) s) h in
           ap (λ x. not (W.stops x)) (ap (λ (x : ℕ). H.hop n lab x d) (same-places f (W.hops n (W.route n lab d) s) h) ∙ r .1)
 

@@ -96,7 +96,7 @@ module _ (K : Cabinet) (T : Table K) (s d : ℕ) (hs : Works K s) (hd : Takes K 
 
   -- the row's places
   place-used : (e : Ending) (k : ℕ) → k ≤ hops n (route n lab d) s → place (ended e) k ≡ spot (route n lab d) s k
-  place-used e = row-used n lab d s (T .small)
+  place-used e = row-used n (route n lab d) s (T .small)
 
   abbrev end-place : (e : Ending) → place (ended e) (hops n (route n lab d) s) ≡ spot (route n lab d) s (hops n (route n lab d) s)
   end-place e = place-used e (hops n (route n lab d) s) (omega arith)
@@ -108,7 +108,7 @@ module _ (K : Cabinet) (T : Table K) (s d : ℕ) (hs : Works K s) (hd : Takes K 
   unfolding turn
   stepped e W =
       record {
-        begins = place-used e 0 (omega arith) ∙ spot-zero n lab d s;
+        begins = place-used e 0 (omega arith) ∙ spot-zero (route n lab d) s;
         steps = λ k h. let r = W .steps k h in (
           r .0,
           r .1,
@@ -121,7 +121,7 @@ module _ (K : Cabinet) (T : Table K) (s d : ℕ) (hs : Works K s) (hd : Takes K 
             let r = W .end in
             rw (end-place e)
             (⊎-elim (λ (l : lab (spot (route n lab d) s (hops n (route n lab d) s)) ≤ 2). inl (works-at _ (r .0) l)) (λ q. inr q) (r .1));
-        unused = row-unused n lab d s;
+        unused = row-unused n (route n lab d) s;
       }
 
   -- a walk that delivers

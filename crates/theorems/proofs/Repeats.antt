@@ -105,12 +105,12 @@ module _ (n s d m room : ℕ) (lab : ℕ → ℕ) (ok : walkRefusal n s d m room
 
   used : (k : ℕ) → k ≤ hops n (route n lab d) s → place w k ≡ at k
   unfolding walkFrom
-  used = row-used n lab d s (G .placed .small)
+  used = row-used n (route n lab d) s (G .placed .small)
 
   steps : (k : ℕ) → k < hops n (route n lab d) s
       → (i : ℕ) × (i < n) × Decides n d m lab (place w k) (Hop i) × (place w (k + 1) ≡ flip i (place w k))
   unfolding turn stops
-  steps k h = go (turn (route n lab d) s k) refl (hops-on n lab d s k h)
+  steps k h = go (turn (route n lab d) s k) refl (hops-on n (route n lab d) s k h)
     where
       go : (x : Decision) → turn (route n lab d) s k ≡ x → stops x ≡ false
           → (i : ℕ) × (i < n) × Decides n d m lab (place w k) (Hop i) × (place w (k + 1) ≡ flip i (place w k))
@@ -120,7 +120,7 @@ module _ (n s d m room : ℕ) (lab : ℕ → ℕ) (ok : walkRefusal n s d m room
         i,
         hop-dim n lab (at k) d i e,
         rw (used k (omega arith)) (decides k (Hop i) e),
-        used (k + 1) (omega arith) ∙ spot-next n lab d s k i e ∙ ap (flip i) (sym (used k (omega arith))),
+        used (k + 1) (omega arith) ∙ spot-next (route n lab d) s k i e ∙ ap (flip i) (sym (used k (omega arith))),
       )
 
   ends : (Decides n d m lab (place w (hops n (route n lab d) s)) Deliver × (endingOf (last n (route n lab d) s) ≡ ending.Delivered))
@@ -141,11 +141,11 @@ module _ (n s d m room : ℕ) (lab : ℕ → ℕ) (ok : walkRefusal n s d m room
   repeats : Repeats n s d m lab (walked n s d m room lab)
   unfolding walked walkFrom
   repeats = rw ok (record {
-    starts = used 0 (omega arith) ∙ spot-zero n lab d s;
+    starts = used 0 (omega arith) ∙ spot-zero (route n lab d) s;
     steps = steps;
     ends = ends;
-    few = hops-within n lab d s;
-    unused = row-unused n lab d s;
+    few = hops-within n (route n lab d) s;
+    unused = row-unused n (route n lab d) s;
     enters = λ k h.
         rw (used k (omega arith)) (⊎-elim (λ (l : lab (at k) ≤ 2). l) (λ (e : at k ≡ d). absurd (not-there n lab d s k h e)) (works k));
     ends-in = rw (used (hops n (route n lab d) s) (omega arith)) (works (hops n (route n lab d) s));

@@ -28,18 +28,18 @@ use Rattle.theorems.proofs.Decision.{picked}
 
 -- ---- any walk: its steps are the decisions' own
 
-module _ (n : ℕ) (lab : ℕ → ℕ) (d s : ℕ) where
-  spot-suc : (k i : ℕ) → turn (route n lab d) s k ≡ Hop i → spot (route n lab d) s (suc k) ≡ flip i (spot (route n lab d) s k)
-  spot-suc k i e = ap (spot (route n lab d) s) (sym (add-one k)) ∙ spot-next n lab d s k i e
+module _ (n : ℕ) (go : ℕ → Decision) (s : ℕ) where
+  spot-suc : (k i : ℕ) → turn go s k ≡ Hop i → spot go s (suc k) ≡ flip i (spot go s k)
+  spot-suc k i e = ap (spot go s) (sym (add-one k)) ∙ spot-next go s k i e
 
-  the-hops : Least (n + 4) (λ k. stops (turn (route n lab d) s k))
-  the-hops = the-least (n + 4) (λ k. stops (turn (route n lab d) s k))
+  the-hops : Least (n + 4) (λ k. stops (turn go s k))
+  the-hops = the-least (n + 4) (λ k. stops (turn go s k))
 
-  pub hops-on : (k : ℕ) → k < hops n (route n lab d) s → stops (turn (route n lab d) s k) ≡ false
+  pub hops-on : (k : ℕ) → k < hops n go s → stops (turn go s k) ≡ false
   unfolding hops
   hops-on = the-hops .before
 
-  pub hops-end : hops n (route n lab d) s < n + 4 → stops (last n (route n lab d) s) ≡ true
+  pub hops-end : hops n go s < n + 4 → stops (last n go s) ≡ true
   unfolding hops last
   hops-end = the-hops .hit
 
@@ -49,7 +49,7 @@ stops-is x e f = ap stops e ∙ f
 -- where the walk goes on, it is not at the destination
 pub not-there : (n : ℕ) (lab : ℕ → ℕ) (d s k : ℕ) → k < hops n (route n lab d) s → spot (route n lab d) s k ≢ d
 unfolding turn stops
-not-there n lab d s k h e = clash (stops-is Deliver (sym (arrives n lab (spot (route n lab d) s k) d e)) refl) (hops-on n lab d s k h)
+not-there n lab d s k h e = clash (stops-is Deliver (sym (arrives n lab (spot (route n lab d) s k) d e)) refl) (hops-on n (route n lab d) s k h)
 
 -- ---- a walk that makes progress
 
@@ -91,17 +91,17 @@ module _ (n : ℕ) (lab : ℕ → ℕ) (d : ℕ) (hd : d < 2 ^ n) (measure : ℕ
   made k h o = go (next n lab d hd measure Stuck P (spot (route n lab d) s k) (o .inside))
     where
       go : Next n lab d hd measure Stuck P (spot (route n lab d) s k) → Made k
-      go (arrive _ e) = absurd (clash (stops-is Deliver e refl) (hops-on n lab d s k h))
-      go (stuck e _) = absurd (clash (stops-is Halted e refl) (hops-on n lab d s k h))
-      go (move i hi e q l) = record { i = i; dim = hi; decided = e; inside = q; falls = l; is = spot-suc n lab d s k i e }
+      go (arrive _ e) = absurd (clash (stops-is Deliver e refl) (hops-on n (route n lab d) s k h))
+      go (stuck e _) = absurd (clash (stops-is Halted e refl) (hops-on n (route n lab d) s k h))
+      go (move i hi e q l) = record { i = i; dim = hi; decided = e; inside = q; falls = l; is = spot-suc n (route n lab d) s k i e }
 
   on : (k : ℕ) → k ≤ hops n (route n lab d) s → On k
   on zero h =
       record {
-        inside = rw (spot-zero n lab d s) ps;
-        room = omega (arith, ap measure (spot-zero n lab d s));
+        inside = rw (spot-zero (route n lab d) s) ps;
+        room = omega (arith, ap measure (spot-zero (route n lab d) s));
         extra = 0;
-        even = omega (arith, ap (λ x. dist x d) (spot-zero n lab d s));
+        even = omega (arith, ap (λ x. dist x d) (spot-zero (route n lab d) s));
       }
   on (suc k) h = go (on k (omega arith)) (made k (omega arith) (on k (omega arith)))
     where
@@ -132,7 +132,7 @@ module _ (n : ℕ) (lab : ℕ → ℕ) (d : ℕ) (hd : d < 2 ^ n) (measure : ℕ
           → ((last n (route n lab d) s ≡ Deliver) × (spot (route n lab d) s (hops n (route n lab d) s) ≡ d)) ⊎ ((last n (route n lab d) s ≡ Halted) × Stuck (spot (route n lab d) s (hops n (route n lab d) s)))
       go (arrive q e) _ = inl (e, q)
       go (stuck e q) _ = inr (e, q)
-      go (move i hi e q l) (inl a) = absurd (clash (hops-end n lab d s (ltb-true (hops n (route n lab d) s) (n + 4) a)) (stops-is (Hop i) e refl))
+      go (move i hi e q l) (inl a) = absurd (clash (hops-end n (route n lab d) s (ltb-true (hops n (route n lab d) s) (n + 4) a)) (stops-is (Hop i) e refl))
       go (move i hi e q l) (inr a) = absurd (omega (arith, o .room, ltb-false (hops n (route n lab d) s) (n + 4) a))
 
 -- ---- the theorems

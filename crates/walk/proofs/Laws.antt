@@ -8,7 +8,7 @@ use Rattle.walk.proofs.Steps.{spot-next}
 
 one-on : (n : ℕ) (lab : ℕ → ℕ) (d s k i : ℕ) → turn (route n lab d) s k ≡ Hop i → moved (messageAfter n lab d s k) i ≡ messageAfter n lab d s (k + 1)
 unfolding moved
-one-on n lab d s k i e = ap (λ (x : ℕ). record { at = x; to = d; hops = k + 1 }) (sym (spot-next n lab d s k i e))
+one-on n lab d s k i e = ap (λ (x : ℕ). record { at = x; to = d; hops = k + 1 }) (sym (spot-next (route n lab d) s k i e))
 
 pub message-laws : MessageLaws
 unfolding moved

@@ -91,4 +91,4 @@ module _ (n s d m room : ℕ) (lab : ℕ → ℕ) where
   unfolding walked walkFrom refused
   hops-few =
       by-cases (λ (w : Walked). w .hops ≤ 16) (eqb (walkRefusal n s d m room lab) 0)
-      (λ e. omega (arith, walk-good (eqb-true _ _ e) .placed .small, hops-within n lab d s)) (λ _. omega arith)
+      (λ e. omega (arith, walk-good (eqb-true _ _ e) .placed .small, hops-within n (route n lab d) s)) (λ _. omega arith)

@@ -31,31 +31,32 @@ pub record Walking (n : ℕ) (lab : ℕ → ℕ) (d s : ℕ) (places : List ℕ)
   pub going : (j : ℕ) → j < m .hops → stops (turn (route n lab d) s j) ≡ false
   pub written : places ≡ front (spot (route n lab d) s) (m .hops + 1) (replicate 17 0)
 
-module _ (n : ℕ) (lab : ℕ → ℕ) (d s : ℕ) where
-  pub spot-zero : spot (route n lab d) s 0 ≡ s
+module _ (go : ℕ → Decision) (s : ℕ) where
+  pub spot-zero : spot go s 0 ≡ s
   unfolding spot
   spot-zero = refl
 
   -- the node one hop on
-  pub spot-next : (k i : ℕ) → turn (route n lab d) s k ≡ Hop i → spot (route n lab d) s (k + 1) ≡ flip i (spot (route n lab d) s k)
+  pub spot-next : (k i : ℕ) → turn go s k ≡ Hop i → spot go s (k + 1) ≡ flip i (spot go s k)
   unfolding spot turn onto
-  spot-next k i e = ap (spot (route n lab d) s) (add-one k) ∙ ap (λ x. onto x (spot (route n lab d) s k)) e
+  spot-next k i e = ap (spot go s) (add-one k) ∙ ap (λ x. onto x (spot go s k)) e
 
-  pub hops-within : hops n (route n lab d) s ≤ n + 4
-  unfolding hops
-  hops-within = the-least (n + 4) (λ k. stops (turn (route n lab d) s k)) .within
+pub hops-within : (n : ℕ) (go : ℕ → Decision) (s : ℕ) → hops n go s ≤ n + 4
+unfolding hops
+hops-within n go s = the-least (n + 4) (λ k. stops (turn go s k)) .within
 
+module _ (n : ℕ) (lab : ℕ → ℕ) (d s : ℕ) where
   pub start : s < 2 ^ n → Walking n lab d s (set (replicate 17 0) 0 s) (record { at = s; to = d; hops = 0 })
   start h =
       record {
         few = omega arith;
         inside = h;
         towards = refl;
-        here = spot-zero;
+        here = spot-zero (route n lab d) s;
         going = λ j l. absurd (omega arith);
         written =
             front-write (spot (route n lab d) s) 0 (replicate 17 0) (replicate 17 0) s (omega arith) (front-zero (spot (route n lab d) s) (replicate 17 0))
-            (sym spot-zero);
+            (sym (spot-zero (route n lab d) s));
       }
 
   module _ (places : List ℕ) (m : Message) (w : Walking n lab d s places m) where
@@ -77,7 +78,7 @@ module _ (n : ℕ) (lab : ℕ → ℕ) (d s : ℕ) where
       counted m′ em = ap (λ (q : Message). q .hops) em
 
       next-spot : spot (route n lab d) s (m .hops + 1) ≡ flip i (m .at)
-      next-spot = spot-next (m .hops) i (turn-is (Hop i) e) ∙ ap (flip i) (w .here)
+      next-spot = spot-next (route n lab d) s (m .hops) i (turn-is (Hop i) e) ∙ ap (flip i) (w .here)
 
       goes-on : stops (turn (route n lab d) s (m .hops)) ≡ false
       unfolding stops
