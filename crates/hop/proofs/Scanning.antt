@@ -54,8 +54,10 @@ module _ (n c d own : ℕ) (near : ℕ → ℕ) where
   suits-last i t =
       let a = and-true (eqb (dist c d) 1) (Bool·beq (apart i c d) true && (leb 4 (near i) && leb (near i) 4)) t in
       let b = and-true (Bool·beq (apart i c d) true) (leb 4 (near i) && leb (near i) 4) (a .1) in
-      let l = and-true (leb 4 (near i)) (leb (near i) 4) (b .1) in
-      (one-across i c d (beq-true (apart i c d) true (b .0)) (eqb-true (dist c d) 1 (a .0)), omega (arith, leb-true 4 (near i) (l .0), leb-true (near i) 4 (l .1)))
+      let l = and-true (leb 4 (near i)) (leb (near i) 4) (b .1) in (
+        one-across i c d (beq-true (apart i c d) true (b .0)) (eqb-true (dist c d) 1 (a .0)),
+        omega (arith, leb-true 4 (near i) (l .0), leb-true (near i) 4 (l .1)),
+      )
 
   module _ (i : ℕ) (f : LowestOf n (bitXor c d) i) where
     pub last-taken : flip i c ≡ d → near i ≡ 4 → i ≡ lowest n c d own near 0

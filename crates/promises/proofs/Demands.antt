@@ -8,7 +8,7 @@ use lib.ListN.{length, replicate}
 use Rattle.cube.specs.Cube.{dist, flip}
 use Rattle.cube.specs.Tables.{labelIn}
 use Rattle.cube.proofs.Bools.{is-false}
-use Rattle.rule.specs.Cabinet.{Cabinet, cabinet, exchangesOf, labelsOf}
+use Rattle.rule.specs.Cabinet.{Cabinet, byRule, cabinet, exchangesOf, labelsOf}
 use Rattle.notice.specs.Laws.{TableOf}
 use Rattle.notice.specs.Notice as N
 use Rattle.notice.specs.declared.Noticed.the-variants as noticed
@@ -72,7 +72,8 @@ module _ (lib : Library) (F : Faithful lib) where
 
   notice-labels :
       {bytes faults draining before after old : List ℕ} {n rule m taken : ℕ} {x : Labelled} → lib .reads bytes old (noticed.Notice n m taken) faults
-      → Rule rule → TableLength n (length draining) → ¬ (Unused n draining) → length before ≡ 2 ^ n → lib .labels (cabinet n rule faults draining) before x after → (exchanges : ℕ) × (x ≡ labelled.Exchanges exchanges)
+      → Rule rule → TableLength n (length draining) → ¬ (Unused n draining) → length before ≡ 2 ^ n
+      → lib .labels (cabinet n rule faults draining) before x after → (exchanges : ℕ) × (x ≡ labelled.Exchanges exchanges)
   notice-labels {bytes} {faults} {draining} {before} {after} {old} {n} {rule} {m} {taken} {x} r k sized used long l =
       let f = F .reads r in
       let d = notice-laws .accepted bytes old n m taken (sym (f .0)) .dimension in
@@ -99,44 +100,44 @@ module _ (lib : Library) (F : Faithful lib) where
 
   -- ---- the two rules
 
-  moved : {n e e′ : ℕ} {faults draining before before′ old new : List ℕ} → lib .labels (cabinet n 2 faults draining) before (labelled.Exchanges e) old
-      → lib .labels (cabinet n 3 faults draining) before′ (labelled.Exchanges e′) new → OnlyBetter n (labelIn old) (labelIn new)
-  moved {n} {e} {e′} {faults} {draining} {before} {before′} {old} {new} a b =
-      subst (λ (t : List ℕ). OnlyBetter n (labelIn t) (labelIn new)) (left a .bytes)
-      (subst (λ (t : List ℕ). OnlyBetter n (labelAt (cabinet n 2 faults draining)) (labelIn t)) (left b .bytes) (two-rules .better n faults draining))
+  moved : (K : Cabinet) {e e′ : ℕ} {before before′ old new : List ℕ} → lib .labels (byRule 2 K) before (labelled.Exchanges e) old
+      → lib .labels (byRule 3 K) before′ (labelled.Exchanges e′) new → OnlyBetter (K .n) (labelIn old) (labelIn new)
+  moved K {e} {e′} {before} {before′} {old} {new} a b =
+      subst (λ (t : List ℕ). OnlyBetter (K .n) (labelIn t) (labelIn new)) (left a .bytes)
+      (subst (λ (t : List ℕ). OnlyBetter (K .n) (labelAt (byRule 2 K)) (labelIn t)) (left b .bytes) (two-rules .better K))
 
-  moved-walks : {n e e′ s d : ℕ} {faults draining before before′ old new : List ℕ} {w : Walked} → lib .labels (cabinet n 2 faults draining) before (labelled.Exchanges e) old
-      → lib .labels (cabinet n 3 faults draining) before′ (labelled.Exchanges e′) new → SomeSafe n (labelIn old) → Works (cabinet n 3 faults draining) s
-      → Takes (cabinet n 3 faults draining) d → lib .walks n s d new W.rowBytes w → (w .ending ≡ ending.Delivered) × (w .hops ≤ dist s d + more (labelIn old) s d)
-  moved-walks {n} {e} {e′} {s} {d} {faults} {draining} {before} {before′} {old} {new} {w} a b some hs hd v =
-      let m = moved a b in
+  moved-walks : (K : Cabinet) {e e′ s d : ℕ} {before before′ old new : List ℕ} {w : Walked} → lib .labels (byRule 2 K) before (labelled.Exchanges e) old
+      → lib .labels (byRule 3 K) before′ (labelled.Exchanges e′) new → SomeSafe (K .n) (labelIn old) → Works K s
+      → Takes K d → lib .walks (K .n) s d new W.rowBytes w → (w .ending ≡ ending.Delivered) × (w .hops ≤ dist s d + more (labelIn old) s d)
+  moved-walks K {e} {e′} {s} {d} {before} {before′} {old} {new} {w} a b some hs hd v =
+      let m = moved K a b in
       let W = walks b hs hd v in
-      let still : SomeSafe n (labelIn new) = (some .0, some .1, m .safe-stays (some .0) (some .1) (some .2)) in (
+      let still : SomeSafe (K .n) (labelIn new) = (some .0, some .1, m .safe-stays (some .0) (some .1) (some .2)) in (
         W .arrives still .ending,
-        omega (arith, two-rules .bound (cabinet n 3 faults draining) (labelIn new) s d w W still, m .bound-falls s d (hs .0) (hd .0)),
+        omega (arith, two-rules .bound (byRule 3 K) (labelIn new) s d w W still, m .bound-falls s d (hs .0) (hd .0)),
       )
 
-  still-arrives : {n e e′ s d : ℕ} {faults draining before before′ old new : List ℕ} {v w : Walked} → lib .labels (cabinet n 2 faults draining) before (labelled.Exchanges e) old
-      → lib .labels (cabinet n 3 faults draining) before′ (labelled.Exchanges e′) new → Works (cabinet n 3 faults draining) s → Takes (cabinet n 3 faults draining) d
-      → lib .walks n s d old W.rowBytes v → lib .walks n s d new W.rowBytes w → v .ending ≡ ending.Delivered → w .ending ≡ ending.Delivered
-  still-arrives {n} {e} {e′} {s} {d} {faults} {draining} {before} {before′} {old} {new} {v} {w} a b hs hd p q f =
+  still-arrives : (K : Cabinet) {e e′ s d : ℕ} {before before′ old new : List ℕ} {v w : Walked} → lib .labels (byRule 2 K) before (labelled.Exchanges e) old
+      → lib .labels (byRule 3 K) before′ (labelled.Exchanges e′) new → Works K s → Takes K d
+      → lib .walks (K .n) s d old W.rowBytes v → lib .walks (K .n) s d new W.rowBytes w → v .ending ≡ ending.Delivered → w .ending ≡ ending.Delivered
+  still-arrives K {e} {e′} {s} {d} {before} {before′} {old} {new} {v} {w} a b hs hd p q f =
       let was = is-walk a p in
       let is = is-walk b q in
       ap (λ (u : Walked). u .ending) is
-      ∙ two-rules .still-delivered n faults draining (left b .accepted) s d hs hd (ap (λ (u : Walked). u .ending) (sym was) ∙ f)
+      ∙ two-rules .still-delivered K (left b .accepted) s d hs hd (ap (λ (u : Walked). u .ending) (sym was) ∙ f)
 
-  none-strong : {n e : ℕ} {faults draining before table : List ℕ} → lib .labels (cabinet n 2 faults draining) before (labelled.Exchanges e) table
-      → NoneStrong (cabinet n 2 faults draining) (labelIn table)
-  none-strong {n} {e} {faults} {draining} a =
-      subst (λ (t : List ℕ). NoneStrong (cabinet n 2 faults draining) (labelIn t)) (left a .bytes) (two-rules .none-strong n faults draining)
+  none-strong : (K : Cabinet) {e : ℕ} {before table : List ℕ} → lib .labels (byRule 2 K) before (labelled.Exchanges e) table
+      → NoneStrong (byRule 2 K) (labelIn table)
+  none-strong K a =
+      subst (λ (t : List ℕ). NoneStrong (byRule 2 K) (labelIn t)) (left a .bytes) (two-rules .none-strong K)
 
-  two-more : {n e s d : ℕ} {faults draining before table : List ℕ} {w : Walked} → lib .labels (cabinet n 2 faults draining) before (labelled.Exchanges e) table
-      → SomeSafe n (labelIn table) → Works (cabinet n 2 faults draining) s → Takes (cabinet n 2 faults draining) d → lib .walks n s d table W.rowBytes w
+  two-more : (K : Cabinet) {e s d : ℕ} {before table : List ℕ} {w : Walked} → lib .labels (byRule 2 K) before (labelled.Exchanges e) table
+      → SomeSafe (K .n) (labelIn table) → Works K s → Takes K d → lib .walks (K .n) s d table W.rowBytes w
       → w .hops ≤ dist s d + 2
-  two-more {n} {e} {s} {d} {faults} a some hs hd v =
+  two-more K {e} {s} {d} a some hs hd v =
       let W = walks a hs hd v in
       let k = W .even (W .arrives some .ending) in
-      omega (arith, none-strong a some s hs, k .1, k .2)
+      omega (arith, none-strong K a some s hs, k .1, k .2)
 
   -- ---- a walk that is refused, and one that is not, on any table
 

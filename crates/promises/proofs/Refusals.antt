@@ -184,7 +184,7 @@ module _ (n : ℕ) (lab : ℕ → ℕ) (d s : ℕ) where
           → (i : ℕ) × (W.turn (W.route n lab d) s k ≡ Hop i) × (W.spot (W.route n lab d) s (k + 1) ≡ flip i (W.spot (W.route n lab d) s k))
       all e k h =
           let r = is-hop (W.turn (W.route n lab d) s k)
-          (⊎-elim (λ (q : k ≡ W.hops n (W.route n lab d) s). rw q e) (λ (l : k < W.hops n (W.route n lab d) s). hops-on n (W.route n lab d) s k l) (eq-or-lt-of-le (omega (arith, full)))) in
+          (⊎-elim (λ (q : k ≡ W.hops n (W.route n lab d) s). rw q e) (λ l. hops-on n (W.route n lab d) s k l) (eq-or-lt-of-le (omega (arith, full)))) in
           (r .0, r .1, spot-next (W.route n lab d) s k (r .0) (r .1))
         where
           full : ¬ (W.hops n (W.route n lab d) s < n + 4)

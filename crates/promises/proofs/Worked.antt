@@ -66,9 +66,9 @@ module _ (K : Cabinet) (m : ℕ) (accepted : labelRefusal K m ≡ 0) where
   all-faulty f = answered K m accepted ∙ ap Exchanges (exchanged (K .n) (K .rule) (out K) .none-works f)
 
 pub worked : Worked
-unfolding those visited walked walkRefusal walkFrom refused first row last hops turn spot stops onto hopped hopRefusal hop decide answer firstScan lowest takes suits apart dist
-    ones labelIn tab isDimension isRule tableLen unusedSet nodeBit bit flip some least count labelled labelRefusal exchangesOf exchanges labelsOf label labelOf safe
-    rounds working quiet newly meets marked
+unfolding those visited walked walkRefusal walkFrom refused first row last hops turn spot stops onto hopped hopRefusal hop decide answer firstScan lowest
+    takes suits apart dist ones labelIn tab isDimension isRule tableLen unusedSet nodeBit bit flip some least count labelled labelRefusal exchangesOf
+    exchanges labelsOf label labelOf safe rounds working quiet newly meets marked
 worked =
     record {
       table-bytes = refl;

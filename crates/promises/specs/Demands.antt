@@ -7,7 +7,7 @@ use Prim.Native.Nat.{ℕ, _+_, _^_, _≤_, _<_}
 use lib.ListN.{length, replicate}
 use Rattle.cube.specs.Cube.{dist, flip}
 use Rattle.cube.specs.Tables.{emptyTable, labelIn}
-use Rattle.rule.specs.Cabinet.{Cabinet, cabinet, labelsOf}
+use Rattle.rule.specs.Cabinet.{Cabinet, byRule, cabinet, labelsOf}
 use Rattle.notice.specs.Laws.{ReadNotice, TableOf}
 use Rattle.notice.specs.Notice as N
 use Rattle.notice.specs.declared.Noticed.{Noticed}
@@ -75,7 +75,8 @@ pub record Demands (lib : Library) : Type 0 where
   -- labelling accepts the table that an accepted notice left, by either rule, with any table of draining nodes that is in order
   pub notice-labels :
       {bytes faults draining before after old : List ℕ} {n rule m taken : ℕ} {x : Labelled} → lib .reads bytes old (noticed.Notice n m taken) faults
-      → Rule rule → TableLength n (length draining) → ¬ (Unused n draining) → length before ≡ 2 ^ n → lib .labels (cabinet n rule faults draining) before x after → (exchanges : ℕ) × (x ≡ labelled.Exchanges exchanges)
+      → Rule rule → TableLength n (length draining) → ¬ (Unused n draining) → length before ≡ 2 ^ n
+      → lib .labels (cabinet n rule faults draining) before x after → (exchanges : ℕ) × (x ≡ labelled.Exchanges exchanges)
   -- with the labels that labelling left, from a working node to one that works or drains
   pub walks :
       {K : Cabinet} {before table : List ℕ} {exchanges s d : ℕ} {w : Walked} → lib .labels K before (labelled.Exchanges exchanges) table → Works K s → Takes K d
@@ -108,27 +109,27 @@ pub record Demands (lib : Library) : Type 0 where
 
   -- a site moves from rule 2 to rule 3: its labels only get better,
   pub moved :
-      {n e e′ : ℕ} {faults draining before before′ old new : List ℕ} → lib .labels (cabinet n 2 faults draining) before (labelled.Exchanges e) old
-      → lib .labels (cabinet n 3 faults draining) before′ (labelled.Exchanges e′) new → OnlyBetter n (labelIn old) (labelIn new)
+      (K : Cabinet) {e e′ : ℕ} {before before′ old new : List ℕ} → lib .labels (byRule 2 K) before (labelled.Exchanges e) old
+      → lib .labels (byRule 3 K) before′ (labelled.Exchanges e′) new → OnlyBetter (K .n) (labelIn old) (labelIn new)
   -- and a walk with the new labels arrives within the bound that the old ones gave it
   pub moved-walks :
-      {n e e′ s d : ℕ} {faults draining before before′ old new : List ℕ} {w : Walked} → lib .labels (cabinet n 2 faults draining) before (labelled.Exchanges e) old
-      → lib .labels (cabinet n 3 faults draining) before′ (labelled.Exchanges e′) new → SomeSafe n (labelIn old)
-      → Works (cabinet n 3 faults draining) s → Takes (cabinet n 3 faults draining) d → lib .walks n s d new W.rowBytes w
+      (K : Cabinet) {e e′ s d : ℕ} {before before′ old new : List ℕ} {w : Walked} → lib .labels (byRule 2 K) before (labelled.Exchanges e) old
+      → lib .labels (byRule 3 K) before′ (labelled.Exchanges e′) new → SomeSafe (K .n) (labelIn old)
+      → Works K s → Takes K d → lib .walks (K .n) s d new W.rowBytes w
       → (w .ending ≡ ending.Delivered) × (w .hops ≤ dist s d + more (labelIn old) s d)
   -- anywhere, a frame that arrived with the old labels arrives with the new
   pub still-arrives :
-      {n e e′ s d : ℕ} {faults draining before before′ old new : List ℕ} {v w : Walked} → lib .labels (cabinet n 2 faults draining) before (labelled.Exchanges e) old
-      → lib .labels (cabinet n 3 faults draining) before′ (labelled.Exchanges e′) new → Works (cabinet n 3 faults draining) s → Takes (cabinet n 3 faults draining) d
-      → lib .walks n s d old W.rowBytes v → lib .walks n s d new W.rowBytes w → v .ending ≡ ending.Delivered → w .ending ≡ ending.Delivered
+      (K : Cabinet) {e e′ s d : ℕ} {before before′ old new : List ℕ} {v w : Walked} → lib .labels (byRule 2 K) before (labelled.Exchanges e) old
+      → lib .labels (byRule 3 K) before′ (labelled.Exchanges e′) new → Works K s → Takes K d
+      → lib .walks (K .n) s d old W.rowBytes v → lib .walks (K .n) s d new W.rowBytes w → v .ending ≡ ending.Delivered → w .ending ≡ ending.Delivered
   -- with rule 2, where some node is safe no working node is strongly unsafe,
   pub none-strong :
-      {n e : ℕ} {faults draining before table : List ℕ} → lib .labels (cabinet n 2 faults draining) before (labelled.Exchanges e) table
-      → NoneStrong (cabinet n 2 faults draining) (labelIn table)
+      (K : Cabinet) {e : ℕ} {before table : List ℕ} → lib .labels (byRule 2 K) before (labelled.Exchanges e) table
+      → NoneStrong (byRule 2 K) (labelIn table)
   -- so there no walk is longer than the distance and two more
   pub two-more :
-      {n e s d : ℕ} {faults draining before table : List ℕ} {w : Walked} → lib .labels (cabinet n 2 faults draining) before (labelled.Exchanges e) table
-      → SomeSafe n (labelIn table) → Works (cabinet n 2 faults draining) s → Takes (cabinet n 2 faults draining) d → lib .walks n s d table W.rowBytes w
+      (K : Cabinet) {e s d : ℕ} {before table : List ℕ} {w : Walked} → lib .labels (byRule 2 K) before (labelled.Exchanges e) table
+      → SomeSafe (K .n) (labelIn table) → Works K s → Takes K d → lib .walks (K .n) s d table W.rowBytes w
       → w .hops ≤ dist s d + 2
   -- ---- boards without draining nodes (document 02, A4): every answer is what it was
 

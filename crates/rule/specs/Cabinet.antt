@@ -20,6 +20,10 @@ pub record Cabinet : Type 0 where
 abbrev pub cabinet : (n rule : ℕ) (faults draining : List ℕ) → Cabinet
 cabinet n rule faults draining = record { n = n; rule = rule; faults = faults; draining = draining }
 
+-- the same cabinet by the rule k
+abbrev pub byRule : (k : ℕ) → Cabinet → Cabinet
+byRule k K = cabinet (K .n) k (K .faults) (K .draining)
+
 -- there are two rules (document 02, A13): 2, that of Lee and Hayes, and 3, document 01's
 unfoldable pub isRule : (k : ℕ) → Bool
 isRule k = leb 2 k && leb k 3

@@ -31,7 +31,7 @@ use Rattle.theorems.specs.Demand3.{Stepped, Arrives, Stuck, Walks, Deman
 use Rattle.theorems.specs.Words.{Accepted, Takes, Works, labelAt, SomeSafe, walkOf, place}
 use Rattle.theorems.proofs.Demand2.{out-label, receives, works}
 use Rattle.theorems.proofs.Places.{row-unused, row-used}
-use Rattle.theorems.proofs.Walks.{Kept, Delivers, Halts, delivers, delivers-safe, delivers-or-halts}
+use Rattle.theorems.proofs.Walks.{endOf, Kept, Delivers, Halts, delivers, delivers-safe, delivers-or-halts}
 
 -- what is known of the label bytes of an accepted table
 record Table (K : Cabinet) : Type 0 where
@@ -98,7 +98,7 @@ module _ (K : Cabinet) (T : Table K) (s d : ℕ) (hs : Works K s) (hd : Takes K 
   place-used : (e : Ending) (k : ℕ) → k ≤ hops n (route n lab d) s → place (ended e) k ≡ spot (route n lab d) s k
   place-used e = row-used n (route n lab d) s (T .small)
 
-  abbrev end-place : (e : Ending) → place (ended e) (hops n (route n lab d) s) ≡ spot (route n lab d) s (hops n (route n lab d) s)
+  abbrev end-place : (e : Ending) → place (ended e) (hops n (route n lab d) s) ≡ endOf n lab d s
   end-place e = place-used e (hops n (route n lab d) s) (omega arith)
 
   works-at : (x : ℕ) → x < 2 ^ n → lab x ≤ 2 → Works K x
@@ -120,7 +120,7 @@ module _ (K : Cabinet) (T : Table K) (s d : ℕ) (hs : Works K s) (hd : Takes K 
         last-works =
             let r = W .end in
             rw (end-place e)
-            (⊎-elim (λ (l : lab (spot (route n lab d) s (hops n (route n lab d) s)) ≤ 2). inl (works-at _ (r .0) l)) (λ q. inr q) (r .1));
+            (⊎-elim (λ (l : lab (endOf n lab d s) ≤ 2). inl (works-at _ (r .0) l)) (λ q. inr q) (r .1));
         unused = row-unused n (route n lab d) s;
       }
 
@@ -156,10 +156,10 @@ module _ (K : Cabinet) (T : Table K) (s d : ℕ) (hs : Works K s) (hd : Takes K 
     halted-stuck =
         rw is-halted (record { ending = refl; decided = rw (end-place ending.Halted) (H .ended); why = rw (end-place ending.Halted) why })
       where
-        why : (i : ℕ) → i < n → apart i (spot (route n lab d) s (hops n (route n lab d) s)) d ≡ true → out K (flip i (spot (route n lab d) s (hops n (route n lab d) s))) ≡ true
+        why : (i : ℕ) → i < n → apart i (endOf n lab d s) d ≡ true → out K (flip i (endOf n lab d s)) ≡ true
         why i h a =
-            let x = flip i (spot (route n lab d) s (hops n (route n lab d) s)) in
-            let l : x < 2 ^ n = flip-lt n i (spot (route n lab d) s (hops n (route n lab d) s)) h (H .kept .end .0) in
+            let x = flip i (endOf n lab d s) in
+            let l : x < 2 ^ n = flip-lt n i (endOf n lab d s) h (H .kept .end .0) in
             ⊎-elim (λ (t : out K x ≡ true). t) (λ (t : out K x ≡ false). absurd (omega (arith, H .why i h a, T .working x l t)))
             (either (out K x))
 

@@ -1,6 +1,6 @@
 -- A walk that is not refused repeats the hop question. It stays in the cube, and no scan hits a faulty or draining neighbour but scan 0, which hits the
--- destination: so it stays off labels 3 and 4, as its source is, but for a destination that drains; all labels are in order, so the question is refused nowhere on
--- the way, and its decision is the walk's own.
+-- destination: so it stays off labels 3 and 4, as its source is, but for a destination that drains; all labels are in order, so the question is refused
+-- nowhere on the way, and its decision is the walk's own.
 use mathlib.Core.Path.{_≡_, refl, sym, ap, _∙_}
 use mathlib.Core.Logic.{_⊎_, inl, inr, ⊎-elim}
 use mathlib.Core.Bool.{true, false, not, _&&_, and-false}

@@ -2,7 +2,6 @@
 -- node safe, rule 2 leaves none either, and both label every working node strongly unsafe: there the walks are the same.
 use mathlib.Core.Logic.{_⊎_, inl, inr, ⊎-elim}
 use mathlib.Core.Bool.{true, false}
-use mathlib.Core.List.{List}
 use mathlib.Core.Path.{_≡_, sym, ap, _∙_}
 use Prim.Native.Nat.{ℕ, _+_, _^_, _≤_, _<_}
 use native.Mathlib.Omega.{arith}
@@ -12,7 +11,7 @@ use Rattle.cube.specs.Cube.{dist, flip}
 use Rattle.cube.proofs.Bools.{either, is-false}
 use Rattle.cube.proofs.Cube.{flip-lt}
 use Rattle.cube.proofs.Search.{find}
-use Rattle.rule.specs.Cabinet.{Cabinet, cabinet, out, outByte}
+use Rattle.rule.specs.Cabinet.{Cabinet, byRule, out, outByte}
 use Rattle.rule.proofs.Cabinet.{label-in, labels-length}
 use Rattle.rule.proofs.Rules.{rules}
 use Rattle.walk.specs.Walk.{rowBytes, walked}
@@ -46,12 +45,15 @@ within K lab s d w W some =
     (λ (a : eqb (lab d) 0 ≡ false). let e = W .even (W .arrives some .ending) in rw a (omega (arith, e .1, e .2)))
     (either (eqb (lab d) 0))
 
-module _ (n : ℕ) (faults draining : List ℕ) where
+module _ (K : Cabinet) where
+  abbrev n : ℕ
+  n = K .n
+
   abbrev old : Cabinet
-  old = cabinet n 2 faults draining
+  old = byRule 2 K
 
   abbrev new : Cabinet
-  new = cabinet n 3 faults draining
+  new = byRule 3 K
 
   falls : (x : ℕ) → x < 2 ^ n → labelAt new x ≤ labelAt old x
   falls x h = omega (arith, label-in old x h, label-in new x h, rules n (out new) .label-falls 2 3 (omega arith) (outByte new) x h)
@@ -74,7 +76,7 @@ module _ (n : ℕ) (faults draining : List ℕ) where
         ap (λ (m : ℕ). walked n s d m rowBytes (labelAt old)) (labels-length old ∙ sym (labels-length new))
         ∙ walk-local n s d _ rowBytes (labelAt old) (labelAt new) same-labels
 
-  still-delivered : Accepted new → (s d : ℕ) → Works new s → Takes new d → walkOf old s d .ending ≡ Delivered → walkOf new s d .ending ≡ Delivered
+  still-delivered : Accepted new → (s d : ℕ) → Works K s → Takes K d → walkOf old s d .ending ≡ Delivered → walkOf new s d .ending ≡ Delivered
   still-delivered ok s d hs hd e = go (find (2 ^ n) (λ x. eqb (labelAt new x) 0))
     where
       go : ((x : ℕ) × (x < 2 ^ n) × (eqb (labelAt new x) 0 ≡ true)) ⊎ ((x : ℕ) → x < 2 ^ n → eqb (labelAt new x) 0 ≡ false)
@@ -85,14 +87,12 @@ module _ (n : ℕ) (faults draining : List ℕ) where
 pub two-rules : TwoRules
 two-rules =
     record {
-      better = λ n f e. better n (labelAt (old n f e)) (labelAt (new n f e)) (falls n f e);
-      still-delivered = λ n f e ok s d hs hd z. still-delivered n f e ok s d hs hd z;
-      none-strong = λ n f e some x w.
-          let K = old n f e in
-          omega (
-            arith,
-            label-in K x (w .0),
-            rules n (out K) .none-strong (some .0) (some .1) (zero-is K (some .0) (some .1) (some .2)) (outByte K) x (w .0) (w .1),
-          );
+      better = λ K. better (K .n) (labelAt (old K)) (labelAt (new K)) (falls K);
+      still-delivered = still-delivered;
+      none-strong = λ K some x w. omega (
+        arith,
+        label-in (old K) x (w .0),
+        rules (K .n) (out K) .none-strong (some .0) (some .1) (zero-is (old K) (some .0) (some .1) (some .2)) (outByte K) x (w .0) (w .1),
+      );
       bound = within;
     }

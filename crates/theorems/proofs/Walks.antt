@@ -46,6 +46,10 @@ module _ (n : ℕ) (go : ℕ → Decision) (s : ℕ) where
 stops-is : {h : Decision} {b : Bool} (x : Decision) → h ≡ x → stops x ≡ b → stops h ≡ b
 stops-is x e f = ap stops e ∙ f
 
+-- the node after its last hop
+abbrev pub endOf : (n : ℕ) (lab : ℕ → ℕ) (d s : ℕ) → ℕ
+endOf n lab d s = spot (route n lab d) s (hops n (route n lab d) s)
+
 -- where the walk goes on, it is not at the destination
 pub not-there : (n : ℕ) (lab : ℕ → ℕ) (d s k : ℕ) → k < hops n (route n lab d) s → spot (route n lab d) s k ≢ d
 unfolding turn stops
@@ -120,16 +124,16 @@ module _ (n : ℕ) (lab : ℕ → ℕ) (d : ℕ) (hd : d < 2 ^ n) (measure : ℕ
               (suc (o .extra), omega (arith, o .even, ap (λ x. dist x d) (r .is)))
 
   -- how it ends
-  end : ((last n (route n lab d) s ≡ Deliver) × (spot (route n lab d) s (hops n (route n lab d) s) ≡ d)) ⊎ ((last n (route n lab d) s ≡ Halted) × Stuck (spot (route n lab d) s (hops n (route n lab d) s)))
+  end : ((last n (route n lab d) s ≡ Deliver) × (endOf n lab d s ≡ d)) ⊎ ((last n (route n lab d) s ≡ Halted) × Stuck (endOf n lab d s))
   unfolding last turn stops
-  end = go (next n lab d hd measure Stuck P (spot (route n lab d) s (hops n (route n lab d) s)) (o .inside)) (either (ltb (hops n (route n lab d) s) (n + 4)))
+  end = go (next n lab d hd measure Stuck P (endOf n lab d s) (o .inside)) (either (ltb (hops n (route n lab d) s) (n + 4)))
     where
       o : On (hops n (route n lab d) s)
       o = on (hops n (route n lab d) s) (omega arith)
 
-      go : Next n lab d hd measure Stuck P (spot (route n lab d) s (hops n (route n lab d) s))
+      go : Next n lab d hd measure Stuck P (endOf n lab d s)
           → (ltb (hops n (route n lab d) s) (n + 4) ≡ true) ⊎ (ltb (hops n (route n lab d) s) (n + 4) ≡ false)
-          → ((last n (route n lab d) s ≡ Deliver) × (spot (route n lab d) s (hops n (route n lab d) s) ≡ d)) ⊎ ((last n (route n lab d) s ≡ Halted) × Stuck (spot (route n lab d) s (hops n (route n lab d) s)))
+          → ((last n (route n lab d) s ≡ Deliver) × (endOf n lab d s ≡ d)) ⊎ ((last n (route n lab d) s ≡ Halted) × Stuck (endOf n lab d s))
       go (arrive q e) _ = inl (e, q)
       go (stuck e q) _ = inr (e, q)
       go (move i hi e q l) (inl a) = absurd (clash (hops-end n (route n lab d) s (ltb-true (hops n (route n lab d) s) (n + 4) a)) (stops-is (Hop i) e refl))
@@ -140,14 +144,14 @@ module _ (n : ℕ) (lab : ℕ → ℕ) (d : ℕ) (hd : d < 2 ^ n) (measure : ℕ
 -- the nodes of the walk work, but for the destination, and each hop is its decision's
 pub record Kept (n : ℕ) (lab : ℕ → ℕ) (d s : ℕ) : Type 0 where
   pub works : (k : ℕ) → k < hops n (route n lab d) s → (spot (route n lab d) s k < 2 ^ n) × (lab (spot (route n lab d) s k) ≤ 2)
-  pub end : Inside n lab d (spot (route n lab d) s (hops n (route n lab d) s))
+  pub end : Inside n lab d (endOf n lab d s)
   pub steps :
       (k : ℕ) → k < hops n (route n lab d) s → (i : ℕ) × (i < n) × (turn (route n lab d) s k ≡ Hop i) × (spot (route n lab d) s (suc k) ≡ flip i (spot (route n lab d) s k))
 
 -- delivered, with at most `most` pairs of hops more than the distance
 pub record Delivers (n : ℕ) (lab : ℕ → ℕ) (d s most : ℕ) : Type 0 where
   pub ended : last n (route n lab d) s ≡ Deliver
-  pub there : spot (route n lab d) s (hops n (route n lab d) s) ≡ d
+  pub there : endOf n lab d s ≡ d
   pub extra : ℕ
   pub few : extra ≤ most
   pub exact : hops n (route n lab d) s ≡ dist s d + 2 * extra
@@ -156,7 +160,7 @@ pub record Delivers (n : ℕ) (lab : ℕ → ℕ) (d s most : ℕ) : Type 0 wher
 -- halted where no neighbour nearer the destination works
 pub record Halts (n : ℕ) (lab : ℕ → ℕ) (d s : ℕ) : Type 0 where
   pub ended : last n (route n lab d) s ≡ Halted
-  pub why : (i : ℕ) → i < n → apart i (spot (route n lab d) s (hops n (route n lab d) s)) d ≡ true → 2 < lab (flip i (spot (route n lab d) s (hops n (route n lab d) s)))
+  pub why : (i : ℕ) → i < n → apart i (endOf n lab d s) d ≡ true → 2 < lab (flip i (endOf n lab d s))
   pub kept : Kept n lab d s
 
 dist-le : (n s d : ℕ) → s < 2 ^ n → d < 2 ^ n → dist s d ≤ n
@@ -178,7 +182,7 @@ module _ (n : ℕ) (lab : ℕ → ℕ) (G : Good n lab) (d : ℕ) (hd : d < 2 ^ 
           steps = λ k h. let r = made n lab d hd measure Stuck P s (hs, inl ws) fuel k h (here k (omega arith)) in (r .i, r .dim, r .decided, r .is);
         }
 
-    delivered : (m : ℕ) → measure s ≤ dist s d + (m + m + 1) → last n (route n lab d) s ≡ Deliver → spot (route n lab d) s (hops n (route n lab d) s) ≡ d → Delivers n lab d s m
+    delivered : (m : ℕ) → measure s ≤ dist s d + (m + m + 1) → last n (route n lab d) s ≡ Deliver → endOf n lab d s ≡ d → Delivers n lab d s m
     delivered m h e t =
         let o = here (hops n (route n lab d) s) (omega arith) in
         record {
@@ -192,10 +196,10 @@ module _ (n : ℕ) (lab : ℕ → ℕ) (G : Good n lab) (d : ℕ) (hd : d < 2 ^ 
 
     -- it is delivered, or stuck
     outcome : (m : ℕ) → measure s ≤ dist s d + (m + m + 1)
-        → Delivers n lab d s m ⊎ ((last n (route n lab d) s ≡ Halted) × Stuck (spot (route n lab d) s (hops n (route n lab d) s)))
+        → Delivers n lab d s m ⊎ ((last n (route n lab d) s ≡ Halted) × Stuck (endOf n lab d s))
     outcome m h =
-        ⊎-elim (λ (e : (last n (route n lab d) s ≡ Deliver) × (spot (route n lab d) s (hops n (route n lab d) s) ≡ d)). inl (delivered m h (e .0) (e .1)))
-        (λ (e : (last n (route n lab d) s ≡ Halted) × Stuck (spot (route n lab d) s (hops n (route n lab d) s))). inr e)
+        ⊎-elim (λ (e : (last n (route n lab d) s ≡ Deliver) × (endOf n lab d s ≡ d)). inl (delivered m h (e .0) (e .1)))
+        (λ (e : (last n (route n lab d) s ≡ Halted) × Stuck (endOf n lab d s)). inr e)
         (end n lab d hd measure Stuck P s (hs, inl ws) fuel)
 
   progress : GoodProgress n lab d
@@ -221,7 +225,7 @@ module _ (n : ℕ) (lab : ℕ → ℕ) (G : Good n lab) (d : ℕ) (hd : d < 2 ^ 
   pub delivers-or-halts : ((x : ℕ) → x < 2 ^ n → lab x ≢ 0) → Delivers n lab d s 0 ⊎ Halts n lab d s
   delivers-or-halts none =
       ⊎-elim (λ (D : Delivers n lab d s 0). inl D)
-      (λ (e : (last n (route n lab d) s ≡ Halted) × Stuck (spot (route n lab d) s (hops n (route n lab d) s))).
+      (λ (e : (last n (route n lab d) s ≡ Halted) × Stuck (endOf n lab d s)).
       inr (record { ended = e .0; why = e .1; kept = kept (λ x. dist x d) Stuck dark near }))
       (outcome (λ x. dist x d) Stuck dark near 0 (omega arith))
     where

@@ -1,12 +1,11 @@
 -- A site that moves from the rule of Lee and Hayes, 2, to document 01's, 3 (document 02, A13): what its labels were and what they are now. And what the older
 -- rule has and the newer has not: with it, where some node is safe, no node is strongly unsafe. Proved in proofs/TwoRules.antt.
 use mathlib.Core.Bool.{cond}
-use mathlib.Core.List.{List}
 use mathlib.Core.Path.{_≡_}
 use Prim.Native.Nat.{ℕ, _+_, _*_, _^_, _≤_, _<_}
 use lib.Dec.{eqb}
 use Rattle.cube.specs.Cube.{dist}
-use Rattle.rule.specs.Cabinet.{Cabinet, cabinet}
+use Rattle.rule.specs.Cabinet.{Cabinet, byRule}
 use Rattle.walk.specs.declared.Ending.the-variants.{Delivered}
 use Rattle.walk.specs.declared.Walked.{Walked}
 use Rattle.theorems.specs.Demand3.{Walks}
@@ -31,13 +30,12 @@ abbrev pub NoneStrong : (K : Cabinet) (lab : ℕ → ℕ) → Type 0
 NoneStrong K lab = SomeSafe (K .n) lab → (x : ℕ) → Works K x → lab x ≤ 1
 
 pub record TwoRules : Type 0 where
-  pub better : (n : ℕ) (faults draining : List ℕ) → OnlyBetter n (labelAt (cabinet n 2 faults draining)) (labelAt (cabinet n 3 faults draining))
+  pub better : (K : Cabinet) → OnlyBetter (K .n) (labelAt (byRule 2 K)) (labelAt (byRule 3 K))
   -- no frame is lost by it: a walk that was delivered still is
   pub still-delivered :
-      (n : ℕ) (faults draining : List ℕ) → Accepted (cabinet n 3 faults draining)
-      → (s d : ℕ) → Works (cabinet n 3 faults draining) s → Takes (cabinet n 3 faults draining) d
-      → walkOf (cabinet n 2 faults draining) s d .ending ≡ Delivered → walkOf (cabinet n 3 faults draining) s d .ending ≡ Delivered
-  pub none-strong : (n : ℕ) (faults draining : List ℕ) → NoneStrong (cabinet n 2 faults draining) (labelAt (cabinet n 2 faults draining))
+      (K : Cabinet) → Accepted (byRule 3 K) → (s d : ℕ) → Works K s → Takes K d
+      → walkOf (byRule 2 K) s d .ending ≡ Delivered → walkOf (byRule 3 K) s d .ending ≡ Delivered
+  pub none-strong : (K : Cabinet) → NoneStrong (byRule 2 K) (labelAt (byRule 2 K))
   -- demand 3's bounds are that bound
   pub bound :
       (K : Cabinet) (lab : ℕ → ℕ) (s d : ℕ) (w : Walked) → Walks K lab s d w → SomeSafe (K .n) lab → w .hops ≤ dist s d + more lab s d

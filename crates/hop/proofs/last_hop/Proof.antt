@@ -1,4 +1,5 @@
--- `last_hop` asks of the lowest forward dimension what scan 0 asks of each: where it is the only one the neighbour across it is d, and otherwise none leads there.
+-- `last_hop` asks of the lowest forward dimension what scan 0 asks of each: where it is the only one the neighbour across it is d, and otherwise none leads
+-- there.
 use mathlib.Core.Path.{_≡_}
 use native.Mathlib.Omega.{arith}
 use lib.Bits.{bitXor, xor-lt}
