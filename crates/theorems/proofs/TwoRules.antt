@@ -88,7 +88,7 @@ pub two-rules : TwoRules
 two-rules =
     record {
       better = λ K. better (K .n) (labelAt (old K)) (labelAt (new K)) (falls K);
-      still-delivered = still-delivered;
+      still-delivered = λ K ok s d hs hd e. still-delivered K ok s d hs hd e;
       none-strong = λ K some x w. omega (
         arith,
         label-in (old K) x (w .0),

@@ -146,7 +146,8 @@ pub record Kept (n : ℕ) (lab : ℕ → ℕ) (d s : ℕ) : Type 0 where
   pub works : (k : ℕ) → k < hops n (route n lab d) s → (spot (route n lab d) s k < 2 ^ n) × (lab (spot (route n lab d) s k) ≤ 2)
   pub end : Inside n lab d (endOf n lab d s)
   pub steps :
-      (k : ℕ) → k < hops n (route n lab d) s → (i : ℕ) × (i < n) × (turn (route n lab d) s k ≡ Hop i) × (spot (route n lab d) s (suc k) ≡ flip i (spot (route n lab d) s k))
+      (k : ℕ) → k < hops n (route n lab d) s
+      → (i : ℕ) × (i < n) × (turn (route n lab d) s k ≡ Hop i) × (spot (route n lab d) s (suc k) ≡ flip i (spot (route n lab d) s k))
 
 -- delivered, with at most `most` pairs of hops more than the distance
 pub record Delivers (n : ℕ) (lab : ℕ → ℕ) (d s most : ℕ) : Type 0 where
