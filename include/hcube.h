@@ -14,8 +14,8 @@
  * - A pointer is not null and its bytes may be read (where it is not const,
  *   also written) for the whole length given beside it, also when that length
  *   is a wrong one. Length 0 is allowed, with any pointer that is not null.
- * - Lent buffers do not overlap, and nobody else changes them during the call.
- *   Nothing of them is kept after the call.
+ * - A buffer that is not const shares no byte with another, and nobody else
+ *   changes a lent buffer during the call. Nothing of it is kept after the call.
  * - A const buffer never changes, and no byte outside a buffer is written.
  * - Refusals are tested in the order in which they are listed; the first that
  *   applies is the answer, with zero in every other field; only a refused

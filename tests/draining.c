@@ -175,6 +175,22 @@ static void from_draining(uint32_t n, uint32_t c, uint32_t i)
     }
 }
 
+/* No byte above 4 is a label, at c or beside it, also where that is the only one
+ * that is not draining. */
+static void bad_bytes(uint32_t n, uint32_t c, uint32_t i, uint8_t rest)
+{
+    uint32_t beside = c ^ 1u << i, far = c ^ ((1u << n) - 1);
+    for (unsigned byte = LAST_LABEL + 1; byte <= 255; byte++) {
+        labels[beside] = rest;
+        labels[c] = (uint8_t)byte;
+        hop_is(n, c, far, REFUSED(4));
+        labels[c] = HCUBE_SAFE;
+        labels[beside] = (uint8_t)byte;
+        hop_is(n, c, far, REFUSED(4));
+    }
+    labels[c] = labels[beside] = rest;
+}
+
 void check_draining_ends(void)
 {
     begin_group("draining ends of hops and walks");
@@ -187,6 +203,8 @@ void check_draining_ends(void)
         if (n > 1)
             two_away(n, d, i, rest);
         from_draining(n, d, i);
+        if (k < 12 * (LAST_LABEL + 1))
+            bad_bytes(n, d, i, rest);
     }
     end_group();
 }

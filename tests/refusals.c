@@ -58,17 +58,22 @@ static size_t any_length(size_t exact)
     }
 }
 
+static uint8_t no_label(void)
+{
+    return (uint8_t)(LAST_LABEL + 1 +
+                     (random_below(4) ? random_below(255 - LAST_LABEL) : 0));
+}
+
 /* Some bytes that are no label: none, one at a place near c, or one anywhere. */
 static void damage_labels(uint32_t n, uint32_t c)
 {
-    static const uint8_t own[] = {HCUBE_FAULTY, HCUBE_DRAINING, 255};
     uint32_t nodes = 1u << n, k = random_below(nodes);
     if (random_below(4) == 0)
-        labels[(c ^ 1u << random_below(n)) & (nodes - 1)] = LAST_LABEL + 1;
+        labels[(c ^ 1u << random_below(n)) & (nodes - 1)] = no_label();
     if (random_below(8) == 0)
-        labels[k] = (uint8_t)(LAST_LABEL + 1 + random_below(255 - LAST_LABEL));
+        labels[k] = no_label();
     if (random_below(8) == 0)
-        labels[c & (nodes - 1)] = own[random_below(COUNT(own))];
+        labels[c & (nodes - 1)] = random_below(2) ? no_label() : (uint8_t)(HCUBE_FAULTY + random_below(2));
 }
 
 /* A bit of the first byte more, which is none for a node where n is 1 or 2. */

@@ -25,7 +25,7 @@ module _ (n c d own : ℕ) (near : ℕ → ℕ) where
   -- ---- what a scan finds
 
   -- one that takes no dimension
-  pub idle : (s : ℕ) → ((i : ℕ) → takes c d own near s i ≡ false) → lowest n c d own near s ≡ n
+  idle : (s : ℕ) → ((i : ℕ) → takes c d own near s i ≡ false) → lowest n c d own near s ≡ n
   unfolding lowest
   idle s f = least-none n (takes c d own near s) (λ i _. f i)
 

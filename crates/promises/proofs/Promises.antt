@@ -27,13 +27,14 @@ use Rattle.promises.proofs.InC.{in-c}
 use Rattle.promises.proofs.InRattle.{in-rattle}
 use Rattle.promises.proofs.Refusals.{refusals}
 use Rattle.promises.proofs.Settled.{settled, unasked}
-use Rattle.promises.proofs.Tied.{all-tied}
+use Rattle.promises.proofs.Tied.{all-tied, in-order}
 use Rattle.promises.proofs.Worked.{worked}
 
 pub promises : Promises
 promises =
     record {
       tied = all-tied;
+      in-order = in-order;
       settled = settled;
       unasked = unasked;
       rattle-answers = rattle-answers;

@@ -2,7 +2,7 @@
 use mathlib.Core.Path.{refl}
 use borrow.Fn.World.{w₀}
 use Rattle.reader.proofs.Functions as reader
-use Rattle.promises.specs.Tied.{AllTied}
+use Rattle.promises.specs.Tied.{AllTied, InOrder}
 
 pub all-tied : AllTied
 all-tied =
@@ -30,4 +30,18 @@ all-tied =
       cube-table-len = record { clauses = λ w. refl; asked = refl; post = refl };
       cube-node-bit = record { clauses = λ w. refl; asked = refl; post = refl };
       cube-unused-set = record { clauses = λ w. refl; asked = refl; post = refl };
+    }
+
+pub in-order : InOrder
+in-order =
+    record {
+      hcube-label = λ κs a. refl;
+      hcube-hop = λ κs a. refl;
+      hcube-walk = λ κs a. refl;
+      hcube-read-notice = λ κs a. refl;
+      labels-label = λ κs a. refl;
+      hop-hop = λ κs a. refl;
+      walk-walk = λ κs a. refl;
+      walk-walk-for = λ κs a. refl;
+      notice-read = λ κs a. refl;
     }

@@ -1,11 +1,12 @@
 -- The functions that the promises speak of are those of the code: for each public function by its name, the clauses and claims that its crate's
--- Functions gives are those that the check made of that very function.
+-- Functions gives are those that the check made of that very function; and what a question is handed is what its caller hands it, in that order.
 use mathlib.Core.Path.{_≡_}
 use base.Logic.{emp}
 use borrow.Fn.Claims.{AllOf}
 use borrow.Fn.Read.{ReadAt, no-know}
 use borrow.Fn.World.{World, w₀}
 use contract.Lifetimes.{Lfts}
+use denote.Ref.{now}
 use denote.Triple.Clauses.{AtExit, Ended}
 use denote.Triple.Entry.{Args, Res}
 use Rattle.cube.specs.Contracts.{Function, Tied, Written}
@@ -109,3 +110,20 @@ pub record AllTied : Type 2 where
   pub cube-unused-set :
       Tied cube.unused-set (λ w. cube-unused-set.clauses (w .𝓤) (w .H) (w .𝓖 .A) (w .𝓜 .mem) (w .𝓡 .run))
       cube-unused-set.Reads.Asked cube-unused-set.Reads.Post
+
+-- f is seen to be handed this of its parameters
+abbrev pub Handed : {T : Ended} {A X B : Type 0} → Function T A X B → ((κs : Lfts (T .signature .lifetimes)) → Args (T .signature) κs → A) → Type 0
+Handed {T} f seen = (κs : Lfts (T .signature .lifetimes)) (a : Args (T .signature) κs) → f .handed κs a ≡ seen κs a
+
+-- the questions are handed their parameters one after the other, numbers as they are and tables by their bytes: so the first table is the fault table and
+-- the second that of the draining nodes, and the first node is the one that a hop is decided at or a walk begins at
+pub record InOrder : Type 0 where
+  pub hcube-label : Handed hcube.label (λ κs a. (a .0, a .1 .0, now (a .1 .1 .0), now (a .1 .1 .1 .0), now (a .1 .1 .1 .1 .0)))
+  pub hcube-hop : Handed hcube.hop (λ κs a. (a .0, a .1 .0, a .1 .1 .0, now (a .1 .1 .1 .0)))
+  pub hcube-walk : Handed hcube.walk (λ κs a. (a .0, a .1 .0, a .1 .1 .0, now (a .1 .1 .1 .0), now (a .1 .1 .1 .1 .0)))
+  pub hcube-read-notice : Handed hcube.read-notice (λ κs a. (now (a .0), now (a .1 .0)))
+  pub labels-label : Handed labels.label (λ κs a. (a .0, a .1 .0, now (a .1 .1 .0), now (a .1 .1 .1 .0), now (a .1 .1 .1 .1 .0)))
+  pub hop-hop : Handed hop.hop (λ κs a. (a .0, a .1 .0, a .1 .1 .0, now (a .1 .1 .1 .0)))
+  pub walk-walk : Handed walk.walk (λ κs a. (a .0, a .1 .0, a .1 .1 .0, now (a .1 .1 .1 .0)))
+  pub walk-walk-for : Handed walk.walk-for (λ κs a. (a .0, a .1 .0, a .1 .1 .0, now (a .1 .1 .1 .0), a .1 .1 .1 .1 .0))
+  pub notice-read : Handed notice.read (λ κs a. (now (a .0), now (a .1 .0)))

@@ -14,9 +14,9 @@ use Rattle.cube.proofs.Bools.{either}
 use Rattle.cube.proofs.Cube.{flip-lt, flip-flip, dist-fall, dist-rise, dist-self, dist-sym, apart-sym, neighbour}
 use Rattle.cube.proofs.Laws.{across-one, agree-apart, apart-agree, apart-differ, differ-apart}
 use Rattle.rule.specs.Good.{Good}
-use Rattle.scans.specs.Hit.{Draining, Forward, Hit, MayEnterStrong, NotFaulty, Spare, scan0, scan1, scan2, scan3, scan4, scan5}
+use Rattle.scans.specs.Hit.{Draining, Forward, Hit, MayEnterStrong, Spare, scan0, scan1, scan2, scan3, scan4, scan5}
 use Rattle.scans.specs.Picks.{Misses, NonePicks, Picks}
-use Rattle.scans.specs.Progress.{GoodProgress, Inside, Progress, Receives, ScansProgress, rank}
+use Rattle.scans.specs.Progress.{GoodProgress, Inside, Progress, Receives, ScansProgress, WorksOrEnds, rank}
 use Rattle.scans.proofs.Toward.{safe-step, near-step, toward, theorem5}
 
 side : (c d i : ℕ) → Forward c d i ⊎ Spare c d i
@@ -46,10 +46,6 @@ module _ (lab : ℕ → ℕ) (d x : ℕ) where
   rank-le = rank-within .1
 
 module _ (n : ℕ) (lab : ℕ → ℕ) (G : Good n lab) (d : ℕ) (hd : d < 2 ^ n) (wd : Receives (lab d)) where
-  -- a pick leads to a node that works, or to the destination
-  abbrev Entered : (x : ℕ) → Type 0
-  Entered x = NotFaulty (lab x) ⊎ (x ≡ d)
-
   -- ---- what scans that take nothing say of the label of c
 
   module _ (c : ℕ) (hc : c < 2 ^ n) where
@@ -107,9 +103,9 @@ module _ (n : ℕ) (lab : ℕ → ℕ) (G : Good n lab) (d : ℕ) (hd : d < 2 ^ 
     spare-falls : (i : ℕ) → i < n → Spare c d i → 1 < dist c d → lab (flip i c) < lab c → rank lab d (flip i c) < rank lab d c
     spare-falls i hi f l w = omega (arith, dist-rise n i c d hc hd hi (agree-apart i c d f), rank-le lab d (flip i c), rank-far lab d c l)
 
-    -- each pick does, and the rank falls
+    -- a pick leads to a node that works, or to the destination, and the rank falls
     falls : 0 < dist c d → {s i : ℕ} → i < n → Hit lab c d s i → ((t : ℕ) → t < s → Misses n lab c d t)
-        → Entered (flip i c) × (rank lab d (flip i c) < rank lab d c)
+        → WorksOrEnds lab d (flip i c) × (rank lab d (flip i c) < rank lab d c)
     falls p {s} {i} hi (scan0 e q) m =
         let r = across-one i c d e in
         (inr e, forward-falls i hi (apart-differ i c d (r .0)) (λ l. absurd (omega (arith, r .1))))
@@ -151,9 +147,9 @@ module _ (n : ℕ) (lab : ℕ → ℕ) (G : Good n lab) (d : ℕ) (hd : d < 2 ^ 
   -- every scan leads from c nearer, to a node that works or to the destination
   abbrev Nearer : (c : ℕ) → Type 0
   Nearer c =
-      (s i : ℕ) → i < n → Hit lab c d s i → ((t : ℕ) → t < s → Misses n lab c d t) → Forward c d i × Entered (flip i c)
+      (s i : ℕ) → i < n → Hit lab c d s i → ((t : ℕ) → t < s → Misses n lab c d t) → Forward c d i × WorksOrEnds lab d (flip i c)
 
-  to-end : (c i : ℕ) → flip i c ≡ d → Forward c d i × Entered (flip i c)
+  to-end : (c i : ℕ) → flip i c ≡ d → Forward c d i × WorksOrEnds lab d (flip i c)
   to-end c i e = (apart-differ i c d (across-one i c d e .0), inr e)
 
   -- where they do from every node, the distance falls
@@ -167,7 +163,7 @@ module _ (n : ℕ) (lab : ℕ → ℕ) (G : Good n lab) (d : ℕ) (hd : d < 2 ^ 
         stuck = stuck;
       }
     where
-      stepped : (c s i : ℕ) → Inside n lab d c → 0 < dist c d → Picks n lab c d s i → Forward c d i × Entered (flip i c)
+      stepped : (c s i : ℕ) → Inside n lab d c → 0 < dist c d → Picks n lab c d s i → Forward c d i × WorksOrEnds lab d (flip i c)
       stepped c s i p far k = step c p far s i (k .dimension) (k .hits) (k .earlier)
 
   -- so it is where the destination is safe, and something is always picked;
@@ -200,8 +196,10 @@ module _ (n : ℕ) (lab : ℕ → ℕ) (G : Good n lab) (d : ℕ) (hd : d < 2 ^ 
         no : lab x ≢ 1
         no e = let r = G .ordinary x hx e in none (flip (r .0) x) (flip-lt n (r .0) x (r .1) hx) (r .2)
 
-    in-the-dark : Progress n lab d (λ x. dist x d) (λ x. (i : ℕ) → i < n → apart i x d ≡ true → 2 < lab (flip i x))
-    in-the-dark = nearer (λ x. (i : ℕ) → i < n → apart i x d ≡ true → 2 < lab (flip i x)) (λ c p far. step c (p .0)) halted
+    in-the-dark : Progress n lab d (λ x. dist x d) (λ x. (1 < dist x d) × ((i : ℕ) → i < n → apart i x d ≡ true → 2 < lab (flip i x)))
+    in-the-dark =
+        nearer (λ x. (1 < dist x d) × ((i : ℕ) → i < n → apart i x d ≡ true → 2 < lab (flip i x))) (λ c p far. step c (p .0))
+        (λ c p far m. (beyond c (p .0) far (m 0) (m 3), halted c p far m))
       where
         halted : (c : ℕ) → Inside n lab d c → 0 < dist c d → NonePicks n lab c d → (i : ℕ) → i < n → apart i c d ≡ true → 2 < lab (flip i c)
         halted c p far m i hi a = omega (arith, no)

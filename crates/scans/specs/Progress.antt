@@ -10,9 +10,12 @@ use Rattle.rule.specs.Good.{Good}
 use Rattle.scans.specs.Hit.{Draining}
 use Rattle.scans.specs.Picks.{NonePicks, Picks}
 
--- a node of the cube that works, or is the destination
+-- a node that works, or is the destination; and such a node of the cube
+abbrev pub WorksOrEnds : (lab : ℕ → ℕ) (d x : ℕ) → Type 0
+WorksOrEnds lab d x = (lab x ≤ 2) ⊎ (x ≡ d)
+
 abbrev pub Inside : (n : ℕ) (lab : ℕ → ℕ) (d x : ℕ) → Type 0
-Inside n lab d x = (x < 2 ^ n) × ((lab x ≤ 2) ⊎ (x ≡ d))
+Inside n lab d x = (x < 2 ^ n) × WorksOrEnds lab d x
 
 -- a label of one that takes the frames addressed to it: it works, or drains
 abbrev pub Receives : (label : ℕ) → Type 0
@@ -33,10 +36,10 @@ pub record GoodProgress (n : ℕ) (lab : ℕ → ℕ) (d : ℕ) : Type 0 where
   pub by-rank : (x : ℕ) → x < 2 ^ n → lab x ≡ 0 → Progress n lab d (rank lab d) (λ _. ⊥)
   -- where the destination is safe, the distance falls, and something is always picked;
   pub to-safe : lab d ≡ 0 → Progress n lab d (λ c. dist c d) (λ _. ⊥)
-  -- where no node is safe, the distance falls, and nothing is picked only where no neighbour nearer the destination works
+  -- where no node is safe, the distance falls, and nothing is picked only two or more away, where no neighbour nearer the destination works
   pub in-the-dark :
       ((x : ℕ) → x < 2 ^ n → lab x ≢ 0)
-      → Progress n lab d (λ c. dist c d) (λ c. (i : ℕ) → i < n → apart i c d ≡ true → 2 < lab (flip i c))
+      → Progress n lab d (λ c. dist c d) (λ c. (1 < dist c d) × ((i : ℕ) → i < n → apart i c d ≡ true → 2 < lab (flip i c)))
 
 abbrev pub ScansProgress : Type 0
 ScansProgress = (n : ℕ) (lab : ℕ → ℕ) → Good n lab → (d : ℕ) → d < 2 ^ n → Receives (lab d) → GoodProgress n lab d

@@ -1,6 +1,6 @@
 -- Where no node drains, nothing changed. An empty table names no node, so the nodes that do not work are the faulty ones, each with byte 3, and its tests pass.
 -- Labels without a 4 let scan 0 take nothing, and one of them is above 4 exactly where it is above 3.
-use mathlib.Core.Bool.{Bool, true, false, not, _&&_, _||_}
+use mathlib.Core.Bool.{Bool, true, false, not, _||_}
 use mathlib.Core.List.{List, [], _∷_}
 use mathlib.Core.Logic.{_⊎_, inl, inr, ⊎-elim, _≢_}
 use mathlib.Core.Path.{_≡_, refl, sym, ap, fun-ext, _∙_}
@@ -11,7 +11,7 @@ use lib.Dec.{eqb, leb, ltb}
 use lib.ListN.{length, getD, length-replicate, List·getD-eq-default}
 use borrow.Author.Tests.{eq-eqb, eqb-true, eqb-false, ne-eqb, le-leb, lt-leb, le-ltb, lt-ltb, ltb-true, ltb-false}
 use Rattle.cube.specs.Count.{some}
-use Rattle.cube.specs.Cube.{flip}
+use Rattle.cube.specs.Cube.{dist, flip}
 use Rattle.cube.specs.Refusal.{Test, first, _⇒_}
 use Rattle.cube.specs.Tables.{emptyTable, highest, labelIn, nodeBit, tab, tableLen}
 use Rattle.cube.proofs.Bools.{either, is-false}
@@ -21,12 +21,12 @@ use Rattle.cube.proofs.Tables.{zeros-none, zeros-unused}
 use Rattle.rule.specs.Cabinet.{Cabinet, cabinet, exchangesOf, labelsOf, out, outByte}
 use Rattle.rule.specs.Rule.{exchanges, label, labelOf, safe}
 use Rattle.rule.proofs.Bytes.{bytes-le}
-use Rattle.scans.specs.Scans.{firstScan, lowest, noScan}
+use Rattle.scans.specs.Scans.{firstScan, forward, lowest, noScan, suits, takes}
 use Rattle.labels.specs.Labelling.{labelRefusal, labelled, labelsAfter}
 use Rattle.hop.specs.Helpers.{placeRefusal}
 use Rattle.hop.specs.Hop.{decide, hop, hopRefusal, hopped}
 use Rattle.hop.proofs.Refusals.{misplaced, placed}
-use Rattle.hop.proofs.Scanning.{idle, suits-last}
+use Rattle.hop.proofs.Scanning.{suits-last}
 use Rattle.walk.specs.Walk.{last, refused, route, rowBytes, stops, walkRefusal, walked}
 use Rattle.walk.proofs.Local.{last-same, route-across, walk-same}
 use Rattle.walk.proofs.Refusals.{walk-misplaced}
@@ -39,7 +39,11 @@ use Rattle.theorems.specs.Before.{
   labelTestsThen,
   labelledThen,
   labelsAfterThen,
+  lowestThen,
   routeThen,
+  scanOfThen,
+  scansThen,
+  suitsThen,
   walkTestsThen,
   walkedThen,
 }
@@ -113,24 +117,32 @@ above-same y d =
     (λ (t : ltb 3 y ≡ false). le-ltb highest y (omega (arith, ltb-false 3 y t)) ∙ sym t) (either (ltb 3 y))
 
 module _ (n : ℕ) (lab : ℕ → ℕ) (none : (x : ℕ) → lab x ≢ 4) where
-  -- scan 0 takes nothing
-  first-same : (c d own : ℕ) → let near : ℕ → ℕ = λ i. lab (flip i c) in firstScan n c d own near ≡ firstScanThen n c d own near
-  unfolding firstScan
-  first-same c d own =
-      least-same noScan (λ s. ltb (lowest n c d own near s) n) (λ s. leb 1 s && ltb (lowest n c d own near s) n) (λ s _. at s)
-    where
-      near : ℕ → ℕ
-      near i = lab (flip i c)
+  -- scan 0 takes nothing, and the other lines have no lowest label but 0
+  module _ (c d own : ℕ) where
+    abbrev near : ℕ → ℕ
+    near i = lab (flip i c)
 
-      at : (s : ℕ) → ltb (lowest n c d own near s) n ≡ (leb 1 s && ltb (lowest n c d own near s) n)
-      at zero =
-          le-ltb (lowest n c d own near 0) n
-          (omega (arith, idle n c d own near 0 (λ i. is-false (λ t. none (flip i c) (suits-last n c d own near i t .1)))))
-      at (suc s) = rw (le-leb 1 (suc s) (omega arith))
+    line : (s i : ℕ) → takes c d own near s i ≡ suitsThen c d near (getD (scansThen (dist c d) own) s (scanOfThen forward 0 false)) i
+    unfolding takes suits
+    line zero i = is-false (λ t. none (flip i c) (suits-last n c d own near i t .1))
+    line (suc zero) i = rw (le-leb 0 (near i) (omega arith))
+    line (suc (suc zero)) i = rw (le-leb 0 (near i) (omega arith))
+    line (suc (suc (suc zero))) i = rw (le-leb 0 (near i) (omega arith))
+    line (suc (suc (suc (suc zero)))) i = rw (le-leb 0 (near i) (omega arith))
+    line (suc (suc (suc (suc (suc zero))))) i = rw (le-leb 0 (near i) (omega arith))
+    line (suc (suc (suc (suc (suc (suc s)))))) i = refl
+
+    lowest-same : (s : ℕ) → lowest n c d own near s ≡ lowestThen n c d own near s
+    unfolding lowest
+    lowest-same s = least-same n (takes c d own near s) _ (λ i _. line s i)
+
+    first-same : firstScan n c d own near ≡ firstScanThen n c d own near
+    unfolding firstScan
+    first-same = least-same noScan (λ s. ltb (lowest n c d own near s) n) (λ s. ltb (lowestThen n c d own near s) n) (λ s _. ap (λ (k : ℕ). ltb k n) (lowest-same s))
 
   hop-same : (c d : ℕ) → hop n lab c d ≡ hopThen n lab c d
   unfolding hop decide
-  hop-same c d = rw (first-same c d (lab c))
+  hop-same c d = rw (first-same c d (lab c), lowest-same c d (lab c) (firstScanThen n c d (lab c) (λ i. lab (flip i c))))
 
   hop-refusal-same : (c d m : ℕ) → hopRefusal n c d m lab ≡ first (hopTestsThen n c d m lab)
   unfolding hopRefusal first

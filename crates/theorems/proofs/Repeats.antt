@@ -15,6 +15,7 @@ use Rattle.cube.proofs.Bools.{clash}
 use Rattle.cube.proofs.Cube.{flip-lt}
 use Rattle.cube.proofs.Search.{some-none}
 use Rattle.scans.specs.Hit.{Hit, scan0, scan1, scan2, scan3, scan4, scan5}
+use Rattle.scans.specs.Progress.{WorksOrEnds}
 use Rattle.hop.specs.Hop.{hop, hopRefusal}
 use Rattle.hop.specs.declared.Decision.{Decision}
 use Rattle.hop.specs.declared.Decision.the-variants.{Deliver, Hop, Halted}
@@ -34,9 +35,6 @@ use Rattle.theorems.proofs.Places.{row-unused, row-used}
 use Rattle.theorems.proofs.Walks.{hops-on, not-there}
 
 -- ---- no hop enters a node that is labelled faulty or draining but the destination, whatever the table
-
-abbrev WorksOrEnds : (lab : ℕ → ℕ) (d x : ℕ) → Type 0
-WorksOrEnds lab d x = (lab x ≤ 2) ⊎ (x ≡ d)
 
 hit-works : {lab : ℕ → ℕ} {c d s i : ℕ} → Hit lab c d s i → WorksOrEnds lab d (flip i c)
 hit-works (scan0 e _) = inr e

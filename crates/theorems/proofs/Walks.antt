@@ -158,9 +158,10 @@ pub record Delivers (n : ℕ) (lab : ℕ → ℕ) (d s most : ℕ) : Type 0 wher
   pub exact : hops n (route n lab d) s ≡ dist s d + 2 * extra
   pub kept : Kept n lab d s
 
--- halted where no neighbour nearer the destination works
+-- halted two or more away, where no neighbour nearer the destination works
 pub record Halts (n : ℕ) (lab : ℕ → ℕ) (d s : ℕ) : Type 0 where
   pub ended : last n (route n lab d) s ≡ Halted
+  pub far : 1 < dist (endOf n lab d s) d
   pub why : (i : ℕ) → i < n → apart i (endOf n lab d s) d ≡ true → 2 < lab (flip i (endOf n lab d s))
   pub kept : Kept n lab d s
 
@@ -227,11 +228,11 @@ module _ (n : ℕ) (lab : ℕ → ℕ) (G : Good n lab) (d : ℕ) (hd : d < 2 ^ 
   delivers-or-halts none =
       ⊎-elim (λ (D : Delivers n lab d s 0). inl D)
       (λ (e : (last n (route n lab d) s ≡ Halted) × Stuck (endOf n lab d s)).
-      inr (record { ended = e .0; why = e .1; kept = kept (λ x. dist x d) Stuck dark near }))
+      inr (record { ended = e .0; far = e .1 .0; why = e .1 .1; kept = kept (λ x. dist x d) Stuck dark near }))
       (outcome (λ x. dist x d) Stuck dark near 0 (omega arith))
     where
       Stuck : ℕ → Type 0
-      Stuck x = (i : ℕ) → i < n → apart i x d ≡ true → 2 < lab (flip i x)
+      Stuck x = (1 < dist x d) × ((i : ℕ) → i < n → apart i x d ≡ true → 2 < lab (flip i x))
 
       dark : Progress n lab d (λ x. dist x d) Stuck
       dark = progress .in-the-dark none

@@ -1,19 +1,19 @@
 -- What the library answered before there were draining nodes (document 02, A4), by the definitions that stood then: labelling was lent no table of them, 3 was
 -- the highest label, and nothing came before scan 1. A board that lends an empty table of draining nodes is answered as before. Proved in proofs/Before.antt.
-use mathlib.Core.Bool.{cond, not, _&&_, _||_}
+use mathlib.Core.Bool.{Bool, true, false, Bool·beq, cond, not, _&&_, _||_}
 use mathlib.Core.List.{List, [], _∷_, _++_}
 use mathlib.Core.Logic.{_≢_}
 use mathlib.Core.Path.{_≡_}
 use Prim.Native.Nat.{ℕ, _^_}
 use lib.Dec.{eqb, leb, ltb}
-use lib.ListN.{length}
+use lib.ListN.{getD, length}
 use Rattle.cube.specs.Count.{least, some}
-use Rattle.cube.specs.Cube.{dist, flip}
+use Rattle.cube.specs.Cube.{apart, dist, flip}
 use Rattle.cube.specs.Refusal.{Test, first, _⇒_}
 use Rattle.cube.specs.Tables.{emptyTable, isDimension, nodeBit, tab, tableLen, unusedSet}
 use Rattle.rule.specs.Cabinet.{cabinet, isRule}
 use Rattle.rule.specs.Rule.{exchanges, label}
-use Rattle.scans.specs.Scans.{lowest, noScan}
+use Rattle.scans.specs.Scans.{forward, noScan, spare}
 use Rattle.labels.specs.Labelling.{labelled, labelsAfter}
 use Rattle.labels.specs.declared.Labelled.{Labelled}
 use Rattle.labels.specs.declared.Labelled.the-variants as labelled
@@ -44,16 +44,40 @@ abbrev pub labelsAfterThen : (n rule : ℕ) (faults before : List ℕ) → List 
 labelsAfterThen n rule faults before =
     cond (eqb (first (labelTestsThen n rule faults (length before))) 0) (tab (2 ^ n) (label n rule (nodeBit faults) (λ _. 3))) before
 
--- ---- one hop: the first of the scans 1 to 5 that takes a dimension
+-- ---- one hop: a scan took a dimension of its side whose neighbour's label was at most top, and the line before scan 1 was empty
+
+pub record ScanThen : Type 0 where
+  pub side : Bool
+  pub top : ℕ
+  pub allowed : Bool
+
+abbrev pub scanOfThen : (side : Bool) (top : ℕ) (allowed : Bool) → ScanThen
+scanOfThen side top allowed = record { side = side; top = top; allowed = allowed }
+
+abbrev pub scansThen : (l own : ℕ) → List ScanThen
+scansThen l own =
+    scanOfThen forward 0 false
+    ∷ scanOfThen forward 0 true
+    ∷ scanOfThen forward 1 true
+    ∷ scanOfThen forward 2 (eqb own 2 || leb l 2)
+    ∷ scanOfThen spare 0 true
+    ∷ scanOfThen spare 1 true
+    ∷ []
+
+abbrev pub suitsThen : (c d : ℕ) (near : ℕ → ℕ) (z : ScanThen) (i : ℕ) → Bool
+suitsThen c d near z i = z .allowed && (Bool·beq (apart i c d) (z .side) && leb (near i) (z .top))
+
+abbrev pub lowestThen : (n c d own : ℕ) (near : ℕ → ℕ) (s : ℕ) → ℕ
+lowestThen n c d own near s = least n (suitsThen c d near (getD (scansThen (dist c d) own) s (scanOfThen forward 0 false)))
 
 abbrev pub firstScanThen : (n c d own : ℕ) (near : ℕ → ℕ) → ℕ
-firstScanThen n c d own near = least noScan (λ s. leb 1 s && ltb (lowest n c d own near s) n)
+firstScanThen n c d own near = least noScan (λ s. ltb (lowestThen n c d own near s) n)
 
 abbrev pub hopThen : (n : ℕ) (lab : ℕ → ℕ) (c d : ℕ) → Decision
 hopThen n lab c d =
     let near : ℕ → ℕ = λ i. lab (flip i c) in
     let s : ℕ = firstScanThen n c d (lab c) near in
-    answer (dist c d) s (lowest n c d (lab c) near s)
+    answer (dist c d) s (lowestThen n c d (lab c) near s)
 
 abbrev pub hopTestsThen : (n c d m : ℕ) (lab : ℕ → ℕ) → List Test
 hopTestsThen n c d m lab =

@@ -28,10 +28,11 @@ pub record Arrives (K : Cabinet) (lab : ℕ → ℕ) (d : ℕ) (w : Walked) : Ty
   pub decided : hop (K .n) lab (place w (w .hops)) d ≡ Deliver
   pub there : place w (w .hops) ≡ d
 
--- halted: every neighbour of the last place that is nearer the destination is faulty or draining
+-- halted: every neighbour of the last place that is nearer the destination is faulty or draining, and none of them is the destination
 pub record Stuck (K : Cabinet) (lab : ℕ → ℕ) (d : ℕ) (w : Walked) : Type 0 where
   pub ending : w .ending ≡ ending.Halted
   pub decided : hop (K .n) lab (place w (w .hops)) d ≡ Halted
+  pub far : 2 ≤ dist (place w (w .hops)) d
   pub why : (i : ℕ) → i < K .n → apart i (place w (w .hops)) d ≡ true → out K (flip i (place w (w .hops))) ≡ true
 
 pub record Walks (K : Cabinet) (lab : ℕ → ℕ) (s d : ℕ) (w : Walked) : Type 0 where
