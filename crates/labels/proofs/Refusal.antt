@@ -1,5 +1,5 @@
--- What a cabinet and a label table that are accepted have: 0 is given only where every test passes. The answer and the label table afterwards go by
--- the refusal number.
+-- What labelling needs of a cabinet and a label table that are accepted: 0 is given only where every test passes. The answer and the label table afterwards
+-- go by the refusal number.
 use mathlib.Core.Path.{_≡_, refl, sym, ap, _∙_}
 use mathlib.Core.Logic.{_⊎_, inl, inr}
 use mathlib.Core.Bool.{true, false}
@@ -26,8 +26,6 @@ pub record Fitting (K : Cabinet) (m : ℕ) : Type 0 where
   pub faults : length (K .faults) ≡ tableLen (K .n)
   pub draining : length (K .draining) ≡ tableLen (K .n)
   pub labels : m ≡ 2 ^ K .n
-  pub unused : unusedSet (K .n) (K .faults) ≡ false
-  pub unused-draining : unusedSet (K .n) (K .draining) ≡ false
 
 module _ (K : Cabinet) (m : ℕ) where
   pub fitting : labelRefusal K m ≡ 0 → Fitting K m
@@ -42,8 +40,6 @@ module _ (K : Cabinet) (m : ℕ) where
         faults = eqb-true _ _ (not-false _ (t .1 .1 .0));
         draining = eqb-true _ _ (not-false _ (t .1 .1 .1 .0));
         labels = eqb-true _ _ (not-false _ (t .1 .1 .1 .1 .0));
-        unused = t .1 .1 .1 .1 .1 .0;
-        unused-draining = t .1 .1 .1 .1 .1 .1 .0;
       }
 
   -- and where every test passes, nothing is refused
