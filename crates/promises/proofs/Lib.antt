@@ -1,5 +1,6 @@
 pub mod Given
 pub mod Notices
+pub mod Eight
 pub mod Refusals
 pub mod Library
 pub mod Outcomes

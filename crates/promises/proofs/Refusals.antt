@@ -3,13 +3,10 @@
 use mathlib.Core.Path.{_≡_, refl, sym, ap, _∙_}
 use mathlib.Core.Logic.{_⊎_, inl, inr, ⊎-elim, _↔_, _≢_}
 use mathlib.Core.Bool.{Bool, true, false, not, _&&_, _||_}
-use Prim.Native.Nat.{ℕ, zero, suc, _+_, _≤_, _^_, _<_}
-use native.Mathlib.Nat.{eq-or-lt-of-le}
-use native.Mathlib.Numerals.{add-one}
-use native.Mathlib.Omega.{arith}
+use Prim.Native.Nat.{ℕ, _^_, _<_}
 use lib.Dec.{eqb, leb, ltb}
 use lib.ListN.{length}
-use borrow.Author.Tests.{eqb-true, eq-eqb, le-leb, leb-true, not-true}
+use borrow.Author.Tests.{eqb-true, eq-eqb, le-leb, leb-true}
 use Rattle.cube.specs.Count.{some}
 use Rattle.cube.specs.Cube.{flip}
 use Rattle.cube.specs.Refusal.{first}
@@ -18,14 +15,9 @@ use Rattle.cube.proofs.Bools.{by-cases, clash, either}
 use Rattle.rule.specs.Cabinet.{Cabinet, isRule}
 use Rattle.labels.specs.Labelling as L
 use Rattle.hop.specs.Hop as H
-use Rattle.hop.specs.declared.Decision.{Decision}
-use Rattle.hop.specs.declared.Decision.the-variants.{Deliver, Hop, Halted}
 use Rattle.walk.specs.Walk as W
-use Rattle.walk.proofs.Steps.{hops-within, spot-next, spot-zero}
 use Rattle.theorems.proofs.Repeats.{walk-repeats}
-use Rattle.theorems.proofs.Walks.{hops-end, hops-on}
 use Rattle.promises.specs.Refusals.{
-  AllHops,
   HopGiven,
   HopWhen,
   LabelGiven,
@@ -74,6 +66,7 @@ use Rattle.promises.proofs.Given.{
   wrong-length,
   wrong-table,
 }
+use Rattle.promises.proofs.Eight.{eight}
 use Rattle.promises.proofs.Notices.{notice-given, notice-one, number-given}
 
 -- ---- labelling
@@ -157,44 +150,6 @@ module _ (n c d m : ℕ) (lab : ℕ → ℕ) where
       said-6 f (hop-6-draining e k) = away .1 (e, k)
 
 -- ---- a walk
-
--- 8 is given where every decision up to the last that is asked is a hop: then none of them stops
-is-hop : (x : Decision) → W.stops x ≡ false → (i : ℕ) × (x ≡ Hop i)
-unfolding W.stops
-is-hop Deliver e = absurd (clash refl e)
-is-hop (Hop i) e = (i, refl)
-is-hop Halted e = absurd (clash refl e)
-
-module _ (n : ℕ) (lab : ℕ → ℕ) (d s : ℕ) where
-  -- where each decision is a hop, the places are the walk's
-  same-places : (f : AllHops n lab d s) (k : ℕ) → k ≤ n + 4 → W.spot (W.route n lab d) s k ≡ f .0 k
-  unfolding W.turn
-  same-places f zero h = spot-zero (W.route n lab d) s ∙ sym (f .1)
-  same-places f (suc k) h =
-      let e : W.spot (W.route n lab d) s k ≡ f .0 k = same-places f k (omega arith) in
-      let q = f .2 k (omega arith) in
-      ap (W.spot (W.route n lab d) s) (sym (add-one k)) ∙ spot-next (W.route n lab d) s k (q .0) (ap (λ (x : ℕ). H.hop n lab x d) e ∙ q .1) ∙ ap (flip (q .0)) e
-      ∙ sym (q .2) ∙ ap (f .0) (add-one k)
-
-  eight : (not (W.stops (W.last n (W.route n lab d) s)) ≡ true) ↔ AllHops n lab d s
-  unfolding W.last W.stops W.turn
-  eight = (λ e. (W.spot (W.route n lab d) s, spot-zero (W.route n lab d) s, all (not-true _ e)), given)
-    where
-      all : W.stops (W.last n (W.route n lab d) s) ≡ false → (k : ℕ) → k ≤ n + 4
-          → (i : ℕ) × (W.turn (W.route n lab d) s k ≡ Hop i) × (W.spot (W.route n lab d) s (k + 1) ≡ flip i (W.spot (W.route n lab d) s k))
-      all e k h =
-          let r = is-hop (W.turn (W.route n lab d) s k)
-          (⊎-elim (λ (q : k ≡ W.hops n (W.route n lab d) s). rw q e) (λ l. hops-on n (W.route n lab d) s k l) (eq-or-lt-of-le (omega (arith, full)))) in
-          (r .0, r .1, spot-next (W.route n lab d) s k (r .0) (r .1))
-        where
-          full : ¬ (W.hops n (W.route n lab d) s < n + 4)
-          full l = clash (hops-end n (W.route n lab d) s l) e
-
-      given : AllHops n lab d s → not (W.stops (W.last n (W.route n lab d) s)) ≡ true
-      given f =
-          let h = hops-within n (W.route n lab d) s in
-          let r = f .2 (W.hops n (W.route n lab d) s) h in
-          ap (λ x. not (W.stops x)) (ap (λ (x : ℕ). H.hop n lab x d) (same-places f (W.hops n (W.route n lab d) s) h) ∙ r .1)
 
 module _ (n s d m room : ℕ) (lab : ℕ → ℕ) where
   walk-refusal : W.walkRefusal n s d m room lab ≡ W.refusalOf (W.walked n s d m room lab .ending)
