@@ -1,5 +1,5 @@
--- A cabinet: all that labelling is handed and a label can depend on, in one record, and what it then has for labels. Contracts and theorems speak of a
--- cabinet, so another thing that labelling is handed is another field here.
+-- A cabinet, as one job has it: all that labelling is handed and a label can depend on, in one record, and what it then has for labels. Contracts and
+-- theorems speak of a cabinet, so another thing that labelling is handed is another field here.
 use mathlib.Core.Bool.{Bool, cond, not, _&&_, _||_}
 use mathlib.Core.List.{List}
 use Prim.Native.Nat.{ℕ, _^_}
@@ -16,22 +16,25 @@ pub record Cabinet : Type 0 where
   pub faults : List ℕ
   -- the lent table of draining nodes, of the same layout (document 02, A4)
   pub draining : List ℕ
+  -- the lent table of the nodes that the job closes for its own traffic, of the same layout (document 02, A10)
+  pub closed : List ℕ
 
-abbrev pub cabinet : (n rule : ℕ) (faults draining : List ℕ) → Cabinet
-cabinet n rule faults draining = record { n = n; rule = rule; faults = faults; draining = draining }
+abbrev pub cabinet : (n rule : ℕ) (faults draining closed : List ℕ) → Cabinet
+cabinet n rule faults draining closed = record { n = n; rule = rule; faults = faults; draining = draining; closed = closed }
 
 -- the same cabinet by the rule k
 abbrev pub byRule : (k : ℕ) → Cabinet → Cabinet
-byRule k K = cabinet (K .n) k (K .faults) (K .draining)
+byRule k K = cabinet (K .n) k (K .faults) (K .draining) (K .closed)
 
 -- there are two rules (document 02, A13): 2, that of Lee and Hayes, and 3, document 01's
 unfoldable pub isRule : (k : ℕ) → Bool
 isRule k = leb 2 k && leb k 3
 
--- the faulty nodes, and those that drain: "a node in both is faulty"
+-- the nodes that are faulty for the job: "closed counts as faulty", so these are the faulty ones and those that it closes
 abbrev pub faulty : Cabinet → ℕ → Bool
-faulty K = nodeBit (K .faults)
+faulty K x = nodeBit (K .faults) x || nodeBit (K .closed) x
 
+-- those that drain: a node that is faulty, or closed, does not, whatever the table of draining nodes says
 abbrev pub drains : Cabinet → ℕ → Bool
 drains K x = not (faulty K x) && nodeBit (K .draining) x
 

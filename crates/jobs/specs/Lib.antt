@@ -1,0 +1,2 @@
+pub mod Jobs
+pub mod Laws
