@@ -2,11 +2,11 @@
 use mathlib.Core.Path.{_≡_, refl, sym, ap, ap₂, _∙_}
 use mathlib.Core.Logic.{_⊎_, inl, inr, _≢_}
 use mathlib.Core.List.{List, _++_}
-use Prim.Native.Nat.{ℕ, _+_, _*_, _<_}
+use Prim.Native.Nat.{ℕ, _+_, _*_, _^_, _<_}
 use native.Mathlib.Omega.{arith}
 use lib.ListN.{drop, getD, length, length-append, length-drop, take, take-append-drop}
 use lib.Seq.{drop-at, getD-drop, getD-take, length-take-le, take-at}
-use Rattle.jobs.specs.Jobs.{half, withHalf}
+use Rattle.jobs.specs.Jobs.{Halved, half, labelBytes, withHalf}
 use Rattle.jobs.specs.Laws.{JobLaws}
 use Rattle.jobs.proofs.Halves.{half-first, half-second, two-jobs, with-first, with-second}
 
@@ -65,6 +65,11 @@ module _ (m : ℕ) (l : List ℕ) (e : length l ≡ 2 * m) where
             rw (y, z) (half-second m (withHalf 0 m h l) (ap length (with-first m l h) ∙ first-long) ∙ ap (drop m) (with-first m l h)
             ∙ drop-at h (drop m l) m eh ∙ sym (half-second m l e))
         go (inr y) (inr z) = absurd (d (y ∙ sym z))
+
+-- the half of a job in a buffer that has one
+pub halved-long : (n j : ℕ) (l : List ℕ) → Halved n j (length l) → length (half j (2 ^ n) l) ≡ 2 ^ n
+unfolding labelBytes
+halved-long n j l h = half-long (2 ^ n) l (h .sized) j (h .job)
 
 pub halves-alike : (m : ℕ) (l l′ : List ℕ) → length l ≡ 2 * m → length l′ ≡ 2 * m → half 0 m l ≡ half 0 m l′ → half 1 m l ≡ half 1 m l′ → l ≡ l′
 halves-alike m l l′ e e′ a b = sym (half-both m l e) ∙ ap₂ (λ (x y : List ℕ). x ++ y) a b ∙ half-both m l′ e′

@@ -12,21 +12,23 @@ use Rattle.labels.specs.Labelling.{labelled, labelsAfter}
 use Rattle.labels.specs.declared.Labelled.{Labelled}
 use Rattle.labels.proofs.label as label-claims
 
--- handed the dimension, the rule's number, the fault table, the table of draining nodes and the label table
-abbrev pub label : Function label-claims.ended (ℕ × ℕ × List ℕ × List ℕ × List ℕ) Labelled (List ℕ)
+-- handed the dimension, the rule's number, the job, the fault table, the table of draining nodes, that of the nodes that the job closes, and the label buffer
+abbrev pub label : Function label-claims.ended (ℕ × ℕ × ℕ × List ℕ × List ℕ × List ℕ × List ℕ) Labelled (List ℕ)
 label =
     record {
       clauses = λ w. label-claims.clauses (w .𝓤) (w .H) (w .𝓖 .A) (w .𝓜 .mem) (w .𝓡 .run);
       asked = label-claims.Reads.Asked;
       post = label-claims.Reads.Post;
-      handed = λ κs a. (a .0, a .1 .0, now (a .1 .1 .0), now (a .1 .1 .1 .0), now (a .1 .1 .1 .1 .0));
+      handed = λ κs a.
+          (a .0, a .1 .0, a .1 .1 .0, now (a .1 .1 .1 .0), now (a .1 .1 .1 .1 .0), now (a .1 .1 .1 .1 .1 .0), now (a .1 .1 .1 .1 .1 .1 .0));
       answered = λ κs r. r;
-      left = λ κs e. now (e .1 .1 .1 .1 .0);
+      left = λ κs e. now (e .1 .1 .1 .1 .1 .1 .0);
     }
 
 pub label-asks : AsksNothing label
 label-asks = record { asked = λ κs a. tt; empty = λ w κs a. (tt, refl) }
 
 pub label-says : Says label
-    (λ i. labelled (cabinet (i .0) (i .1) (i .2) (i .3)) (length (i .4))) (λ i. labelsAfter (cabinet (i .0) (i .1) (i .2) (i .3)) (i .4))
+    (λ i. labelled (cabinet (i .0) (i .1) (i .3) (i .4) (i .5)) (i .2) (length (i .6)))
+    (λ i. labelsAfter (cabinet (i .0) (i .1) (i .3) (i .4) (i .5)) (i .2) (i .6))
 label-says = record { says = λ κs a r e p. (p .0, p .1) }

@@ -1,7 +1,7 @@
 // Labelling: which working nodes are safe, ordinarily unsafe or strongly unsafe. The rounds are kept in the lent label table itself, by the
 // bytes PLAIN, MARKED, OUT and NEW. A byte is what its node weighs in the test of a neighbour: 0, 2 or 3, and NEW weighs nothing in the low seven
 // bits, where the test looks. The last pass tells ORDINARY from MARKED and DRAINING from OUT; PLAIN, MARKED and OUT stay as safe, strongly unsafe and
-// faulty.
+// faulty. A node that the job closes is faulty here. Only `label` knows that there are two jobs: the other functions are handed the half of one.
 ghost use Prim.Native.Nat.{_/_, _<_, _≤_, _^_};
 ghost use Rattle.cube.specs.Count.{count, some};
 ghost use Rattle.cube.specs.Cube.{flip};
@@ -20,6 +20,8 @@ use cube::node_bit;
 use cube::nodes;
 use cube::table_len;
 use cube::unused_set;
+use jobs::is_job;
+use jobs::label_bytes;
 
 const PLAIN: u8 = 0; // no mark; in the end: safe
 
@@ -52,8 +54,16 @@ fn is_rule(k: usize) -> bool
     (2 <= k) & (k <= 3)
 }
 
-fn label_refusal(n: usize, rule: usize, faults: &[u8], draining: &[u8], m: usize) -> u32
-    ensures { λ r. ⌜ r ≡ labelRefusal (cabinet n rule (now (faults .entry)) (now (draining .entry))) m ⌝ }
+fn label_refusal(
+    n: usize,
+    rule: usize,
+    job: usize,
+    faults: &[u8],
+    draining: &[u8],
+    closed: &[u8],
+    m: usize,
+) -> u32
+    ensures { λ r. ⌜ r ≡ labelRefusal (cabinet n rule (now (faults .entry)) (now (draining .entry)) (now (closed .entry))) job m ⌝ }
 {
     if !is_dimension(n) {
         return 1;
@@ -61,19 +71,28 @@ fn label_refusal(n: usize, rule: usize, faults: &[u8], draining: &[u8], m: usize
     if !is_rule(rule) {
         return 18;
     }
+    if !is_job(job) {
+        return 19;
+    }
     if faults.len() != table_len(n) {
         return 2;
     }
     if draining.len() != table_len(n) {
         return 2;
     }
-    if m != nodes(n) {
+    if closed.len() != table_len(n) {
+        return 2;
+    }
+    if m != label_bytes(n) {
         return 2;
     }
     if unused_set(n, faults) {
         return 3;
     }
     if unused_set(n, draining) {
+        return 3;
+    }
+    if unused_set(n, closed) {
         return 3;
     }
     0
@@ -160,27 +179,40 @@ fn is_ordinary(n: usize, labels: &[u8], x: usize) -> bool
     test.holds
 }
 
-// The byte that node k starts with: by both tables, whether it works.
-fn start_byte(faults: &[u8], draining: &[u8], k: usize) -> u8
+// Whether node k is faulty for the job: faulty, or closed by it.
+fn is_faulty(faults: &[u8], closed: &[u8], k: usize) -> bool
     requires { ⌜ k / 8 < length (now faults) ⌝ }
-    requires { ⌜ k / 8 < length (now draining) ⌝ }
-    ensures { λ r. ⌜ r ≡ started (λ x. nodeBit (now (faults .entry)) x || nodeBit (now (draining .entry)) x) k ⌝ }
+    requires { ⌜ k / 8 < length (now closed) ⌝ }
+    ensures { λ r. ⌜ r ≡ (nodeBit (now (faults .entry)) k || nodeBit (now (closed .entry)) k) ⌝ }
 {
     let faulty = node_bit(faults, k);
+    let shut = node_bit(closed, k);
+    faulty | shut
+}
+
+// The byte that node k starts with: by all three tables, whether it works.
+fn start_byte(faults: &[u8], draining: &[u8], closed: &[u8], k: usize) -> u8
+    requires { ⌜ k / 8 < length (now faults) ⌝ }
+    requires { ⌜ k / 8 < length (now draining) ⌝ }
+    requires { ⌜ k / 8 < length (now closed) ⌝ }
+    ensures { λ r. ⌜ r ≡ started (λ x. (nodeBit (now (faults .entry)) x || nodeBit (now (closed .entry)) x) || nodeBit (now (draining .entry)) x) k ⌝ }
+{
+    let faulty = is_faulty(faults, closed, k);
     let drains = node_bit(draining, k);
     if faulty | drains { OUT } else { PLAIN }
 }
 
 // The table before the first round.
-fn start(n: usize, faults: &[u8], draining: &[u8], labels: &mut [u8])
+fn start(n: usize, faults: &[u8], draining: &[u8], closed: &[u8], labels: &mut [u8])
     requires { ⌜ length (now faults) ≡ tableLen n ⌝ }
     requires { ⌜ length (now draining) ≡ tableLen n ⌝ }
+    requires { ⌜ length (now closed) ≡ tableLen n ⌝ }
     requires { ⌜ length (now labels) ≡ 2 ^ n ⌝ }
-    ensures { λ _. ⌜ now (labels .exit) ≡ tab (2 ^ n) (started (λ x. nodeBit (now (faults .entry)) x || nodeBit (now (draining .entry)) x)) ⌝ }
+    ensures { λ _. ⌜ now (labels .exit) ≡ tab (2 ^ n) (started (λ x. (nodeBit (now (faults .entry)) x || nodeBit (now (closed .entry)) x) || nodeBit (now (draining .entry)) x)) ⌝ }
 {
     let mut k: usize = 0;
     while k < labels.len() {
-        labels[k] = start_byte(faults, draining, k);
+        labels[k] = start_byte(faults, draining, closed, k);
         k = k + 1;
     }
 }
@@ -222,22 +254,29 @@ fn settle(labels: &mut [u8])
     }
 }
 
-// The byte of a node that does not work, in the end: a node in both tables is faulty, so the fault table alone tells.
-fn out_byte(faults: &[u8], x: usize) -> u8
+// The byte of a node that does not work, in the end: one that is faulty or closed is so whether it drains or not, so the table of draining nodes is not
+// asked.
+fn out_byte(faults: &[u8], closed: &[u8], x: usize) -> u8
     requires { ⌜ x / 8 < length (now faults) ⌝ }
-    ensures { λ r. ⌜ r ≡ cond (nodeBit (now (faults .entry)) x) 3 4 ⌝ }
+    requires { ⌜ x / 8 < length (now closed) ⌝ }
+    ensures { λ r. ⌜ r ≡ cond (nodeBit (now (faults .entry)) x || nodeBit (now (closed .entry)) x) 3 4 ⌝ }
 {
-    if node_bit(faults, x) { OUT } else { DRAINING }
+    if is_faulty(faults, closed, x) {
+        OUT
+    } else {
+        DRAINING
+    }
 }
 
 // The byte of node x in the end.
-fn final_byte(n: usize, faults: &[u8], labels: &[u8], x: usize) -> u8
+fn final_byte(n: usize, faults: &[u8], closed: &[u8], labels: &[u8], x: usize) -> u8
     requires { ⌜ x / 8 < length (now faults) ⌝ }
+    requires { ⌜ x / 8 < length (now closed) ⌝ }
     requires { ⌜ NodeOf n (now labels) x ⌝ }
-    ensures { λ r. ⌜ r ≡ finished n (λ y. cond (nodeBit (now (faults .entry)) y) 3 4) (now (labels .entry)) x ⌝ }
+    ensures { λ r. ⌜ r ≡ finished n (λ y. cond (nodeBit (now (faults .entry)) y || nodeBit (now (closed .entry)) y) 3 4) (now (labels .entry)) x ⌝ }
 {
     if labels[x] == OUT {
-        return out_byte(faults, x);
+        return out_byte(faults, closed, x);
     }
     if is_ordinary(n, labels, x) {
         return ORDINARY;
@@ -247,30 +286,40 @@ fn final_byte(n: usize, faults: &[u8], labels: &[u8], x: usize) -> u8
 
 // The end of labelling: tells the ordinarily unsafe nodes from the strongly unsafe ones, and the draining nodes from the faulty ones. A node without a mark
 // keeps its byte.
-fn finish(n: usize, faults: &[u8], labels: &mut [u8])
+fn finish(n: usize, faults: &[u8], closed: &[u8], labels: &mut [u8])
     requires { ⌜ length (now faults) ≡ tableLen n ⌝ }
+    requires { ⌜ length (now closed) ≡ tableLen n ⌝ }
     requires { ⌜ Sized n (now labels) ⌝ }
-    ensures { λ _. ⌜ now (labels .exit) ≡ tab (2 ^ n) (finished n (λ y. cond (nodeBit (now (faults .entry)) y) 3 4) (now (labels .entry))) ⌝ }
+    ensures { λ _. ⌜ now (labels .exit) ≡ tab (2 ^ n) (finished n (λ y. cond (nodeBit (now (faults .entry)) y || nodeBit (now (closed .entry)) y) 3 4) (now (labels .entry))) ⌝ }
 {
     let mut x: usize = 0;
     while x < labels.len() {
         if MARKED <= labels[x] {
-            labels[x] = final_byte(n, faults, labels, x);
+            labels[x] = final_byte(n, faults, closed, labels, x);
         }
         x = x + 1;
     }
 }
 
-// Labels every node of an accepted cabinet and answers the number of exchanges: each sweep is one, and the last is the first that marks nothing new.
-fn label_nodes(n: usize, rule: usize, faults: &[u8], draining: &[u8], labels: &mut [u8]) -> usize
+// Labels every node of an accepted cabinet in the half of its job, and answers the number of exchanges: each sweep is one, and the last is the first that
+// marks nothing new.
+fn label_nodes(
+    n: usize,
+    rule: usize,
+    faults: &[u8],
+    draining: &[u8],
+    closed: &[u8],
+    labels: &mut [u8],
+) -> usize
     requires { ⌜ (2 ≤ rule) × (rule ≤ 3) ⌝ }
     requires { ⌜ length (now faults) ≡ tableLen n ⌝ }
     requires { ⌜ length (now draining) ≡ tableLen n ⌝ }
+    requires { ⌜ length (now closed) ≡ tableLen n ⌝ }
     requires { ⌜ Sized n (now labels) ⌝ }
-    ensures exchanges { λ r. ⌜ r ≡ exchangesOf (cabinet n rule (now (faults .entry)) (now (draining .entry))) ⌝ }
-    ensures labels { λ r. ⌜ now (labels .exit) ≡ labelsOf (cabinet n rule (now (faults .entry)) (now (draining .entry))) ⌝ }
+    ensures exchanges { λ r. ⌜ r ≡ exchangesOf (cabinet n rule (now (faults .entry)) (now (draining .entry)) (now (closed .entry))) ⌝ }
+    ensures labels { λ r. ⌜ now (labels .exit) ≡ labelsOf (cabinet n rule (now (faults .entry)) (now (draining .entry)) (now (closed .entry))) ⌝ }
 {
-    start(n, faults, draining, labels);
+    start(n, faults, draining, closed, labels);
     let mut exchanges: usize = 1;
     loop {
         let marked = sweep(n, rule, labels);
@@ -280,19 +329,31 @@ fn label_nodes(n: usize, rule: usize, faults: &[u8], draining: &[u8], labels: &m
         settle(labels);
         exchanges = exchanges + 1;
     }
-    finish(n, faults, labels);
+    finish(n, faults, closed, labels);
     exchanges
 }
 
-// Labels every node by the rule and answers the number of exchanges, the quiet one included, or refuses and leaves the label table as it was.
-pub fn label(n: usize, rule: usize, faults: &[u8], draining: &[u8], labels: &mut [u8]) -> Labelled
-    ensures answer { λ r. ⌜ r ≡ labelled (cabinet n rule (now (faults .entry)) (now (draining .entry))) (length (now (labels .entry))) ⌝ }
-    ensures labels { λ r. ⌜ now (labels .exit) ≡ labelsAfter (cabinet n rule (now (faults .entry)) (now (draining .entry))) (now (labels .entry)) ⌝ }
+// Labels every node by the rule, for a job, and answers the number of exchanges, the quiet one included, or refuses and leaves the label buffer as it was.
+// The other job's half is left as it was either way.
+pub fn label(
+    n: usize,
+    rule: usize,
+    job: usize,
+    faults: &[u8],
+    draining: &[u8],
+    closed: &[u8],
+    labels: &mut [u8],
+) -> Labelled
+    ensures answer { λ r. ⌜ r ≡ labelled (cabinet n rule (now (faults .entry)) (now (draining .entry)) (now (closed .entry))) job (length (now (labels .entry))) ⌝ }
+    ensures labels { λ r. ⌜ now (labels .exit) ≡ labelsAfter (cabinet n rule (now (faults .entry)) (now (draining .entry)) (now (closed .entry))) job (now (labels .entry)) ⌝ }
 {
-    let refusal = label_refusal(n, rule, faults, draining, labels.len());
+    let refusal = label_refusal(n, rule, job, faults, draining, closed, labels.len());
     if refusal != 0 {
         return Labelled::Refused(refusal);
     }
-    let exchanges = label_nodes(n, rule, faults, draining, labels);
+    let size = nodes(n);
+    let from = job * size;
+    let to = from + size;
+    let exchanges = label_nodes(n, rule, faults, draining, closed, &mut labels[from..to]);
     Labelled::Exchanges(exchanges)
 }

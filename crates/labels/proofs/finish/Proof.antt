@@ -1,7 +1,7 @@
 -- `finish` goes once through the table. Invariant: the places before x hold the bytes of the end; the measure is what is left.
 use mathlib.Core.Path.{_∙_}
 use mathlib.Core.Logic.{⊎-elim}
-use mathlib.Core.Bool.{cond}
+use mathlib.Core.Bool.{cond, _||_}
 use mathlib.Core.List.{List}
 use Prim.Native.Nat.{ℕ, _≤_, _<_, _-_}
 use native.Mathlib.Omega.{arith}
@@ -16,17 +16,17 @@ use Rattle.labels.proofs.finish.Statement.{statement}
 use Rattle.labels.proofs.finish.Tie as tie
 
 -- the byte of a node that does not work
-abbrev own : (faults : List ℕ) (y : ℕ) → ℕ
-own faults y = cond (nodeBit faults y) 3 4
+abbrev own : (faults closed : List ℕ) (y : ℕ) → ℕ
+own faults closed y = cond (nodeBit faults y || nodeBit closed y) 3 4
 
-own-high : (faults : List ℕ) (y : ℕ) → 3 ≤ own faults y
-own-high faults y = by-cases (λ b. 3 ≤ b) (nodeBit faults y) (λ _. omega arith) (λ _. omega arith)
+own-high : (faults closed : List ℕ) (y : ℕ) → 3 ≤ own faults closed y
+own-high faults closed y = by-cases (λ b. 3 ≤ b) (nodeBit faults y || nodeBit closed y) (λ _. omega arith) (λ _. omega arith)
 
 abbrev Inv-loop : tie.InvT-loop
-Inv-loop n faults labels₀ x₀ labels x = Filled (finished n (own faults) labels₀) labels₀ labels x
+Inv-loop n faults closed labels₀ x₀ labels x = Filled (finished n (own faults closed) labels₀) labels₀ labels x
 
 abbrev μ-loop : tie.MeasureT-loop
-μ-loop n faults labels₀ x₀ labels x = length labels₀ - x
+μ-loop n faults closed labels₀ x₀ labels x = length labels₀ - x
 
 loop-holds : tie.Need-loop-holds Inv-loop μ-loop
 loop-holds c = fill-start _ _
@@ -37,8 +37,9 @@ slice-read-if1 c = omega arith
 final-byte-requires : tie.Need-final-byte-requires Inv-loop μ-loop
 final-byte-requires c κs =
     let s = c .before .before .before .before in
-    let a = s .before .before .before in
-    (node-room (a .args .n) (s .loop .x) _ (a .pre .0) (omega arith), omega arith)
+    let a = s .before .before .before .before in
+    let room = node-room (a .args .n) (s .loop .x) in
+    (room _ (a .pre .0) (omega arith), (room _ (a .pre .1 .0) (omega arith), omega arith))
 
 slice-write-labels : tie.Need-slice-write-labels Inv-loop μ-loop
 slice-write-labels c = omega arith
@@ -53,11 +54,11 @@ loop-again : tie.Need-loop-again Inv-loop μ-loop
 unfolding labelIn
 loop-again c =
     let s = c .before .before .before in
-    let h : s .loop .x < length (s .before .before .before .args .labels .now) = omega arith in
+    let h : s .loop .x < length (s .before .before .before .before .args .labels .now) = omega arith in
     let here = fill-here _ _ _ _ (s .loop .inv) in
     ⊎-elim
-    (λ w. rw (w .3) (fill-write _ _ _ _ (s .loop .inv) _ h (w .2 .ensures ∙ final-seen _ _ (own-high _) _ _ _ (s .loop .inv))))
-    (λ w. rw (w .1) (fill-keep _ _ _ _ (s .loop .inv) h (final-low _ _ (own-high _) _ _ (omega (arith, here, w .0 .left)))))
+    (λ w. rw (w .3) (fill-write _ _ _ _ (s .loop .inv) _ h (w .2 .ensures ∙ final-seen _ _ (own-high _ _) _ _ _ (s .loop .inv))))
+    (λ w. rw (w .1) (fill-keep _ _ _ _ (s .loop .inv) h (final-low _ _ (own-high _ _) _ _ (omega (arith, here, w .0 .left)))))
     (c .if1 .came)
 
 same-length : tie.Need-same-length Inv-loop μ-loop

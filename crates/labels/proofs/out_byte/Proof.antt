@@ -1,17 +1,17 @@
--- `out_byte` asks the fault table.
+-- `out_byte` asks whether the node is faulty for the job.
 use mathlib.Core.Path.{sym, _∙_}
 use borrow.Author.Needs.{needs}
 use Rattle.labels.proofs.out_byte.Statement.{statement}
 use Rattle.labels.proofs.out_byte.Tie as tie
 
-node-bit-requires : tie.Need-node-bit-requires
-node-bit-requires c κs = search needs
+is-faulty-requires : tie.Need-is-faulty-requires
+is-faulty-requires c κs = search needs
 
 returns : tie.Need-returns
-returns c = rw (sym (c .before .node-bit .ensures) ∙ c .if1 .taken)
+returns c = rw (sym (c .before .is-faulty .ensures) ∙ c .if1 .taken)
 
 returns-2 : tie.Need-returns-2
-returns-2 c = rw (sym (c .before .node-bit .ensures) ∙ c .if1 .left)
+returns-2 c = rw (sym (c .before .is-faulty .ensures) ∙ c .if1 .left)
 
 pub out-byte-spec : {M : Type 1} → statement M
-out-byte-spec = tie.close (tie.spec node-bit-requires returns returns-2)
+out-byte-spec = tie.close (tie.spec is-faulty-requires returns returns-2)

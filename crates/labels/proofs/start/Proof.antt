@@ -11,10 +11,10 @@ use Rattle.labels.proofs.start.Statement.{statement}
 use Rattle.labels.proofs.start.Tie as tie
 
 abbrev Inv-loop : tie.InvT-loop
-Inv-loop n faults draining labels₀ k₀ labels k = Filled (started (λ x. nodeBit faults x || nodeBit draining x)) labels₀ labels k
+Inv-loop n faults draining closed labels₀ k₀ labels k = Filled (started (λ x. (nodeBit faults x || nodeBit closed x) || nodeBit draining x)) labels₀ labels k
 
 abbrev μ-loop : tie.MeasureT-loop
-μ-loop n faults draining labels₀ k₀ labels k = length labels₀ - k
+μ-loop n faults draining closed labels₀ k₀ labels k = length labels₀ - k
 
 loop-holds : tie.Need-loop-holds Inv-loop μ-loop
 loop-holds c = fill-start _ _
@@ -22,8 +22,9 @@ loop-holds c = fill-start _ _
 start-byte-requires : tie.Need-start-byte-requires Inv-loop μ-loop
 start-byte-requires c κs =
     let s = c .before in
-    let a = s .before .before .before .before in
-    (node-room (a .args .n) (s .loop .k) _ (a .pre .0) (omega arith), node-room (a .args .n) (s .loop .k) _ (a .pre .1 .0) (omega arith))
+    let a = s .before .before .before .before .before in
+    let room = node-room (a .args .n) (s .loop .k) in
+    (room _ (a .pre .0) (omega arith), (room _ (a .pre .1 .0) (omega arith), room _ (a .pre .1 .1 .0) (omega arith)))
 
 slice-write-labels : tie.Need-slice-write-labels Inv-loop μ-loop
 slice-write-labels c = omega arith
