@@ -3,7 +3,7 @@
 use mathlib.Core.Bool.{true, cond}
 use mathlib.Core.List.{List}
 use mathlib.Core.Path.{_≡_, refl, sym, ap, _∙_}
-use Prim.Native.Nat.{ℕ, _+_, _*_, _/_, _%_, _<_}
+use Prim.Native.Nat.{ℕ, _+_, _*_, _/_, _%_, _^_, _<_}
 use native.Mathlib.Omega.{arith}
 use lib.Dec.{eqb, leb}
 use lib.ListN.{getD, length}
@@ -12,6 +12,7 @@ use Rattle.cube.specs.Tables.{labelIn, tab}
 use Rattle.cube.proofs.Bools.{by-cases}
 use Rattle.cube.proofs.Front.{getD-tab, tab-cong}
 use Rattle.cube.proofs.Tables.{nodes-few}
+use Rattle.jobs.specs.Jobs.{half}
 use Rattle.rule.specs.Cabinet.{Cabinet, exchangesOf}
 use Rattle.labels.specs.Labelling as L
 use Rattle.labels.specs.declared.Labelled.the-variants as labelled
@@ -58,11 +59,11 @@ refused x y k j e h = rw (e, ne-eqb j 0 h)
 
 -- ---- labelling
 
-module _ (K : Cabinet) (m : ℕ) where
+module _ (K : Cabinet) (j m : ℕ) where
   abbrev label-k : ℕ
-  label-k = L.labelRefusal K m
+  label-k = L.labelRefusal K j m
 
-  label-decoded : labelledFrom (labelNumber (L.labelled K m)) ≡ L.labelled K m
+  label-decoded : labelledFrom (labelNumber (L.labelled K j m)) ≡ L.labelled K j m
   unfolding L.labelled labelledFrom
   label-decoded =
       by-cases (λ a. LabelFits a → labelledFrom (labelNumber a) ≡ a) (eqb label-k 0)
@@ -71,7 +72,7 @@ module _ (K : Cabinet) (m : ℕ) where
       ∙ ap labelled.Exchanges (value-is 0 0 (exchangesOf K) (f .1)))
       (λ e f. refused (labelled.Exchanges (valuePart (packed label-k 0 0))) labelled.Refused (refusalPart (packed label-k 0 0)) label-k
       (refusal-is label-k 0 0 (f .0) (omega arith) (omega arith)) (eqb-false label-k 0 e))
-      (label-small K m)
+      (label-small K j m)
 
 -- ---- the hop
 
@@ -86,9 +87,9 @@ kind-small Deliver = omega arith
 kind-small (Hop i) = omega arith
 kind-small Halted = omega arith
 
-module _ (n c d m : ℕ) (lab : ℕ → ℕ) where
+module _ (n j c d m : ℕ) (lab : ℕ → ℕ) where
   abbrev hop-k : ℕ
-  hop-k = H.hopRefusal n c d m lab
+  hop-k = H.hopRefusal n j c d m lab
 
   abbrev x : Decision
   x = H.hop n lab c d
@@ -96,7 +97,7 @@ module _ (n c d m : ℕ) (lab : ℕ → ℕ) where
   abbrev number : ℕ
   number = packed 0 (H.decisionKind x) (H.decisionValue x)
 
-  hop-decoded : hoppedFrom (hopNumber (H.hopped n c d m lab)) ≡ H.hopped n c d m lab
+  hop-decoded : hoppedFrom (hopNumber (H.hopped n j c d m lab)) ≡ H.hopped n j c d m lab
   unfolding H.hopped hoppedFrom
   hop-decoded =
       by-cases (λ a. HopFits a → hoppedFrom (hopNumber a) ≡ a) (eqb hop-k 0)
@@ -104,7 +105,7 @@ module _ (n c d m : ℕ) (lab : ℕ → ℕ) where
       (refusal-is 0 (H.decisionKind x) (H.decisionValue x) (omega arith) (kind-small x) (f .1)) ∙ ap hopped.Decided (decision-decoded x (f .1)))
       (λ e f. refused (hopped.Decided (decisionFrom (kindPart (packed hop-k 0 0)) (valuePart (packed hop-k 0 0)))) hopped.Refused
       (refusalPart (packed hop-k 0 0)) hop-k (refusal-is hop-k 0 0 (f .0) (omega arith) (omega arith)) (eqb-false hop-k 0 e))
-      (hop-small n c d m lab)
+      (hop-small n j c d m lab)
 
 -- ---- the walk
 
@@ -170,30 +171,30 @@ refused-decoded before k l h =
     W.refused
     (refusalPart (packed k 0 0)) k (refusal-is k 0 0 l (omega arith) (omega arith)) h
 
-module _ (n s d : ℕ) (labels before : List ℕ) where
+module _ (n j s d : ℕ) (labels before : List ℕ) where
   abbrev lab : ℕ → ℕ
-  lab = labelIn labels
+  lab = labelIn (half j (2 ^ n) labels)
 
   abbrev walk-k : ℕ
-  walk-k = W.walkRefusal n s d (length labels) (length before) lab
+  walk-k = W.walkRefusal n j s d (length labels) (length before) lab
 
   -- every node of it is in the cube
   row-back : walk-k ≡ 0 → tab 17 (nodeAt (tab W.rowBytes (rowByte (W.row n (W.route n lab d) s)))) ≡ W.row n (W.route n lab d) s
   unfolding W.row
   row-back e =
-      let p = walk-good n s d (length labels) (length before) lab e .placed in
+      let p = walk-good n j s d (length labels) (length before) lab e .placed in
       row-decoded (λ k. cond (leb k (W.hops n (W.route n lab d) s)) (W.spot (W.route n lab d) s k) 0)
       (λ k _. by-cases (λ x. x < 65536) (leb k (W.hops n (W.route n lab d) s))
       (λ _. omega (arith, spot-lt n lab d s (p .first) k, nodes-few n (p .small))) (λ _. omega arith))
 
-  walk-decoded : walkedFrom (walkNumber (walkedBy n s d labels before)) (rowAfter (walkedBy n s d labels before) before) ≡ walkedBy n s d labels before
+  walk-decoded : walkedFrom (walkNumber (walkedBy n j s d labels before)) (rowAfter (walkedBy n j s d labels before) before) ≡ walkedBy n j s d labels before
   unfolding W.walked W.walkFrom W.refused
   walk-decoded =
       by-cases (λ w. WalkFits w → walkedFrom (walkNumber w) (rowAfter w before) ≡ w) (eqb walk-k 0)
       (λ e f. ended-decoded (W.walkFrom n (W.route n lab d) s) (f .0) (f .1) before
-      (has-row n s d (length labels) (length before) lab (eqb-true walk-k 0 e)) (row-back (eqb-true walk-k 0 e)))
+      (has-row n j s d (length labels) (length before) lab (eqb-true walk-k 0 e)) (row-back (eqb-true walk-k 0 e)))
       (λ e f. refused-decoded before walk-k (f .0) (eqb-false walk-k 0 e))
-      (walk-small n s d (length labels) (length before) lab)
+      (walk-small n j s d (length labels) (length before) lab)
 
 -- ---- the notice
 

@@ -2,12 +2,13 @@
 -- answer, and what is left of what was lent, for whatever is handed; and that an entry point asks nothing of its caller.
 use mathlib.Core.List.{List}
 use mathlib.Core.Path.{refl}
-use Prim.Native.Nat.{ℕ}
+use Prim.Native.Nat.{ℕ, _^_}
 use denote.Ref.{now}
 use lib.ListN.{length}
 use Rattle.cube.specs.Contracts.{AsksNothing, Function, Nothing}
 use Rattle.cube.proofs.Contracts.{Says}
 use Rattle.cube.specs.Tables.{labelIn}
+use Rattle.jobs.specs.Jobs.{half}
 use Rattle.rule.specs.Cabinet.{cabinet}
 use Rattle.labels.specs.Labelling.{labelled, labelsAfter}
 use Rattle.hop.specs.Hop.{hopped}
@@ -18,32 +19,33 @@ use Rattle.hcube.proofs.hcube_hop
 use Rattle.hcube.proofs.hcube_walk
 use Rattle.hcube.proofs.hcube_read_notice
 
-abbrev pub label : Function hcube_label.ended (ℕ × ℕ × List ℕ × List ℕ × List ℕ) ℕ (List ℕ)
+abbrev pub label : Function hcube_label.ended (ℕ × ℕ × ℕ × List ℕ × List ℕ × List ℕ × List ℕ) ℕ (List ℕ)
 label =
     record {
       clauses = λ w. hcube_label.clauses (w .𝓤) (w .H) (w .𝓖 .A) (w .𝓜 .mem) (w .𝓡 .run);
       asked = hcube_label.Reads.Asked;
       post = hcube_label.Reads.Post;
-      handed = λ κs a. (a .0, a .1 .0, now (a .1 .1 .0), now (a .1 .1 .1 .0), now (a .1 .1 .1 .1 .0));
+      handed = λ κs a.
+          (a .0, a .1 .0, a .1 .1 .0, now (a .1 .1 .1 .0), now (a .1 .1 .1 .1 .0), now (a .1 .1 .1 .1 .1 .0), now (a .1 .1 .1 .1 .1 .1 .0));
       answered = λ κs r. r;
-      left = λ κs e. now (e .1 .1 .1 .1 .0);
+      left = λ κs e. now (e .1 .1 .1 .1 .1 .1 .0);
     }
 
 pub label-asks : AsksNothing label
 label-asks = record { asked = λ κs a. tt; empty = λ w κs a. (tt, refl) }
 
 pub label-says :
-    Says label (λ i. labelNumber (labelled (cabinet (i .0) (i .1) (i .2) (i .3)) (length (i .4))))
-    (λ i. labelsAfter (cabinet (i .0) (i .1) (i .2) (i .3)) (i .4))
+    Says label (λ i. labelNumber (labelled (cabinet (i .0) (i .1) (i .3) (i .4) (i .5)) (i .2) (length (i .6))))
+    (λ i. labelsAfter (cabinet (i .0) (i .1) (i .3) (i .4) (i .5)) (i .2) (i .6))
 label-says = record { says = λ κs a r e p. (p .0, p .1) }
 
-abbrev pub hop : Function hcube_hop.ended (ℕ × ℕ × ℕ × List ℕ) ℕ Nothing
+abbrev pub hop : Function hcube_hop.ended (ℕ × ℕ × ℕ × ℕ × List ℕ) ℕ Nothing
 hop =
     record {
       clauses = λ w. hcube_hop.clauses (w .𝓤) (w .H) (w .𝓖 .A) (w .𝓜 .mem) (w .𝓡 .run);
       asked = hcube_hop.Reads.Asked;
       post = hcube_hop.Reads.Post;
-      handed = λ κs a. (a .0, a .1 .0, a .1 .1 .0, now (a .1 .1 .1 .0));
+      handed = λ κs a. (a .0, a .1 .0, a .1 .1 .0, a .1 .1 .1 .0, now (a .1 .1 .1 .1 .0));
       answered = λ κs r. r;
       left = λ κs e. tt;
     }
@@ -51,24 +53,26 @@ hop =
 pub hop-asks : AsksNothing hop
 hop-asks = record { asked = λ κs a. tt; empty = λ w κs a. (tt, refl) }
 
-pub hop-says : Says hop (λ i. hopNumber (hopped (i .0) (i .1) (i .2) (length (i .3)) (labelIn (i .3)))) (λ i. tt)
+pub hop-says : Says hop (λ i. hopNumber (hopped (i .0) (i .1) (i .2) (i .3) (length (i .4)) (labelIn (half (i .1) (2 ^ i .0) (i .4))))) (λ i. tt)
 hop-says = record { says = λ κs a r e p. (p, refl) }
 
-abbrev pub walk : Function hcube_walk.ended (ℕ × ℕ × ℕ × List ℕ × List ℕ) ℕ (List ℕ)
+abbrev pub walk : Function hcube_walk.ended (ℕ × ℕ × ℕ × ℕ × List ℕ × List ℕ) ℕ (List ℕ)
 walk =
     record {
       clauses = λ w. hcube_walk.clauses (w .𝓤) (w .H) (w .𝓖 .A) (w .𝓜 .mem) (w .𝓡 .run);
       asked = hcube_walk.Reads.Asked;
       post = hcube_walk.Reads.Post;
-      handed = λ κs a. (a .0, a .1 .0, a .1 .1 .0, now (a .1 .1 .1 .0), now (a .1 .1 .1 .1 .0));
+      handed = λ κs a. (a .0, a .1 .0, a .1 .1 .0, a .1 .1 .1 .0, now (a .1 .1 .1 .1 .0), now (a .1 .1 .1 .1 .1 .0));
       answered = λ κs r. r;
-      left = λ κs e. now (e .1 .1 .1 .1 .0);
+      left = λ κs e. now (e .1 .1 .1 .1 .1 .0);
     }
 
 pub walk-asks : AsksNothing walk
 walk-asks = record { asked = λ κs a. tt; empty = λ w κs a. (tt, refl) }
 
-pub walk-says : Says walk (λ i. walkNumber (walkedBy (i .0) (i .1) (i .2) (i .3) (i .4))) (λ i. rowAfter (walkedBy (i .0) (i .1) (i .2) (i .3) (i .4)) (i .4))
+pub walk-says :
+    Says walk (λ i. walkNumber (walkedBy (i .0) (i .1) (i .2) (i .3) (i .4) (i .5)))
+    (λ i. rowAfter (walkedBy (i .0) (i .1) (i .2) (i .3) (i .4) (i .5)) (i .5))
 walk-says = record { says = λ κs a r e p. (p .0, p .1) }
 
 abbrev pub read-notice : Function hcube_read_notice.ended (List ℕ × List ℕ) ℕ (List ℕ)

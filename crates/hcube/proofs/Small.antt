@@ -1,4 +1,4 @@
--- Every part of an answer is small, so that the packed number does not wrap: a refusal is at most 18, a dimension below 12, a hop count at most 16.
+-- Every part of an answer is small, so that the packed number does not wrap: a refusal is at most 19, a dimension below 12, a hop count at most 16.
 -- A walk that is not refused was lent a row of 34 bytes.
 use mathlib.Core.Path.{_≡_, refl}
 use mathlib.Core.Bool.{true, false}
@@ -32,33 +32,33 @@ use Rattle.hcube.specs.Fits.{RowFits, WalkFits}
 abbrev pub LabelFits : Labelled → Type 0
 LabelFits a = (L.refusalOf a < 256) × (L.valueOf a < 65536)
 
-pub label-small : (K : Cabinet) (m : ℕ) → LabelFits (L.labelled K m)
+pub label-small : (K : Cabinet) (j m : ℕ) → LabelFits (L.labelled K j m)
 unfolding L.labelled
-label-small K m =
-    by-cases LabelFits (eqb (L.labelRefusal K m) 0)
-    (λ e. (omega arith, omega (arith, exchanges-few K (fitting K m (eqb-true (L.labelRefusal K m) 0 e) .small))))
-    (λ _. (omega (arith, refusal-le K m), omega arith))
+label-small K j m =
+    by-cases LabelFits (eqb (L.labelRefusal K j m) 0)
+    (λ e. (omega arith, omega (arith, exchanges-few K (fitting K j m (eqb-true (L.labelRefusal K j m) 0 e) .halved .small))))
+    (λ _. (omega (arith, refusal-le K j m), omega arith))
 
 -- ---- the hop
 
 abbrev pub HopFits : Hopped → Type 0
 HopFits a = (H.refusalOf a < 256) × (H.valueOf a < 65536)
 
-module _ (n c d m : ℕ) (lab : ℕ → ℕ) where
-  hop-refusal : H.hopRefusal n c d m lab ≤ 12
+module _ (n j c d m : ℕ) (lab : ℕ → ℕ) where
+  hop-refusal : H.hopRefusal n j c d m lab ≤ 19
   unfolding H.hopRefusal
-  hop-refusal = first-le 12 (H.hopTests n c d m lab) refl
+  hop-refusal = first-le 19 (H.hopTests n j c d m lab) refl
 
   decision-small : (x : Decision) → n ≤ 12 → H.hop n lab c d ≡ x → H.decisionValue x < 65536
   decision-small Deliver h e = omega arith
   decision-small (Hop i) h e = omega (arith, hop-dim n lab c d i e)
   decision-small Halted h e = omega arith
 
-  pub hop-small : HopFits (H.hopped n c d m lab)
+  pub hop-small : HopFits (H.hopped n j c d m lab)
   unfolding H.hopped
   hop-small =
-      by-cases HopFits (eqb (H.hopRefusal n c d m lab) 0)
-      (λ e. (omega arith, decision-small (H.hop n lab c d) (hop-good n c d m lab (eqb-true (H.hopRefusal n c d m lab) 0 e) .small) refl))
+      by-cases HopFits (eqb (H.hopRefusal n j c d m lab) 0)
+      (λ e. (omega arith, decision-small (H.hop n lab c d) (hop-good n j c d m lab (eqb-true (H.hopRefusal n j c d m lab) 0 e) .small) refl))
       (λ _. (omega (arith, hop-refusal), omega arith))
 
 -- ---- the walk
@@ -70,34 +70,34 @@ ends-well Deliver e = refl
 ends-well (Hop i) e = let z : _≡_ {A = ℕ} 0 1 = cc in absurd (omega arith)
 ends-well Halted e = refl
 
-module _ (n s d m room : ℕ) (lab : ℕ → ℕ) where
-  walk-refusal : W.walkRefusal n s d m room lab ≤ 12
+module _ (n j s d m room : ℕ) (lab : ℕ → ℕ) where
+  walk-refusal : W.walkRefusal n j s d m room lab ≤ 19
   unfolding W.walkRefusal
-  walk-refusal = first-le 12 (W.walkTests n s d m room lab) refl
+  walk-refusal = first-le 19 (W.walkTests n j s d m room lab) refl
 
   -- where nothing is refused, the last decision is no hop, so the walk has a row to write
-  pub has-row : W.walkRefusal n s d m room lab ≡ 0 → hasRow (W.walkFrom n (W.route n lab d) s .ending) ≡ true
+  pub has-row : W.walkRefusal n j s d m room lab ≡ 0 → hasRow (W.walkFrom n (W.route n lab d) s .ending) ≡ true
   unfolding W.walkFrom
-  has-row e = ends-well (W.last n (W.route n lab d) s) (walk-good n s d m room lab e .stops)
+  has-row e = ends-well (W.last n (W.route n lab d) s) (walk-good n j s d m room lab e .stops)
 
   ending-few : (x : Decision) → W.refusalOf (W.endingOf x) < 256
   ending-few Deliver = omega arith
   ending-few (Hop i) = omega arith
   ending-few Halted = omega arith
 
-  pub walk-small : WalkFits (W.walked n s d m room lab)
+  pub walk-small : WalkFits (W.walked n j s d m room lab)
   unfolding W.walked W.walkFrom W.refused
   walk-small = (
-    by-cases (λ (w : Walked). W.refusalOf (w .ending) < 256) (eqb (W.walkRefusal n s d m room lab) 0) (λ _. ending-few (W.last n (W.route n lab d) s))
+    by-cases (λ (w : Walked). W.refusalOf (w .ending) < 256) (eqb (W.walkRefusal n j s d m room lab) 0) (λ _. ending-few (W.last n (W.route n lab d) s))
         (λ _. omega (arith, walk-refusal)),
-    omega (arith, hops-few n s d m room lab),
+    omega (arith, hops-few n j s d m room lab),
   )
 
-  pub row-fits : RowFits (W.walked n s d m room lab) room
+  pub row-fits : RowFits (W.walked n j s d m room lab) room
   unfolding W.walked W.refused
   row-fits =
-      by-cases (λ w. RowFits w room) (eqb (W.walkRefusal n s d m room lab) 0)
-      (λ e _. walk-good n s d m room lab (eqb-true (W.walkRefusal n s d m room lab) 0 e) .lent)
+      by-cases (λ w. RowFits w room) (eqb (W.walkRefusal n j s d m room lab) 0)
+      (λ e _. walk-good n j s d m room lab (eqb-true (W.walkRefusal n j s d m room lab) 0 e) .lent)
       (λ _ h. let z : _≡_ {A = ℕ} 0 1 = cc in absurd (omega arith))
 
 pub written : (w : Walked) (before : List ℕ) → hasRow (w .ending) ≡ true → tab W.rowBytes (rowByte (w .row)) ≡ rowAfter w before

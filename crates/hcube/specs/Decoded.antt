@@ -76,11 +76,11 @@ pub record Shows (r low : ℕ) : Type 0 where
 
 -- each is the answer that was put into the number
 pub record Decodes : Type 0 where
-  pub label : (K : Cabinet) (m : ℕ) → labelledFrom (labelNumber (labelled K m)) ≡ labelled K m
-  pub hop : (n c d m : ℕ) (lab : ℕ → ℕ) → hoppedFrom (hopNumber (hopped n c d m lab)) ≡ hopped n c d m lab
+  pub label : (K : Cabinet) (j m : ℕ) → labelledFrom (labelNumber (labelled K j m)) ≡ labelled K j m
+  pub hop : (n j c d m : ℕ) (lab : ℕ → ℕ) → hoppedFrom (hopNumber (hopped n j c d m lab)) ≡ hopped n j c d m lab
   pub walk :
-      (n s d : ℕ) (labels before : List ℕ)
-      → walkedFrom (walkNumber (walkedBy n s d labels before)) (rowAfter (walkedBy n s d labels before) before) ≡ walkedBy n s d labels before
+      (n j s d : ℕ) (labels before : List ℕ)
+      → walkedFrom (walkNumber (walkedBy n j s d labels before)) (rowAfter (walkedBy n j s d labels before) before) ≡ walkedBy n j s d labels before
   pub notice : (bytes before : List ℕ) → noticedFrom (noticeNumber (noticed bytes before)) ≡ noticed bytes before
   -- and an answer that is cut to 32 bits still shows its refusal, its kind and its value
   pub cut : (r : ℕ) → Shows r (r % 4294967296)

@@ -1,9 +1,10 @@
 // What C calls: plain numbers and byte slices in, one number out. include/hcube.h is the C side of it. C's numbers are widened and never
 // narrowed, so none is mistaken for a smaller one.
-ghost use Prim.Native.Nat.{_<_, _≤_};
+ghost use Prim.Native.Nat.{_<_, _≤_, _^_};
 ghost use Rattle.cube.specs.Tables.{labelIn, tab};
 ghost use Rattle.hcube.specs.Answers.{hasRow, hopNumber, labelNumber, noticeNumber, packed, packedNotice, rowAfter, rowByte, walkNumber, walkedBy};
 ghost use Rattle.hcube.specs.Fits.{RowFits, WalkFits};
+ghost use Rattle.jobs.specs.Jobs.{half};
 ghost use Rattle.labels.specs.Labelling.{labelled, labelsAfter};
 ghost use Rattle.notice.specs.Notice.{noticed, tableAfter};
 ghost use Rattle.hop.specs.Hop.{decisionKind, decisionValue, hopped};
@@ -26,19 +27,29 @@ fn pack(refusal: u32, kind: u32, value: usize) -> u32
     refusal * 16777216 + kind * 65536 + value as u32
 }
 
-// Labels every node by the rule: the number of exchanges, or the refusal, which leaves the labels as they were.
+// Labels every node by the rule, for a job: the number of exchanges, or the refusal, which leaves the labels as they were.
 #[no_mangle]
 pub extern "C" fn hcube_label(
     n: u32,
     rule: u32,
+    job: u32,
     faults: &[u8],
     draining: &[u8],
+    closed: &[u8],
     labels: &mut [u8],
 ) -> u32
-    ensures answer { λ r. ⌜ r ≡ labelNumber (labelled (cabinet n rule (now (faults .entry)) (now (draining .entry))) (length (now (labels .entry)))) ⌝ }
-    ensures labels { λ r. ⌜ now (labels .exit) ≡ labelsAfter (cabinet n rule (now (faults .entry)) (now (draining .entry))) (now (labels .entry)) ⌝ }
+    ensures answer { λ r. ⌜ r ≡ labelNumber (labelled (cabinet n rule (now (faults .entry)) (now (draining .entry)) (now (closed .entry))) job (length (now (labels .entry)))) ⌝ }
+    ensures labels { λ r. ⌜ now (labels .exit) ≡ labelsAfter (cabinet n rule (now (faults .entry)) (now (draining .entry)) (now (closed .entry))) job (now (labels .entry)) ⌝ }
 {
-    let answer = labels::label(n as usize, rule as usize, faults, draining, labels);
+    let answer = labels::label(
+        n as usize,
+        rule as usize,
+        job as usize,
+        faults,
+        draining,
+        closed,
+        labels,
+    );
     match answer {
         Labelled::Exchanges(exchanges) => pack(0, 0, exchanges),
         Labelled::Refused(k) => pack(k, 0, 0),
@@ -57,12 +68,12 @@ fn pack_decision(x: Decision) -> u32
     }
 }
 
-// Decides one hop at c for d.
+// Decides one hop at c for d, by the labels of a job.
 #[no_mangle]
-pub extern "C" fn hcube_hop(n: u32, c: u32, d: u32, labels: &[u8]) -> u32
-    ensures { λ r. ⌜ r ≡ hopNumber (hopped n c d (length (now (labels .entry))) (labelIn (now (labels .entry)))) ⌝ }
+pub extern "C" fn hcube_hop(n: u32, job: u32, c: u32, d: u32, labels: &[u8]) -> u32
+    ensures { λ r. ⌜ r ≡ hopNumber (hopped n job c d (length (now (labels .entry))) (labelIn (half job (2 ^ n) (now (labels .entry))))) ⌝ }
 {
-    let answer = hop::hop(n as usize, c as usize, d as usize, labels);
+    let answer = hop::hop(n as usize, job as usize, c as usize, d as usize, labels);
     match answer {
         Hopped::Refused(k) => pack(k, 0, 0),
         Hopped::Decided(x) => pack_decision(x),
@@ -130,13 +141,20 @@ fn write_row(walked: Walked, row: &mut [u8])
     }
 }
 
-// Walks from s to d: the row of nodes goes to the lent buffer, and none of it where the walk is refused.
+// Walks from s to d, by the labels of a job: the row of nodes goes to the lent buffer, and none of it where the walk is refused.
 #[no_mangle]
-pub extern "C" fn hcube_walk(n: u32, s: u32, d: u32, labels: &[u8], row: &mut [u8]) -> u32
-    ensures answer { λ r. ⌜ r ≡ walkNumber (walkedBy n s d (now (labels .entry)) (now (row .entry))) ⌝ }
-    ensures row { λ r. ⌜ now (row .exit) ≡ rowAfter (walkedBy n s d (now (labels .entry)) (now (row .entry))) (now (row .entry)) ⌝ }
+pub extern "C" fn hcube_walk(n: u32, job: u32, s: u32, d: u32, labels: &[u8], row: &mut [u8]) -> u32
+    ensures answer { λ r. ⌜ r ≡ walkNumber (walkedBy n job s d (now (labels .entry)) (now (row .entry))) ⌝ }
+    ensures row { λ r. ⌜ now (row .exit) ≡ rowAfter (walkedBy n job s d (now (labels .entry)) (now (row .entry))) (now (row .entry)) ⌝ }
 {
-    let walked = walk::walk_for(n as usize, s as usize, d as usize, labels, row.len());
+    let walked = walk::walk_for(
+        n as usize,
+        job as usize,
+        s as usize,
+        d as usize,
+        labels,
+        row.len(),
+    );
     write_row(walked, row);
     pack_walk(walked)
 }

@@ -6,6 +6,7 @@ use mathlib.Core.Path.{_≡_}
 use Prim.Native.Nat.{ℕ, _*_, _^_, _≤_, _<_}
 use lib.Dec.{ltb}
 use lib.ListN.{drop, take}
+use Rattle.cube.specs.Tables.{labelIn}
 
 -- a job is 0 or 1
 unfoldable pub isJob : ℕ → Bool
@@ -22,6 +23,10 @@ half j m l = take m (drop (j * m) l)
 -- the buffer l with the table h as the half of job j: what stands before that half, h, and what stands behind it
 unfoldable pub withHalf : (j m : ℕ) (h l : List ℕ) → List ℕ
 withHalf j m h l = take (j * m) l ++ (h ++ drop m (drop (j * m) l))
+
+-- the label of node x that job j has in the label buffer l of an n-cube
+abbrev pub labelFor : (n j : ℕ) (l : List ℕ) (x : ℕ) → ℕ
+labelFor n j l = labelIn (half j (2 ^ n) l)
 
 -- a buffer of m bytes has a half of job j for an n-cube: what the functions that take it apart may assume
 pub record Halved (n j m : ℕ) : Type 0 where

@@ -113,15 +113,15 @@ module _ (K : Cabinet) (j m : ℕ) where
 -- ---- what labelling leaves, by halves
 
 module _ (K : Cabinet) (j : ℕ) (before : List ℕ) where
-  buffer : labelRefusal K j (length before) ≡ 0 → length before ≡ 2 * 2 ^ K .n
+  pub buffer-sized : labelRefusal K j (length before) ≡ 0 → length before ≡ 2 * 2 ^ K .n
   unfolding labelBytes
-  buffer e = fitting K j (length before) e .halved .sized
+  buffer-sized e = fitting K j (length before) e .halved .sized
 
   -- accepted, its own half holds the labels
   pub labels-written : labelRefusal K j (length before) ≡ 0 → half j (2 ^ K .n) (labelsAfter K j before) ≡ labelsOf K
   unfolding labelsAfter
   labels-written e =
-      rw e (with-there (2 ^ K .n) before (buffer e) (labelsOf K) (labels-length K) j (fitting K j (length before) e .halved .job))
+      rw e (with-there (2 ^ K .n) before (buffer-sized e) (labelsOf K) (labels-length K) j (fitting K j (length before) e .halved .job))
 
   -- the other's half, and the length, are as they were, accepted or not
   pub others-kept : (i : ℕ) → i < 2 → i ≢ j → half i (2 ^ K .n) (labelsAfter K j before) ≡ half i (2 ^ K .n) before
@@ -129,11 +129,11 @@ module _ (K : Cabinet) (j : ℕ) (before : List ℕ) where
   others-kept i h d =
       by-cases (λ (l : List ℕ). half i (2 ^ K .n) l ≡ half i (2 ^ K .n) before) (eqb (labelRefusal K j (length before)) 0)
       (λ z. let e = eqb-true _ _ z in
-      with-others (2 ^ K .n) before (buffer e) (labelsOf K) (labels-length K) i j h (fitting K j (length before) e .halved .job) d) (λ _. refl)
+      with-others (2 ^ K .n) before (buffer-sized e) (labelsOf K) (labels-length K) i j h (fitting K j (length before) e .halved .job) d) (λ _. refl)
 
   pub length-kept : length (labelsAfter K j before) ≡ length before
   unfolding labelsAfter
   length-kept =
       by-cases (λ (l : List ℕ). length l ≡ length before) (eqb (labelRefusal K j (length before)) 0)
       (λ z. let e = eqb-true _ _ z in
-      with-long (2 ^ K .n) before (buffer e) (labelsOf K) (labels-length K) j (fitting K j (length before) e .halved .job)) (λ _. refl)
+      with-long (2 ^ K .n) before (buffer-sized e) (labelsOf K) (labels-length K) j (fitting K j (length before) e .halved .job)) (λ _. refl)

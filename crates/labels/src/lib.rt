@@ -261,11 +261,8 @@ fn out_byte(faults: &[u8], closed: &[u8], x: usize) -> u8
     requires { ⌜ x / 8 < length (now closed) ⌝ }
     ensures { λ r. ⌜ r ≡ cond (nodeBit (now (faults .entry)) x || nodeBit (now (closed .entry)) x) 3 4 ⌝ }
 {
-    if is_faulty(faults, closed, x) {
-        OUT
-    } else {
-        DRAINING
-    }
+    let faulty = is_faulty(faults, closed, x);
+    if faulty { OUT } else { DRAINING }
 }
 
 // The byte of node x in the end.

@@ -11,13 +11,15 @@ use borrow.Author.Tests.{eq-eqb, eqb-true, le-leb, leb-false, leb-true, lt-ltb, 
 use Rattle.cube.specs.Count.{some}
 use Rattle.cube.specs.Cube.{bit}
 use Rattle.cube.specs.Tables.{isDimension, nodeBit, tableLen, unusedSet}
-use Rattle.cube.proofs.Bools.{and-both, and-true, clash, either, or-left, or-right, or-true}
+use Rattle.cube.proofs.Bools.{and-both, and-true, clash, either, is-false, or-left, or-right, or-true}
 use Rattle.cube.proofs.Cube.{bit-none}
 use Rattle.cube.proofs.Search.{some-found, some-hit}
 use Rattle.cube.proofs.Tables.{dimension-is, len-large, len-small}
+use Rattle.jobs.specs.Jobs.{isJob, labelBytes}
+use Rattle.jobs.proofs.Halves.{is-job, job-is, two-jobs}
 use Rattle.rule.specs.Cabinet.{isRule}
 use Rattle.rule.proofs.Cabinet.{is-rule, rule-is}
-use Rattle.promises.specs.Refusals.{Dimension, Given, Outside, Rule, TableLength, Unused, here, later, none}
+use Rattle.promises.specs.Refusals.{BothHalves, Dimension, Given, Job, Outside, Rule, TableLength, Unused, here, later, none}
 
 module _ {When : ℕ → Type 0} where
   pub given-one : {order : List ℕ} {j k : ℕ} → Given When order j → Given When order k → j ≡ k
@@ -83,6 +85,12 @@ rule-says k = (λ e. two-or-three (rule-is k e) (either (leb 3 k)), λ r. is-rul
     two-or-three b (inl a) = inr (omega (arith, leb-true 3 k a))
     two-or-three b (inr a) = inl (omega (arith, leb-false 3 k a))
 
+pub job-below : {j : ℕ} → Job j → j < 2
+job-below r = ⊎-elim (λ e. omega arith) (λ e. omega arith) r
+
+job-says : (j : ℕ) → (isJob j ≡ true) ↔ Job j
+job-says j = (λ e. two-jobs j (job-is j e), λ r. is-job j (job-below r))
+
 pub table-length : (n bytes : ℕ) → TableLength n bytes → bytes ≡ tableLen n
 table-length n bytes (inl t) = t .1 ∙ sym (len-small n (t .0))
 table-length n bytes (inr t) = t .1 ∙ sym (len-large n (t .0))
@@ -119,17 +127,25 @@ unused-says n t = (said, given)
         some-hit (8 * length t) (λ x. leb (2 ^ n) x && nodeBit t x) (r .0) (bit-inside t (r .0) (r .2))
         (and-both (le-leb (2 ^ n) (r .0) (r .1)) (r .2))
 
+-- a table without an unused bit set
+pub all-used : (n : ℕ) (t : List ℕ) → TableLength n (length t) × (¬ (Unused n t)) → unusedSet n t ≡ false
+all-used n t h = is-false (λ u. h .1 (unused-says n t .0 u))
+
 pub wrong-dimension : (n : ℕ) → (not (isDimension n) ≡ true) ↔ (¬ (Dimension n))
 wrong-dimension n = not-says (isDimension n) (dimension-says n)
 
 pub wrong-rule : (k : ℕ) → (not (isRule k) ≡ true) ↔ (¬ (Rule k))
 wrong-rule k = not-says (isRule k) (rule-says k)
 
+pub wrong-job : (j : ℕ) → (not (isJob j) ≡ true) ↔ (¬ (Job j))
+wrong-job j = not-says (isJob j) (job-says j)
+
 pub wrong-table : (n bytes : ℕ) → (not (eqb bytes (tableLen n)) ≡ true) ↔ (¬ (TableLength n bytes))
 wrong-table n bytes = not-says (eqb bytes (tableLen n)) (length-says n bytes)
 
-pub wrong-length : (n m : ℕ) → (not (eqb m (2 ^ n)) ≡ true) ↔ (¬ (m ≡ 2 ^ n))
-wrong-length n m = not-says (eqb m (2 ^ n)) (eqb-says m (2 ^ n))
+pub wrong-halves : (n m : ℕ) → (not (eqb m (labelBytes n)) ≡ true) ↔ (¬ (BothHalves n m))
+unfolding labelBytes
+wrong-halves n m = not-says (eqb m (2 * 2 ^ n)) (eqb-says m (2 * 2 ^ n))
 
 pub outside : (n a b : ℕ) → ((leb (2 ^ n) a || leb (2 ^ n) b) ≡ true) ↔ Outside n a b
 outside n a b = or-says _ _ (leb-says (2 ^ n) a) (leb-says (2 ^ n) b)

@@ -8,7 +8,8 @@ use native.Mathlib.Omega.{arith}
 use lib.Dec.{eqb}
 use lib.ListN.{getD, length}
 use Rattle.cube.specs.Contracts.{May}
-use Rattle.cube.specs.Tables.{labelIn, tab}
+use Rattle.cube.specs.Tables.{tab}
+use Rattle.jobs.specs.Jobs.{labelFor}
 use Rattle.cube.proofs.Bools.{by-cases}
 use Rattle.cube.proofs.Contracts.{told}
 use Rattle.cube.proofs.Front.{getD-tab, length-tab}
@@ -36,15 +37,16 @@ use Rattle.promises.proofs.Library.{c-faithful}
 
 -- ---- the number of the library's own answer
 
-label-same : {n rule r : ℕ} {x : Labelled} {faults draining before after after′ : List ℕ} → May hcube.label (n, rule, faults, draining, before) r after
-    → May labels.label (n, rule, faults, draining, before) x after′ → r ≡ labelNumber x
+label-same : {n rule j r : ℕ} {x : Labelled} {faults draining closed before after after′ : List ℕ}
+    → May hcube.label (n, rule, j, faults, draining, closed, before) r after
+    → May labels.label (n, rule, j, faults, draining, closed, before) x after′ → r ≡ labelNumber x
 label-same m v = told hcube.label-says m .0 ∙ ap labelNumber (sym (told labels.label-says v .0))
 
-hop-same : {n c d r : ℕ} {x : Hopped} {table : List ℕ} → May hcube.hop (n, c, d, table) r tt → May hop.hop (n, c, d, table) x tt → r ≡ hopNumber x
+hop-same : {n j c d r : ℕ} {x : Hopped} {buffer : List ℕ} → May hcube.hop (n, j, c, d, buffer) r tt → May hop.hop (n, j, c, d, buffer) x tt → r ≡ hopNumber x
 hop-same m v = told hcube.hop-says m .0 ∙ ap hopNumber (sym (told hop.hop-says v .0))
 
-walk-same : {n s d r : ℕ} {table before after : List ℕ} {w : Walked} → May hcube.walk (n, s, d, table, before) r after
-    → May walk.walk-for (n, s, d, table, length before) w tt → (r ≡ walkNumber w) × (after ≡ rowAfter w before)
+walk-same : {n j s d r : ℕ} {buffer before after : List ℕ} {w : Walked} → May hcube.walk (n, j, s, d, buffer, before) r after
+    → May walk.walk-for (n, j, s, d, buffer, length before) w tt → (r ≡ walkNumber w) × (after ≡ rowAfter w before)
 walk-same {before = before} m v =
     let t = told hcube.walk-says m in
     let e = sym (told walk.walk-for-says v .0) in
@@ -55,8 +57,8 @@ notice-same : {r : ℕ} {x : Noticed} {bytes before after after′ : List ℕ} �
 notice-same m v = told hcube.read-notice-says m .0 ∙ ap noticeNumber (sym (told notice.read-says v .0))
 
 -- a refused walk has hop count 0
-walk-refuses : {n s d r k : ℕ} {table before after : List ℕ} {w : Walked} → May hcube.walk (n, s, d, table, before) r after
-    → May walk.walk-for (n, s, d, table, length before) w tt → w .ending ≡ ending.Refused k → (r ≡ k * 16777216) × (after ≡ before)
+walk-refuses : {n j s d r k : ℕ} {buffer before after : List ℕ} {w : Walked} → May hcube.walk (n, j, s, d, buffer, before) r after
+    → May walk.walk-for (n, j, s, d, buffer, length before) w tt → w .ending ≡ ending.Refused k → (r ≡ k * 16777216) × (after ≡ before)
 unfolding rowAfter
 walk-refuses {w = w} m v e =
     let t = walk-same m v in
@@ -75,9 +77,9 @@ walk-none r row h = rw h
 has-row : (kind : ℕ) → hasRow (endingFrom kind) ≡ true
 has-row kind = by-cases (λ (e : Ending). hasRow e ≡ true) (eqb kind 0) (λ _. refl) (λ _. refl)
 
-module _ {n s d r : ℕ} {table before after : List ℕ} (m : May hcube.walk (n, s, d, table, before) r after) where
+module _ {n j s d r : ℕ} {buffer before after : List ℕ} (m : May hcube.walk (n, j, s, d, buffer, before) r after) where
   abbrev w : Walked
-  w = walkedBy n s d table before
+  w = walkedBy n j s d buffer before
 
   said : (r ≡ walkNumber w) × (after ≡ rowAfter w before)
   said = told hcube.walk-says m
@@ -97,23 +99,23 @@ module _ {n s d r : ℕ} {table before after : List ℕ} (m : May hcube.walk (n,
     bytes = said .1 ∙ sym (written w before rowed)
 
     room : length before ≡ W.rowBytes
-    room = row-fits n s d (length table) (length before) (labelIn table) rowed
+    room = row-fits n j s d (length buffer) (length before) (labelFor n j buffer) rowed
 
     whole : length after ≡ W.rowBytes
     whole = ap length bytes ∙ length-tab W.rowBytes (rowByte (w .row))
 
     -- so it is the walk of a caller who takes the row from the answer
-    same : w ≡ W.walked n s d (length table) W.rowBytes (labelIn table)
-    same = ap (λ (k : ℕ). W.walked n s d (length table) k (labelIn table)) room
+    same : w ≡ W.walked n j s d (length buffer) W.rowBytes (labelFor n j buffer)
+    same = ap (λ (k : ℕ). W.walked n j s d (length buffer) k (labelFor n j buffer)) room
 
     node : (k : ℕ) → k < 17 → nodeAt after k ≡ place w k
     node k l = sym (getD-tab 17 (nodeAt after) k l) ∙ ap (λ (u : Walked). place u k) (sym ended)
 
-    row-nodes : {v : Walked} → May walk.walk (n, s, d, table) v tt → (k : ℕ) → k < 17 → nodeAt after k ≡ place v k
+    row-nodes : {v : Walked} → May walk.walk (n, j, s, d, buffer) v tt → (k : ℕ) → k < 17 → nodeAt after k ≡ place v k
     row-nodes v k l = node k l ∙ ap (λ (u : Walked). place u k) (same ∙ sym (told walk.walk-says v .0))
 
-    byte : (j : ℕ) → j < 34 → getD after j 0 ≡ rowByte (w .row) j
-    byte j l = ap (λ (t : List ℕ). getD t j 0) bytes ∙ getD-tab W.rowBytes (rowByte (w .row)) j l
+    byte : (i : ℕ) → i < 34 → getD after i 0 ≡ rowByte (w .row) i
+    byte i l = ap (λ (t : List ℕ). getD t i 0) bytes ∙ getD-tab W.rowBytes (rowByte (w .row)) i l
 
     row-bytes : (k : ℕ) → k < 17 → (getD after (2 * k) 0 ≡ nodeAt after k % 256) × (getD after (2 * k + 1) 0 ≡ nodeAt after k / 256)
     row-bytes k l =
@@ -125,14 +127,14 @@ module _ {n s d r : ℕ} {table before after : List ℕ} (m : May hcube.walk (n,
 pub in-c : InC
 in-c =
     record {
-      label-exchanges = λ {n} {r} m v. let e = label-same m v in omega arith;
-      label-refuses = λ {n} {r} m v. let e = label-same m v in omega arith;
+      label-exchanges = λ {n} {rule} {j} {r} m v. let e = label-same m v in omega arith;
+      label-refuses = λ {n} {rule} {j} {r} m v. let e = label-same m v in omega arith;
       hop-delivers = λ m v. hop-same m v;
       hop-hops = λ m v. hop-same m v;
       hop-halts = λ m v. hop-same m v;
-      hop-refuses = λ {n} {c} {d} {r} m v. let e = hop-same m v in omega arith;
-      walk-delivers = λ {n} {s} {d} {r} m v e. let f = walk-same m v .0 in let g = ap W.refusalOf e in let h = ap W.kindOf e in omega arith;
-      walk-halts = λ {n} {s} {d} {r} m v e. let f = walk-same m v .0 in let g = ap W.refusalOf e in let h = ap W.kindOf e in omega arith;
+      hop-refuses = λ {n} {j} {c} {d} {r} m v. let e = hop-same m v in omega arith;
+      walk-delivers = λ {n} {j} {s} {d} {r} m v e. let f = walk-same m v .0 in let g = ap W.refusalOf e in let h = ap W.kindOf e in omega arith;
+      walk-halts = λ {n} {j} {s} {d} {r} m v e. let f = walk-same m v .0 in let g = ap W.refusalOf e in let h = ap W.kindOf e in omega arith;
       walk-refuses = walk-refuses;
       notice-reads = λ {r} m v. let e = notice-same m v in omega arith;
       notice-refuses = λ {r} {k} {at} {bytes} {before} m v. let e = notice-same m v in

@@ -6,8 +6,8 @@ use mathlib.Core.Path.{_≡_, sym, ap, ap₂, _∙_}
 use Prim.Native.Nat.{ℕ}
 use lib.ListN.{length}
 use Rattle.cube.specs.Contracts.{May}
-use Rattle.cube.specs.Tables.{labelIn}
 use Rattle.cube.proofs.Contracts.{told}
+use Rattle.jobs.specs.Jobs.{labelFor}
 use Rattle.rule.specs.Cabinet.{Cabinet}
 use Rattle.notice.specs.Notice.{noticed, tableAfter}
 use Rattle.notice.specs.declared.Noticed.{Noticed}
@@ -29,10 +29,11 @@ use Rattle.promises.specs.Library.{Library, rattle, c}
 pub record Faithful (lib : Library) : Type 0 where
   pub reads : {bytes before after : List ℕ} {x : Noticed} → lib .reads bytes before x after → (x ≡ noticed bytes before) × (after ≡ tableAfter bytes before)
   pub labels :
-      {K : Cabinet} {before after : List ℕ} {x : Labelled} → lib .labels K before x after
-      → (x ≡ labelled K (length before)) × (after ≡ labelsAfter K before)
-  pub hops : {n c d : ℕ} {table : List ℕ} {x : Hopped} → lib .hops n c d table x → x ≡ hopped n c d (length table) (labelIn table)
-  pub walks : {n s d room : ℕ} {table : List ℕ} {w : Walked} → lib .walks n s d table room w → w ≡ walked n s d (length table) room (labelIn table)
+      {K : Cabinet} {j : ℕ} {before after : List ℕ} {x : Labelled} → lib .labels K j before x after
+      → (x ≡ labelled K j (length before)) × (after ≡ labelsAfter K j before)
+  pub hops : {n j c d : ℕ} {buffer : List ℕ} {x : Hopped} → lib .hops n j c d buffer x → x ≡ hopped n j c d (length buffer) (labelFor n j buffer)
+  pub walks :
+      {n j s d room : ℕ} {buffer : List ℕ} {w : Walked} → lib .walks n j s d buffer room w → w ≡ walked n j s d (length buffer) room (labelFor n j buffer)
 
 pub rattle-faithful : Faithful rattle
 rattle-faithful =
@@ -40,10 +41,10 @@ rattle-faithful =
       reads = told notice.read-says;
       labels = told labels.label-says;
       hops = λ m. told hop.hop-says m .0;
-      walks = λ {n} {s} {d} {room} {table} {w}.
-          ⊎-elim (λ (m : May walk.walk-for (n, s, d, table, room) w tt). told walk.walk-for-says m .0)
-          (λ (m : May walk.walk (n, s, d, table) w tt × (room ≡ rowBytes)). told walk.walk-says (m .0) .0
-          ∙ ap (λ (k : ℕ). walked n s d (length table) k (labelIn table)) (sym (m .1)));
+      walks = λ {n} {j} {s} {d} {room} {buffer} {w}.
+          ⊎-elim (λ (m : May walk.walk-for (n, j, s, d, buffer, room) w tt). told walk.walk-for-says m .0)
+          (λ (m : May walk.walk (n, j, s, d, buffer) w tt × (room ≡ rowBytes)). told walk.walk-says (m .0) .0
+          ∙ ap (λ (k : ℕ). walked n j s d (length buffer) k (labelFor n j buffer)) (sym (m .1)));
     }
 
 pub c-faithful : Faithful c
@@ -51,11 +52,11 @@ c-faithful =
     record {
       reads = λ {bytes} {before} m. let t = told hcube.read-notice-says (m .1) in
           (sym (m .2) ∙ ap noticedFrom (t .0) ∙ decodes .notice bytes before, t .1);
-      labels = λ {K} {before} m. let t = told hcube.label-says (m .1) in
-          (sym (m .2) ∙ ap labelledFrom (t .0) ∙ decodes .label K (length before), t .1);
-      hops = λ {n} {c} {d} {table} m. let t = told hcube.hop-says (m .1) in
-          sym (m .2) ∙ ap hoppedFrom (t .0) ∙ decodes .hop n c d (length table) (labelIn table);
-      walks = λ {n} {s} {d} {room} {table} m. let t = told hcube.walk-says (m .3) in
-          sym (m .5) ∙ ap₂ walkedFrom (t .0) (t .1) ∙ decodes .walk n s d table (m .1)
-          ∙ ap (λ (k : ℕ). walked n s d (length table) k (labelIn table)) (m .4);
+      labels = λ {K} {j} {before} m. let t = told hcube.label-says (m .1) in
+          (sym (m .2) ∙ ap labelledFrom (t .0) ∙ decodes .label K j (length before), t .1);
+      hops = λ {n} {j} {c} {d} {buffer} m. let t = told hcube.hop-says (m .1) in
+          sym (m .2) ∙ ap hoppedFrom (t .0) ∙ decodes .hop n j c d (length buffer) (labelFor n j buffer);
+      walks = λ {n} {j} {s} {d} {room} {buffer} m. let t = told hcube.walk-says (m .3) in
+          sym (m .5) ∙ ap₂ walkedFrom (t .0) (t .1) ∙ decodes .walk n j s d buffer (m .1)
+          ∙ ap (λ (k : ℕ). walked n j s d (length buffer) k (labelFor n j buffer)) (m .4);
     }

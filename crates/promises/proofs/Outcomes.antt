@@ -22,37 +22,37 @@ use Rattle.hcube.proofs.Small.{has-row}
 
 -- ---- labelling
 
-pub labels-kept : (K : Cabinet) (before : List ℕ) (k : ℕ) → labelled K (length before) ≡ labelled.Refused k → labelsAfter K before ≡ before
+pub labels-kept : (K : Cabinet) (j : ℕ) (before : List ℕ) (k : ℕ) → labelled K j (length before) ≡ labelled.Refused k → labelsAfter K j before ≡ before
 unfolding labelsAfter
-labels-kept K before k e =
-    let r = of-refused K (length before) k e in
-    rw (ne-eqb (labelRefusal K (length before)) 0 (λ z. r .1 (r .0 ∙ z)))
+labels-kept K j before k e =
+    let r = of-refused K j (length before) k e in
+    rw (ne-eqb (labelRefusal K j (length before)) 0 (λ z. r .1 (r .0 ∙ z)))
 
-pub answered : (K : Cabinet) (m : ℕ) → labelRefusal K m ≡ 0 → labelled K m ≡ labelled.Exchanges (exchangesOf K)
+pub answered : (K : Cabinet) (j m : ℕ) → labelRefusal K j m ≡ 0 → labelled K j m ≡ labelled.Exchanges (exchangesOf K)
 unfolding labelled
-answered K m e = rw e
+answered K j m e = rw e
 
 -- ---- the hop
 
-pub of-decided : (n c d m : ℕ) (lab : ℕ → ℕ) (x : Decision) → hopped n c d m lab ≡ hopped.Decided x → hop n lab c d ≡ x
+pub of-decided : (n j c d m : ℕ) (lab : ℕ → ℕ) (x : Decision) → hopped n j c d m lab ≡ hopped.Decided x → hop n lab c d ≡ x
 unfolding hopped
-of-decided n c d m lab x =
-    by-cases (λ a. a ≡ hopped.Decided x → hop n lab c d ≡ x) (eqb (hopRefusal n c d m lab) 0) (λ _ e. cc)
+of-decided n j c d m lab x =
+    by-cases (λ a. a ≡ hopped.Decided x → hop n lab c d ≡ x) (eqb (hopRefusal n j c d m lab) 0) (λ _ e. cc)
     (λ _ e. let q : _≡_ {A = ℕ} 0 1 = cc in absurd (omega arith))
 
 -- ---- the walk
 
-module _ (n s d m room : ℕ) (lab : ℕ → ℕ) where
-  pub of-ended : refusalOf (walked n s d m room lab .ending) ≡ 0 → walkRefusal n s d m room lab ≡ 0
+module _ (n j s d m room : ℕ) (lab : ℕ → ℕ) where
+  pub of-ended : refusalOf (walked n j s d m room lab .ending) ≡ 0 → walkRefusal n j s d m room lab ≡ 0
   unfolding walked refused
   of-ended =
-      by-cases (λ (w : Walked). refusalOf (w .ending) ≡ 0 → walkRefusal n s d m room lab ≡ 0) (eqb (walkRefusal n s d m room lab) 0)
-      (λ z _. eqb-true (walkRefusal n s d m room lab) 0 z) (λ z e. e)
+      by-cases (λ (w : Walked). refusalOf (w .ending) ≡ 0 → walkRefusal n j s d m room lab ≡ 0) (eqb (walkRefusal n j s d m room lab) 0)
+      (λ z _. eqb-true (walkRefusal n j s d m room lab) 0 z) (λ z e. e)
 
-  pub of-blank : (k : ℕ) → walked n s d m room lab .ending ≡ ending.Refused k → walked n s d m room lab ≡ refused k
+  pub of-blank : (k : ℕ) → walked n j s d m room lab .ending ≡ ending.Refused k → walked n j s d m room lab ≡ refused k
   unfolding walked refused
   of-blank k =
-      by-cases (λ (w : Walked). w .ending ≡ ending.Refused k → w ≡ refused k) (eqb (walkRefusal n s d m room lab) 0)
-      (λ z e. let h = has-row n s d m room lab (eqb-true (walkRefusal n s d m room lab) 0 z) in
+      by-cases (λ (w : Walked). w .ending ≡ ending.Refused k → w ≡ refused k) (eqb (walkRefusal n j s d m room lab) 0)
+      (λ z e. let h = has-row n j s d m room lab (eqb-true (walkRefusal n j s d m room lab) 0 z) in
       let q : _≡_ {A = ℕ} 0 1 = cc (ap hasRow e) in absurd (omega arith))
-      (λ _ e. let q : walkRefusal n s d m room lab ≡ k = cc in ap refused q)
+      (λ _ e. let q : walkRefusal n j s d m room lab ≡ k = cc in ap refused q)

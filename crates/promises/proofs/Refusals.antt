@@ -3,6 +3,7 @@
 use mathlib.Core.Path.{_≡_, refl, sym, ap, _∙_}
 use mathlib.Core.Logic.{_⊎_, inl, inr, ⊎-elim, _↔_, _≢_}
 use mathlib.Core.Bool.{Bool, true, false, not, _&&_, _||_}
+use mathlib.Core.List.{List}
 use Prim.Native.Nat.{ℕ, _^_, _<_}
 use lib.Dec.{eqb, leb, ltb}
 use lib.ListN.{length}
@@ -12,6 +13,7 @@ use Rattle.cube.specs.Cube.{flip}
 use Rattle.cube.specs.Refusal.{first}
 use Rattle.cube.specs.Tables.{highest, isDimension, tableLen, unusedSet}
 use Rattle.cube.proofs.Bools.{by-cases, clash, either}
+use Rattle.jobs.specs.Jobs.{isJob, labelBytes}
 use Rattle.rule.specs.Cabinet.{Cabinet, isRule}
 use Rattle.labels.specs.Labelling as L
 use Rattle.hop.specs.Hop as H
@@ -26,6 +28,7 @@ use Rattle.promises.specs.Refusals.{
   WalkGiven,
   WalkWhen,
   hop-1,
+  hop-19,
   hop-2,
   hop-4-here,
   hop-4-near,
@@ -34,13 +37,17 @@ use Rattle.promises.specs.Refusals.{
   hop-6-faulty,
   label-1,
   label-18,
+  label-19,
+  label-2-closed,
   label-2-draining,
   label-2-faults,
   label-2-labels,
+  label-3-closed,
   label-3-draining,
   label-3-faults,
   none,
   walk-1,
+  walk-19,
   walk-2-labels,
   walk-2-row,
   walk-4,
@@ -62,8 +69,9 @@ use Rattle.promises.proofs.Given.{
   some-says,
   unused-says,
   wrong-dimension,
+  wrong-halves,
+  wrong-job,
   wrong-rule,
-  wrong-length,
   wrong-table,
 }
 use Rattle.promises.proofs.Eight.{eight}
@@ -71,107 +79,125 @@ use Rattle.promises.proofs.Notices.{notice-given, notice-one, number-gi
 
 -- ---- labelling
 
-module _ (K : Cabinet) (m : ℕ) where
-  label-refusal : L.labelRefusal K m ≡ L.refusalOf (L.labelled K m)
+module _ (K : Cabinet) (j m : ℕ) where
+  label-refusal : L.labelRefusal K j m ≡ L.refusalOf (L.labelled K j m)
   unfolding L.labelled
-  label-refusal = by-cases (λ a. L.labelRefusal K m ≡ L.refusalOf a) (eqb (L.labelRefusal K m) 0) (λ z. eqb-true _ _ z) (λ _. refl)
+  label-refusal = by-cases (λ a. L.labelRefusal K j m ≡ L.refusalOf a) (eqb (L.labelRefusal K j m) 0) (λ z. eqb-true _ _ z) (λ _. refl)
 
-  label-given : LabelGiven K m (L.labelRefusal K m)
+  -- a table has another length than it should
+  abbrev wrong : List ℕ → Bool
+  wrong t = not (eqb (length t) (tableLen (K .n)))
+
+  label-given : LabelGiven K j m (L.labelRefusal K j m)
   unfolding L.labelRefusal first
   label-given =
       one-test _ (λ e. label-1 (wrong-dimension (K .n) .0 e)) said-1
       (one-test _ (λ e. label-18 (wrong-rule (K .rule) .0 e)) said-18
+      (one-test _ (λ e. label-19 (wrong-job j .0 e)) said-19
       (also-test _ (λ e. label-2-faults (wrong-table (K .n) (length (K .faults)) .0 e)) (λ f.
       also-test _ (λ e. label-2-draining (wrong-table (K .n) (length (K .draining)) .0 e)) (λ g.
-      one-test _ (λ e. label-2-labels (wrong-length (K .n) m .0 e)) (said-2 f g)
+      also-test _ (λ e. label-2-closed (wrong-table (K .n) (length (K .closed)) .0 e)) (λ h.
+      one-test _ (λ e. label-2-labels (wrong-halves (K .n) m .0 e)) (said-2 f g h)
       (also-test _ (λ e. label-3-faults (unused-says (K .n) (K .faults) .0 e)) (λ f.
-      one-test _ (λ e. label-3-draining (unused-says (K .n) (K .draining) .0 e)) (said-3 f) none))))))
+      also-test _ (λ e. label-3-draining (unused-says (K .n) (K .draining) .0 e)) (λ g.
+      one-test _ (λ e. label-3-closed (unused-says (K .n) (K .closed) .0 e)) (said-3 f g) none)))))))))
     where
-      said-1 : LabelWhen K m 1 → not (isDimension (K .n)) ≡ true
+      said-1 : LabelWhen K j m 1 → not (isDimension (K .n)) ≡ true
       said-1 (label-1 w) = wrong-dimension (K .n) .1 w
 
-      said-18 : LabelWhen K m 18 → not (isRule (K .rule)) ≡ true
+      said-18 : LabelWhen K j m 18 → not (isRule (K .rule)) ≡ true
       said-18 (label-18 w) = wrong-rule (K .rule) .1 w
 
-      said-2 : not (eqb (length (K .faults)) (tableLen (K .n))) ≡ false → not (eqb (length (K .draining)) (tableLen (K .n))) ≡ false
-          → LabelWhen K m 2 → not (eqb m (2 ^ K .n)) ≡ true
-      said-2 f g (label-2-faults w) = absurd (clash (wrong-table (K .n) (length (K .faults)) .1 w) f)
-      said-2 f g (label-2-draining w) = absurd (clash (wrong-table (K .n) (length (K .draining)) .1 w) g)
-      said-2 f g (label-2-labels w) = wrong-length (K .n) m .1 w
+      said-19 : LabelWhen K j m 19 → not (isJob j) ≡ true
+      said-19 (label-19 w) = wrong-job j .1 w
 
-      said-3 : unusedSet (K .n) (K .faults) ≡ false → LabelWhen K m 3 → unusedSet (K .n) (K .draining) ≡ true
-      said-3 f (label-3-faults u) = absurd (clash (unused-says (K .n) (K .faults) .1 u) f)
-      said-3 f (label-3-draining u) = unused-says (K .n) (K .draining) .1 u
+      said-2 : wrong (K .faults) ≡ false → wrong (K .draining) ≡ false → wrong (K .closed) ≡ false → LabelWhen K j m 2
+          → not (eqb m (labelBytes (K .n))) ≡ true
+      said-2 f g h (label-2-faults w) = absurd (clash (wrong-table (K .n) (length (K .faults)) .1 w) f)
+      said-2 f g h (label-2-draining w) = absurd (clash (wrong-table (K .n) (length (K .draining)) .1 w) g)
+      said-2 f g h (label-2-closed w) = absurd (clash (wrong-table (K .n) (length (K .closed)) .1 w) h)
+      said-2 f g h (label-2-labels w) = wrong-halves (K .n) m .1 w
+
+      said-3 : unusedSet (K .n) (K .faults) ≡ false → unusedSet (K .n) (K .draining) ≡ false → LabelWhen K j m 3
+          → unusedSet (K .n) (K .closed) ≡ true
+      said-3 f g (label-3-faults u) = absurd (clash (unused-says (K .n) (K .faults) .1 u) f)
+      said-3 f g (label-3-draining u) = absurd (clash (unused-says (K .n) (K .draining) .1 u) g)
+      said-3 f g (label-3-closed u) = unused-says (K .n) (K .closed) .1 u
 
 -- ---- a hop
 
-module _ (n c d m : ℕ) (lab : ℕ → ℕ) where
-  hop-refusal : H.hopRefusal n c d m lab ≡ H.refusalOf (H.hopped n c d m lab)
+module _ (n j c d m : ℕ) (lab : ℕ → ℕ) where
+  hop-refusal : H.hopRefusal n j c d m lab ≡ H.refusalOf (H.hopped n j c d m lab)
   unfolding H.hopped
-  hop-refusal = by-cases (λ a. H.hopRefusal n c d m lab ≡ H.refusalOf a) (eqb (H.hopRefusal n c d m lab) 0) (λ z. eqb-true _ _ z) (λ _. refl)
+  hop-refusal = by-cases (λ a. H.hopRefusal n j c d m lab ≡ H.refusalOf a) (eqb (H.hopRefusal n j c d m lab) 0) (λ z. eqb-true _ _ z) (λ _. refl)
 
   abbrev near : Bool
   near = some n (λ i. ltb highest (lab (flip i c)))
 
-  hop-given : HopGiven n c d m lab (H.hopRefusal n c d m lab)
+  hop-given : HopGiven n j c d m lab (H.hopRefusal n j c d m lab)
   unfolding H.hopRefusal first
   hop-given =
       one-test _ (λ e. hop-1 (wrong-dimension n .0 e)) said-1
-      (one-test _ (λ e. hop-2 (wrong-length n m .0 e)) said-2
+      (one-test _ (λ e. hop-19 (wrong-job j .0 e)) said-19
+      (one-test _ (λ e. hop-2 (wrong-halves n m .0 e)) said-2
       (one-test _ (λ e. hop-5 (outside n c d .0 e)) said-5
       (one-test _ (λ e. four (bytes .0 e)) said-4
-      (also-test _ (λ e. hop-6-faulty (eqb-true (lab c) 3 e)) (λ f. one-test _ (λ e. let r = away .0 e in hop-6-draining (r .0) (r .1)) (said-6 f) none)))))
+      (also-test _ (λ e. hop-6-faulty (eqb-true (lab c) 3 e)) (λ f. one-test _ (λ e. let r = away .0 e in hop-6-draining (r .0) (r .1)) (said-6 f) none))))))
     where
       bytes : ((ltb highest (lab c) || near) ≡ true) ↔ ((4 < lab c) ⊎ ((i : ℕ) × (i < n) × (4 < lab (flip i c))))
       bytes = or-says _ _ (ltb-says 4 (lab c)) (some-says n _ (λ i. 4 < lab (flip i c)) (λ i. ltb-says 4 (lab (flip i c))))
 
-      four : (4 < lab c) ⊎ ((i : ℕ) × (i < n) × (4 < lab (flip i c))) → HopWhen n c d m lab 4
+      four : (4 < lab c) ⊎ ((i : ℕ) × (i < n) × (4 < lab (flip i c))) → HopWhen n j c d m lab 4
       four (inl h) = hop-4-here h
       four (inr r) = hop-4-near (r .0) (r .1) (r .2)
 
-      said-1 : HopWhen n c d m lab 1 → not (isDimension n) ≡ true
+      said-1 : HopWhen n j c d m lab 1 → not (isDimension n) ≡ true
       said-1 (hop-1 w) = wrong-dimension n .1 w
 
-      said-2 : HopWhen n c d m lab 2 → not (eqb m (2 ^ n)) ≡ true
-      said-2 (hop-2 w) = wrong-length n m .1 w
+      said-19 : HopWhen n j c d m lab 19 → not (isJob j) ≡ true
+      said-19 (hop-19 w) = wrong-job j .1 w
 
-      said-5 : HopWhen n c d m lab 5 → (leb (2 ^ n) c || leb (2 ^ n) d) ≡ true
+      said-2 : HopWhen n j c d m lab 2 → not (eqb m (labelBytes n)) ≡ true
+      said-2 (hop-2 w) = wrong-halves n m .1 w
+
+      said-5 : HopWhen n j c d m lab 5 → (leb (2 ^ n) c || leb (2 ^ n) d) ≡ true
       said-5 (hop-5 w) = outside n c d .1 w
 
-      said-4 : HopWhen n c d m lab 4 → (ltb highest (lab c) || near) ≡ true
+      said-4 : HopWhen n j c d m lab 4 → (ltb highest (lab c) || near) ≡ true
       said-4 (hop-4-here h) = bytes .1 (inl h)
       said-4 (hop-4-near i l h) = bytes .1 (inr (i, l, h))
 
       away : ((eqb (lab c) 4 && not (eqb c d)) ≡ true) ↔ ((lab c ≡ 4) × (c ≢ d))
       away = and-says _ _ (eqb-says (lab c) 4) (not-says _ (eqb-says c d))
 
-      said-6 : eqb (lab c) 3 ≡ false → HopWhen n c d m lab 6 → (eqb (lab c) 4 && not (eqb c d)) ≡ true
+      said-6 : eqb (lab c) 3 ≡ false → HopWhen n j c d m lab 6 → (eqb (lab c) 4 && not (eqb c d)) ≡ true
       said-6 f (hop-6-faulty e) = absurd (clash (eq-eqb (lab c) 3 e) f)
       said-6 f (hop-6-draining e k) = away .1 (e, k)
 
 -- ---- a walk
 
-module _ (n s d m room : ℕ) (lab : ℕ → ℕ) where
-  walk-refusal : W.walkRefusal n s d m room lab ≡ W.refusalOf (W.walked n s d m room lab .ending)
+module _ (n j s d m room : ℕ) (lab : ℕ → ℕ) where
+  walk-refusal : W.walkRefusal n j s d m room lab ≡ W.refusalOf (W.walked n j s d m room lab .ending)
   unfolding W.walked W.refused
   walk-refusal =
-      ⊎-elim (λ (z : eqb (W.walkRefusal n s d m room lab) 0 ≡ true). accepted (eqb-true _ _ z))
-      (λ (z : eqb (W.walkRefusal n s d m room lab) 0 ≡ false). rw z)
-      (either (eqb (W.walkRefusal n s d m room lab) 0))
+      ⊎-elim (λ (z : eqb (W.walkRefusal n j s d m room lab) 0 ≡ true). accepted (eqb-true _ _ z))
+      (λ (z : eqb (W.walkRefusal n j s d m room lab) 0 ≡ false). rw z)
+      (either (eqb (W.walkRefusal n j s d m room lab) 0))
     where
-      accepted : W.walkRefusal n s d m room lab ≡ 0 → W.walkRefusal n s d m room lab ≡ W.refusalOf (W.walked n s d m room lab .ending)
-      accepted z = ⊎-elim (λ e. z ∙ sym (ap W.refusalOf (e .1))) (λ e. z ∙ sym (ap W.refusalOf (e .1))) (walk-repeats n s d m room lab z .ends)
+      accepted : W.walkRefusal n j s d m room lab ≡ 0 → W.walkRefusal n j s d m room lab ≡ W.refusalOf (W.walked n j s d m room lab .ending)
+      accepted z = ⊎-elim (λ e. z ∙ sym (ap W.refusalOf (e .1))) (λ e. z ∙ sym (ap W.refusalOf (e .1))) (walk-repeats n j s d m room lab z .ends)
 
-  walk-given : WalkGiven n s d m room lab (W.walkRefusal n s d m room lab)
+  walk-given : WalkGiven n j s d m room lab (W.walkRefusal n j s d m room lab)
   unfolding W.walkRefusal first
   walk-given =
       one-test _ (λ e. walk-1 (wrong-dimension n .0 e)) said-1
-      (also-test _ (λ e. walk-2-labels (wrong-length n m .0 e)) (λ f. one-test _ (λ e. walk-2-row (row .0 e)) (said-2 f)
+      (one-test _ (λ e. walk-19 (wrong-job j .0 e)) said-19
+      (also-test _ (λ e. walk-2-labels (wrong-halves n m .0 e)) (λ f. one-test _ (λ e. walk-2-row (row .0 e)) (said-2 f)
       (one-test _ (λ e. walk-5 (outside n s d .0 e)) said-5
       (one-test _ (λ e. let r = bytes .0 e in walk-4 (r .0) (r .1) (r .2)) said-4
       (one-test _ (λ e. walk-6 (leb-true 3 (lab s) e)) said-6
       (one-test _ (λ e. walk-7 (eqb-true (lab d) 3 e)) said-7
-      (one-test _ (λ e. walk-8 (eight n lab d s .0 e)) said-8 none)))))))
+      (one-test _ (λ e. walk-8 (eight n lab d s .0 e)) said-8 none))))))))
     where
       row : (not (eqb room 34) ≡ true) ↔ (¬ (room ≡ 34))
       row = not-says _ (eqb-says room 34)
@@ -179,26 +205,29 @@ module _ (n s d m room : ℕ) (lab : ℕ → ℕ) where
       bytes : (some (2 ^ n) (λ x. ltb highest (lab x)) ≡ true) ↔ ((x : ℕ) × (x < 2 ^ n) × (4 < lab x))
       bytes = some-says (2 ^ n) _ (λ x. 4 < lab x) (λ x. ltb-says 4 (lab x))
 
-      said-1 : WalkWhen n s d m room lab 1 → not (isDimension n) ≡ true
+      said-1 : WalkWhen n j s d m room lab 1 → not (isDimension n) ≡ true
       said-1 (walk-1 w) = wrong-dimension n .1 w
 
-      said-2 : not (eqb m (2 ^ n)) ≡ false → WalkWhen n s d m room lab 2 → not (eqb room 34) ≡ true
-      said-2 f (walk-2-labels w) = absurd (clash (wrong-length n m .1 w) f)
+      said-19 : WalkWhen n j s d m room lab 19 → not (isJob j) ≡ true
+      said-19 (walk-19 w) = wrong-job j .1 w
+
+      said-2 : not (eqb m (labelBytes n)) ≡ false → WalkWhen n j s d m room lab 2 → not (eqb room 34) ≡ true
+      said-2 f (walk-2-labels w) = absurd (clash (wrong-halves n m .1 w) f)
       said-2 f (walk-2-row w) = row .1 w
 
-      said-5 : WalkWhen n s d m room lab 5 → (leb (2 ^ n) s || leb (2 ^ n) d) ≡ true
+      said-5 : WalkWhen n j s d m room lab 5 → (leb (2 ^ n) s || leb (2 ^ n) d) ≡ true
       said-5 (walk-5 w) = outside n s d .1 w
 
-      said-4 : WalkWhen n s d m room lab 4 → some (2 ^ n) (λ x. ltb highest (lab x)) ≡ true
+      said-4 : WalkWhen n j s d m room lab 4 → some (2 ^ n) (λ x. ltb highest (lab x)) ≡ true
       said-4 (walk-4 x l h) = bytes .1 (x, l, h)
 
-      said-6 : WalkWhen n s d m room lab 6 → leb 3 (lab s) ≡ true
+      said-6 : WalkWhen n j s d m room lab 6 → leb 3 (lab s) ≡ true
       said-6 (walk-6 l) = le-leb 3 (lab s) l
 
-      said-7 : WalkWhen n s d m room lab 7 → eqb (lab d) 3 ≡ true
+      said-7 : WalkWhen n j s d m room lab 7 → eqb (lab d) 3 ≡ true
       said-7 (walk-7 e) = eq-eqb (lab d) 3 e
 
-      said-8 : WalkWhen n s d m room lab 8 → not (W.stops (W.last n (W.route n lab d) s)) ≡ true
+      said-8 : WalkWhen n j s d m room lab 8 → not (W.stops (W.last n (W.route n lab d) s)) ≡ true
       said-8 (walk-8 f) = eight n lab d s .1 f
 
 -- ---- all of them
@@ -207,9 +236,9 @@ pub refusals : Refusals
 refusals = record {
   one = λ When order j k. given-one;
   one-notice = notice-one;
-  labelling = λ K m. rw (← label-refusal K m) (label-given K m);
-  hop = λ n c d m lab. rw (← hop-refusal n c d m lab) (hop-given n c d m lab);
-  walk = λ n s d m room lab. rw (← walk-refusal n s d m room lab) (walk-given n s d m room lab);
+  labelling = λ K j m. rw (← label-refusal K j m) (label-given K j m);
+  hop = λ n j c d m lab. rw (← hop-refusal n j c d m lab) (hop-given n j c d m lab);
+  walk = λ n j s d m room lab. rw (← walk-refusal n j s d m room lab) (walk-given n j s d m room lab);
   number = number-given;
   notice = notice-given;
 }

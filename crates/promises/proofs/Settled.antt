@@ -4,6 +4,7 @@ use Rattle.cube.proofs.Functions as cube
 use Rattle.groups.proofs.Functions as groups
 use Rattle.notice.proofs.Functions as notice
 use Rattle.reader.proofs.Functions as reader
+use Rattle.jobs.proofs.Functions as jobs
 use Rattle.labels.proofs.Functions as labels
 use Rattle.hop.proofs.Functions as hop
 use Rattle.walk.proofs.Functions as walk
@@ -30,12 +31,15 @@ settled =
       reader-next-at = settles reader.next-at-says;
       cube-distance = settles cube.distance-says;
       cube-is-dimension = settles cube.is-dimension-says;
+      jobs-is-job = settles jobs.is-job-says;
       hop-hop-at = settles hop.hop-at-says;
       cube-nodes = settles cube.nodes-says;
       cube-neighbour = settles cube.neighbour-says;
       cube-table-len = settles cube.table-len-says;
       cube-node-bit = settles cube.node-bit-says;
       cube-unused-set = settles cube.unused-set-says;
+      jobs-label-bytes = settles jobs.label-bytes-says;
+      jobs-half = settles jobs.half-says;
     }
 
 pub unasked : Unasked
@@ -58,4 +62,5 @@ unasked =
       reader-next-at = reader.next-at-asks;
       cube-distance = cube.distance-asks;
       cube-is-dimension = cube.is-dimension-asks;
+      jobs-is-job = jobs.is-job-asks;
     }

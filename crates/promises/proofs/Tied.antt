@@ -30,6 +30,9 @@ all-tied =
       cube-table-len = record { clauses = λ w. refl; asked = refl; post = refl };
       cube-node-bit = record { clauses = λ w. refl; asked = refl; post = refl };
       cube-unused-set = record { clauses = λ w. refl; asked = refl; post = refl };
+      jobs-is-job = record { clauses = λ w. refl; asked = refl; post = refl };
+      jobs-label-bytes = record { clauses = λ w. refl; asked = refl; post = refl };
+      jobs-half = record { clauses = λ w. refl; asked = refl; post = refl };
     }
 
 pub in-order : InOrder

@@ -10,6 +10,6 @@ use Rattle.promises.specs.Library.{Library}
 
 pub record Answers (lib : Library) : Type 0 where
   pub reads : (bytes before : List ℕ) → (x : Noticed) × (after : List ℕ) × lib .reads bytes before x after
-  pub labels : (K : Cabinet) (before : List ℕ) → (x : Labelled) × (after : List ℕ) × lib .labels K before x after
-  pub hops : (n c d : ℕ) (table : List ℕ) → (x : Hopped) × lib .hops n c d table x
-  pub walks : (n s d : ℕ) (table : List ℕ) (room : ℕ) → (w : Walked) × lib .walks n s d table room w
+  pub labels : (K : Cabinet) (j : ℕ) (before : List ℕ) → (x : Labelled) × (after : List ℕ) × lib .labels K j before x after
+  pub hops : (n j c d : ℕ) (buffer : List ℕ) → (x : Hopped) × lib .hops n j c d buffer x
+  pub walks : (n j s d : ℕ) (buffer : List ℕ) (room : ℕ) → (w : Walked) × lib .walks n j s d buffer room w

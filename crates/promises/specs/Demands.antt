@@ -1,12 +1,12 @@
 -- The three demands, of whatever the contracts allow: labelling asked and answered, then hop and walk asked on the bytes that it left, and the notice
--- reader before them. lib is the library, as Rattle or as C calls it.
+-- reader before them. lib is the library, as Rattle or as C calls it; j is the job that asks.
 use mathlib.Core.List.{List}
 use mathlib.Core.Logic.{_⊎_, _≢_}
 use mathlib.Core.Path.{_≡_}
-use Prim.Native.Nat.{ℕ, _+_, _^_, _≤_, _<_}
+use Prim.Native.Nat.{ℕ, _+_, _*_, _^_, _≤_, _<_}
 use lib.ListN.{length, replicate}
 use Rattle.cube.specs.Cube.{dist, flip}
-use Rattle.cube.specs.Tables.{emptyTable, labelIn}
+use Rattle.jobs.specs.Jobs.{half, labelFor}
 use Rattle.rule.specs.Cabinet.{Cabinet, byRule, cabinet, labelsOf}
 use Rattle.notice.specs.Laws.{ReadNotice, TableOf}
 use Rattle.notice.specs.Notice as N
@@ -23,34 +23,38 @@ use Rattle.hop.specs.declared.Hopped.the-variants as hopped
 use Rattle.walk.specs.Walk as W
 use Rattle.walk.specs.declared.Ending.the-variants as ending
 use Rattle.walk.specs.declared.Walked.{Walked}
-use Rattle.theorems.specs.Before.{hoppedThen, labelledThen, labelsAfterThen, walkedThen}
+use Rattle.theorems.specs.Before.{hoppedThen, labelledThen, labelsAfterThen, plain, walkedThen}
 use Rattle.theorems.specs.Demand2.{Demand2}
 use Rattle.theorems.specs.Demand3.{Walks}
 use Rattle.theorems.specs.Picked.{Picked}
 use Rattle.theorems.specs.TwoRules.{NoneStrong, OnlyBetter, more}
 use Rattle.theorems.specs.Words.{SomeSafe, Takes, Works, place}
 use Rattle.promises.specs.Library.{Library}
-use Rattle.promises.specs.Refusals.{HopGiven, LabelGiven, NoticeGiven, Rule, TableLength, Unused, WalkGiven}
+use Rattle.promises.specs.Refusals.{BothHalves, HopGiven, Job, LabelGiven, NoticeGiven, Rule, TableLength, Unused, WalkGiven}
+
+-- a table of nodes is well formed: it has its length, and no unused bit is set
+abbrev pub WellFormed : (n : ℕ) (table : List ℕ) → Type 0
+WellFormed n table = TableLength n (length table) × (¬ (Unused n table))
 
 pub record Demands (lib : Library) : Type 0 where
   -- ---- 1. No input makes it misbehave
 
   -- each entry point gives the refusal that the tables name, then and not otherwise
-  pub label-refusal : {K : Cabinet} {before after : List ℕ} {x : Labelled} → lib .labels K before x after → LabelGiven K (length before) (L.refusalOf x)
+  pub label-refusal : {K : Cabinet} {j : ℕ} {before after : List ℕ} {x : Labelled} → lib .labels K j before x after → LabelGiven K j (length before) (L.refusalOf x)
   pub hop-refusal :
-      {n c d : ℕ} {table : List ℕ} {x : Hopped} → lib .hops n c d table x → HopGiven n c d (length table) (labelIn table) (H.refusalOf x)
+      {n j c d : ℕ} {buffer : List ℕ} {x : Hopped} → lib .hops n j c d buffer x → HopGiven n j c d (length buffer) (labelFor n j buffer) (H.refusalOf x)
   pub walk-refusal :
-      {n s d room : ℕ} {table : List ℕ} {w : Walked} → lib .walks n s d table room w
-      → WalkGiven n s d (length table) room (labelIn table) (W.refusalOf (w .ending))
+      {n j s d room : ℕ} {buffer : List ℕ} {w : Walked} → lib .walks n j s d buffer room w
+      → WalkGiven n j s d (length buffer) room (labelFor n j buffer) (W.refusalOf (w .ending))
   -- and with a notice's refusal the place of the number that it is about
   pub notice-refusal :
       {bytes before after : List ℕ} {x : Noticed} → lib .reads bytes before x after → NoticeGiven bytes before (N.refusalOf x) (N.placeOf x)
   -- a refusal writes nothing into any buffer it was lent
-  pub labels-kept : {K : Cabinet} {before after : List ℕ} {k : ℕ} → lib .labels K before (labelled.Refused k) after → after ≡ before
+  pub labels-kept : {K : Cabinet} {j : ℕ} {before after : List ℕ} {k : ℕ} → lib .labels K j before (labelled.Refused k) after → after ≡ before
   pub table-kept : {bytes before after : List ℕ} {k at : ℕ} → lib .reads bytes before (noticed.Refused k at) after → after ≡ before
   -- a refused walk has hop count 0 and a row of zeros
   pub walk-blank :
-      {n s d room k : ℕ} {table : List ℕ} {w : Walked} → lib .walks n s d table room w → w .ending ≡ ending.Refused k
+      {n j s d room k : ℕ} {buffer : List ℕ} {w : Walked} → lib .walks n j s d buffer room w → w .ending ≡ ending.Refused k
       → (w .hops ≡ 0) × (w .row ≡ replicate 17 0)
   -- an accepted notice names what the fault table then holds, all of it
   pub notice-read : {bytes before after : List ℕ} {n m taken : ℕ} → lib .reads bytes before (noticed.Notice n m taken) after → ReadNotice bytes n m taken
@@ -58,93 +62,95 @@ pub record Demands (lib : Library) : Type 0 where
       {bytes before after : List ℕ} {n m taken : ℕ} → lib .reads bytes before (noticed.Notice n m taken) after → TableOf n m (N.addressesOf bytes) after
   -- ---- 2. The labels are the paper's
 
-  -- all 2^n label bytes are written
+  -- all 2^n label bytes of the job's half are written
   pub labels-written :
-      {K : Cabinet} {before after : List ℕ} {exchanges : ℕ} → lib .labels K before (labelled.Exchanges exchanges) after → after ≡ labelsOf K
+      {K : Cabinet} {j : ℕ} {before after : List ℕ} {exchanges : ℕ} → lib .labels K j before (labelled.Exchanges exchanges) after → half j (2 ^ K .n) after ≡ labelsOf K
   pub labels :
-      {K : Cabinet} {before after : List ℕ} {exchanges : ℕ} → lib .labels K before (labelled.Exchanges exchanges) after
-      → Demand2 K (labelIn after) exchanges
+      {K : Cabinet} {j : ℕ} {before after : List ℕ} {exchanges : ℕ} → lib .labels K j before (labelled.Exchanges exchanges) after
+      → Demand2 K (labelFor (K .n) j after) exchanges
   -- the next hop is the one that Algorithm ROUTE picks,
-  pub hop : {n c d : ℕ} {table : List ℕ} {x : Decision} → lib .hops n c d table (hopped.Decided x) → Picked n (labelIn table) c d x
-  -- from a node's label and its neighbours' labels: no other byte matters, for the refusals too
+  pub hop : {n j c d : ℕ} {buffer : List ℕ} {x : Decision} → lib .hops n j c d buffer (hopped.Decided x) → Picked n (labelFor n j buffer) c d x
+  -- from a node's label and its neighbours' labels in the job's half: no other byte matters, for the refusals too
   pub hop-local :
-      {n c d : ℕ} {table table′ : List ℕ} {x x′ : Hopped} → lib .hops n c d table x → lib .hops n c d table′ x′ → length table ≡ length table′
-      → labelIn table c ≡ labelIn table′ c → ((i : ℕ) → i < n → labelIn table (flip i c) ≡ labelIn table′ (flip i c)) → x ≡ x′
+      {n j c d : ℕ} {buffer buffer′ : List ℕ} {x x′ : Hopped} → lib .hops n j c d buffer x → lib .hops n j c d buffer′ x′ → length buffer ≡ length buffer′
+      → labelFor n j buffer c ≡ labelFor n j buffer′ c → ((i : ℕ) → i < n → labelFor n j buffer (flip i c) ≡ labelFor n j buffer′ (flip i c)) → x ≡ x′
   -- ---- 3. Walks arrive
 
-  -- labelling accepts the table that an accepted notice left, by either rule, with any table of draining nodes that is in order
+  -- labelling accepts the table that an accepted notice left, by either rule and for either job, with any tables of draining and of closed nodes that are well
+  -- formed
   pub notice-labels :
-      {bytes faults draining before after old : List ℕ} {n rule m taken : ℕ} {x : Labelled} → lib .reads bytes old (noticed.Notice n m taken) faults
-      → Rule rule → TableLength n (length draining) → ¬ (Unused n draining) → length before ≡ 2 ^ n
-      → lib .labels (cabinet n rule faults draining) before x after → (exchanges : ℕ) × (x ≡ labelled.Exchanges exchanges)
-  -- with the labels that labelling left, from a working node to one that works or drains
+      {bytes faults draining closed before after old : List ℕ} {n rule j m taken : ℕ} {x : Labelled} → lib .reads bytes old (noticed.Notice n m taken) faults
+      → Rule rule → Job j → WellFormed n draining → WellFormed n closed → BothHalves n (length before)
+      → lib .labels (cabinet n rule faults draining closed) j before x after → (exchanges : ℕ) × (x ≡ labelled.Exchanges exchanges)
+  -- with the labels that labelling left in the job's half, from a working node to one that works or drains
   pub walks :
-      {K : Cabinet} {before table : List ℕ} {exchanges s d : ℕ} {w : Walked} → lib .labels K before (labelled.Exchanges exchanges) table → Works K s → Takes K d
-      → lib .walks (K .n) s d table W.rowBytes w → Walks K (labelIn table) s d w
+      {K : Cabinet} {j exchanges s d : ℕ} {before buffer : List ℕ} {w : Walked} → lib .labels K j before (labelled.Exchanges exchanges) buffer → Works K s → Takes K d
+      → lib .walks (K .n) j s d buffer W.rowBytes w → Walks K (labelFor (K .n) j buffer) s d w
   -- on every table that the walk accepts it starts at the source and repeats the hop question: at each place but the last the answer is a hop, and the next
   -- place is across it;
   pub walk-starts :
-      {n s d room : ℕ} {table : List ℕ} {w : Walked} → lib .walks n s d table room w → W.refusalOf (w .ending) ≡ 0 → place w 0 ≡ s
+      {n j s d room : ℕ} {buffer : List ℕ} {w : Walked} → lib .walks n j s d buffer room w → W.refusalOf (w .ending) ≡ 0 → place w 0 ≡ s
   pub walk-steps :
-      {n s d room k : ℕ} {table : List ℕ} {w : Walked} {x : Hopped} → lib .walks n s d table room w → W.refusalOf (w .ending) ≡ 0 → k < w .hops
-      → lib .hops n (place w k) d table x → (i : ℕ) × (i < n) × (x ≡ hopped.Decided (Hop i)) × (place w (k + 1) ≡ flip i (place w k))
+      {n j s d room k : ℕ} {buffer : List ℕ} {w : Walked} {x : Hopped} → lib .walks n j s d buffer room w → W.refusalOf (w .ending) ≡ 0 → k < w .hops
+      → lib .hops n j (place w k) d buffer x → (i : ℕ) × (i < n) × (x ≡ hopped.Decided (Hop i)) × (place w (k + 1) ≡ flip i (place w k))
   -- at the last place the answer is how the walk ended;
   pub walk-ends :
-      {n s d room : ℕ} {table : List ℕ} {w : Walked} {x : Hopped} → lib .walks n s d table room w → W.refusalOf (w .ending) ≡ 0
-      → lib .hops n (place w (w .hops)) d table x
+      {n j s d room : ℕ} {buffer : List ℕ} {w : Walked} {x : Hopped} → lib .walks n j s d buffer room w → W.refusalOf (w .ending) ≡ 0
+      → lib .hops n j (place w (w .hops)) d buffer x
       → ((x ≡ hopped.Decided Deliver) × (w .ending ≡ ending.Delivered)) ⊎ ((x ≡ hopped.Decided Halted) × (w .ending ≡ ending.Halted))
   -- there are at most n + 4 hops, and the places behind the last are zero;
   pub walk-few :
-      {n s d room : ℕ} {table : List ℕ} {w : Walked} → lib .walks n s d table room w → W.refusalOf (w .ending) ≡ 0 → w .hops ≤ n + 4
+      {n j s d room : ℕ} {buffer : List ℕ} {w : Walked} → lib .walks n j s d buffer room w → W.refusalOf (w .ending) ≡ 0 → w .hops ≤ n + 4
   pub walk-unused :
-      {n s d room k : ℕ} {table : List ℕ} {w : Walked} → lib .walks n s d table room w → W.refusalOf (w .ending) ≡ 0 → w .hops < k → place w k ≡ 0
+      {n j s d room k : ℕ} {buffer : List ℕ} {w : Walked} → lib .walks n j s d buffer room w → W.refusalOf (w .ending) ≡ 0 → w .hops < k → place w k ≡ 0
   -- and no walk has a node that is labelled faulty or draining before its last place, nor at it unless that is the destination
   pub walk-enters :
-      {n s d room k : ℕ} {table : List ℕ} {w : Walked} → lib .walks n s d table room w → W.refusalOf (w .ending) ≡ 0 → k < w .hops
-      → labelIn table (place w k) ≤ 2
+      {n j s d room k : ℕ} {buffer : List ℕ} {w : Walked} → lib .walks n j s d buffer room w → W.refusalOf (w .ending) ≡ 0 → k < w .hops
+      → labelFor n j buffer (place w k) ≤ 2
   pub walk-ends-in :
-      {n s d room : ℕ} {table : List ℕ} {w : Walked} → lib .walks n s d table room w → W.refusalOf (w .ending) ≡ 0
-      → (labelIn table (place w (w .hops)) ≤ 2) ⊎ (place w (w .hops) ≡ d)
+      {n j s d room : ℕ} {buffer : List ℕ} {w : Walked} → lib .walks n j s d buffer room w → W.refusalOf (w .ending) ≡ 0
+      → (labelFor n j buffer (place w (w .hops)) ≤ 2) ⊎ (place w (w .hops) ≡ d)
   -- ---- the two rules (document 02, A13)
 
   -- a site moves from rule 2 to rule 3: its labels only get better,
   pub moved :
-      (K : Cabinet) {e e′ : ℕ} {before before′ old new : List ℕ} → lib .labels (byRule 2 K) before (labelled.Exchanges e) old
-      → lib .labels (byRule 3 K) before′ (labelled.Exchanges e′) new → OnlyBetter (K .n) (labelIn old) (labelIn new)
+      (K : Cabinet) {j e e′ : ℕ} {before before′ old new : List ℕ} → lib .labels (byRule 2 K) j before (labelled.Exchanges e) old
+      → lib .labels (byRule 3 K) j before′ (labelled.Exchanges e′) new → OnlyBetter (K .n) (labelFor (K .n) j old) (labelFor (K .n) j new)
   -- and a walk with the new labels arrives within the bound that the old ones gave it
   pub moved-walks :
-      (K : Cabinet) {e e′ s d : ℕ} {before before′ old new : List ℕ} {w : Walked} → lib .labels (byRule 2 K) before (labelled.Exchanges e) old
-      → lib .labels (byRule 3 K) before′ (labelled.Exchanges e′) new → SomeSafe (K .n) (labelIn old)
-      → Works K s → Takes K d → lib .walks (K .n) s d new W.rowBytes w
-      → (w .ending ≡ ending.Delivered) × (w .hops ≤ dist s d + more (labelIn old) s d)
+      (K : Cabinet) {j e e′ s d : ℕ} {before before′ old new : List ℕ} {w : Walked} → lib .labels (byRule 2 K) j before (labelled.Exchanges e) old
+      → lib .labels (byRule 3 K) j before′ (labelled.Exchanges e′) new → SomeSafe (K .n) (labelFor (K .n) j old)
+      → Works K s → Takes K d → lib .walks (K .n) j s d new W.rowBytes w
+      → (w .ending ≡ ending.Delivered) × (w .hops ≤ dist s d + more (labelFor (K .n) j old) s d)
   -- anywhere, a frame that arrived with the old labels arrives with the new
   pub still-arrives :
-      (K : Cabinet) {e e′ s d : ℕ} {before before′ old new : List ℕ} {v w : Walked} → lib .labels (byRule 2 K) before (labelled.Exchanges e) old
-      → lib .labels (byRule 3 K) before′ (labelled.Exchanges e′) new → Works K s → Takes K d
-      → lib .walks (K .n) s d old W.rowBytes v → lib .walks (K .n) s d new W.rowBytes w → v .ending ≡ ending.Delivered → w .ending ≡ ending.Delivered
+      (K : Cabinet) {j e e′ s d : ℕ} {before before′ old new : List ℕ} {v w : Walked} → lib .labels (byRule 2 K) j before (labelled.Exchanges e) old
+      → lib .labels (byRule 3 K) j before′ (labelled.Exchanges e′) new → Works K s → Takes K d
+      → lib .walks (K .n) j s d old W.rowBytes v → lib .walks (K .n) j s d new W.rowBytes w → v .ending ≡ ending.Delivered → w .ending ≡ ending.Delivered
   -- with rule 2, where some node is safe no working node is strongly unsafe,
   pub none-strong :
-      (K : Cabinet) {e : ℕ} {before table : List ℕ} → lib .labels (byRule 2 K) before (labelled.Exchanges e) table
-      → NoneStrong (byRule 2 K) (labelIn table)
+      (K : Cabinet) {j e : ℕ} {before buffer : List ℕ} → lib .labels (byRule 2 K) j before (labelled.Exchanges e) table
+      → NoneStrong (byRule 2 K) (labelFor (K .n) j buffer)
   -- so there no walk is longer than the distance and two more
   pub two-more :
-      (K : Cabinet) {e s d : ℕ} {before table : List ℕ} {w : Walked} → lib .labels (byRule 2 K) before (labelled.Exchanges e) table
-      → SomeSafe (K .n) (labelIn table) → Works K s → Takes K d → lib .walks (K .n) s d table W.rowBytes w
+      (K : Cabinet) {j e s d : ℕ} {before buffer : List ℕ} {w : Walked} → lib .labels (byRule 2 K) j before (labelled.Exchanges e) table
+      → SomeSafe (K .n) (labelFor (K .n) j buffer) → Works K s → Takes K d → lib .walks (K .n) j s d buffer W.rowBytes w
       → w .hops ≤ dist s d + 2
-  -- ---- boards without draining nodes (document 02, A4): every answer is what it was
+  -- ---- boards on which no node drains and the job closes none (document 02, A4 and A10): every answer is what it was, in the job's half of a buffer of two
+  -- tables of m bytes
 
-  -- labelling that is lent an empty table of draining nodes answers and leaves what it did,
+  -- labelling that is lent two empty tables answers what it did, and leaves in that half what it left,
   pub label-before :
-      {n rule : ℕ} {faults before after : List ℕ} {x : Labelled} → lib .labels (cabinet n rule faults (emptyTable n)) before x after
-      → (x ≡ labelledThen n rule faults (length before)) × (after ≡ labelsAfterThen n rule faults before)
+      {n rule j m : ℕ} {faults before after : List ℕ} {x : Labelled} → Job j → length before ≡ 2 * m → lib .labels (plain n rule faults) j before x after
+      → (x ≡ labelledThen n rule faults m) × (half j m after ≡ labelsAfterThen n rule faults (half j m before))
   -- no label is 4 then,
   pub no-four :
-      {n rule e : ℕ} {faults before table : List ℕ} → lib .labels (cabinet n rule faults (emptyTable n)) before (labelled.Exchanges e) table
-      → (x : ℕ) → labelIn table x ≢ 4
-  -- and on a table without a 4 a hop and a walk are answered as they were
+      {n rule j e : ℕ} {faults before buffer : List ℕ} → lib .labels (plain n rule faults) j before (labelled.Exchanges e) buffer
+      → (x : ℕ) → labelFor n j buffer x ≢ 4
+  -- and on labels without a 4 a hop and a walk are answered as they were
   pub hop-before :
-      {n c d : ℕ} {table : List ℕ} {x : Hopped} → lib .hops n c d table x → ((k : ℕ) → labelIn table k ≢ 4)
-      → x ≡ hoppedThen n c d (length table) (labelIn table)
+      {n j c d m : ℕ} {buffer : List ℕ} {x : Hopped} → lib .hops n j c d buffer x → Job j → length buffer ≡ 2 * m → ((k : ℕ) → labelFor n j buffer k ≢ 4)
+      → x ≡ hoppedThen n c d m (labelFor n j buffer)
   pub walk-before :
-      {n s d room : ℕ} {table : List ℕ} {w : Walked} → lib .walks n s d table room w → ((k : ℕ) → labelIn table k ≢ 4)
-      → w ≡ walkedThen n s d (length table) room (labelIn table)
+      {n j s d m room : ℕ} {buffer : List ℕ} {w : Walked} → lib .walks n j s d buffer room w → Job j → length buffer ≡ 2 * m
+      → ((k : ℕ) → labelFor n j buffer k ≢ 4) → w ≡ walkedThen n s d m room (labelFor n j buffer)

@@ -23,28 +23,28 @@ pub record InC : Type 0 where
   -- "to C each answers one number: refusal × 16,777,216 + kind × 65,536 + value": that of the answer that the library's own function gives.
   -- "Labelling: kind 0, value is the round count", which is the number of exchanges now
   pub label-exchanges :
-      {n rule r v : ℕ} {faults draining before after after′ : List ℕ} → May hcube.label (n, rule, faults, draining, before) r after
-      → May labels.label (n, rule, faults, draining, before) (labelled.Exchanges v) after′ → r ≡ v
+      {n rule j r v : ℕ} {faults draining closed before after after′ : List ℕ} → May hcube.label (n, rule, j, faults, draining, closed, before) r after
+      → May labels.label (n, rule, j, faults, draining, closed, before) (labelled.Exchanges v) after′ → r ≡ v
   pub label-refuses :
-      {n rule r k : ℕ} {faults draining before after after′ : List ℕ} → May hcube.label (n, rule, faults, draining, before) r after
-      → May labels.label (n, rule, faults, draining, before) (labelled.Refused k) after′ → r ≡ k * 16777216
+      {n rule j r k : ℕ} {faults draining closed before after after′ : List ℕ} → May hcube.label (n, rule, j, faults, draining, closed, before) r after
+      → May labels.label (n, rule, j, faults, draining, closed, before) (labelled.Refused k) after′ → r ≡ k * 16777216
   -- "Hop: kind 0 deliver, 1 hop (value is the dimension), 2 halted"
-  pub hop-delivers : {n c d r : ℕ} {table : List ℕ} → May hcube.hop (n, c, d, table) r tt → May hop.hop (n, c, d, table) (hopped.Decided Deliver) tt → r ≡ 0
+  pub hop-delivers : {n j c d r : ℕ} {buffer : List ℕ} → May hcube.hop (n, j, c, d, buffer) r tt → May hop.hop (n, j, c, d, buffer) (hopped.Decided Deliver) tt → r ≡ 0
   pub hop-hops :
-      {n c d r i : ℕ} {table : List ℕ} → May hcube.hop (n, c, d, table) r tt → May hop.hop (n, c, d, table) (hopped.Decided (Hop i)) tt → r ≡ 65536 + i
-  pub hop-halts : {n c d r : ℕ} {table : List ℕ} → May hcube.hop (n, c, d, table) r tt → May hop.hop (n, c, d, table) (hopped.Decided Halted) tt → r ≡ 131072
+      {n j c d r i : ℕ} {buffer : List ℕ} → May hcube.hop (n, j, c, d, buffer) r tt → May hop.hop (n, j, c, d, buffer) (hopped.Decided (Hop i)) tt → r ≡ 65536 + i
+  pub hop-halts : {n j c d r : ℕ} {buffer : List ℕ} → May hcube.hop (n, j, c, d, buffer) r tt → May hop.hop (n, j, c, d, buffer) (hopped.Decided Halted) tt → r ≡ 131072
   pub hop-refuses :
-      {n c d r k : ℕ} {table : List ℕ} → May hcube.hop (n, c, d, table) r tt → May hop.hop (n, c, d, table) (hopped.Refused k) tt → r ≡ k * 16777216
+      {n j c d r k : ℕ} {buffer : List ℕ} → May hcube.hop (n, j, c, d, buffer) r tt → May hop.hop (n, j, c, d, buffer) (hopped.Refused k) tt → r ≡ k * 16777216
   -- "Walk: kind 0 delivered, 1 halted, value is the hop count"
   pub walk-delivers :
-      {n s d r : ℕ} {table before after : List ℕ} {w : Walked} → May hcube.walk (n, s, d, table, before) r after
-      → May walk.walk-for (n, s, d, table, length before) w tt → w .ending ≡ ending.Delivered → r ≡ w .hops
+      {n j s d r : ℕ} {buffer before after : List ℕ} {w : Walked} → May hcube.walk (n, j, s, d, buffer, before) r after
+      → May walk.walk-for (n, j, s, d, buffer, length before) w tt → w .ending ≡ ending.Delivered → r ≡ w .hops
   pub walk-halts :
-      {n s d r : ℕ} {table before after : List ℕ} {w : Walked} → May hcube.walk (n, s, d, table, before) r after
-      → May walk.walk-for (n, s, d, table, length before) w tt → w .ending ≡ ending.Halted → r ≡ 65536 + w .hops
+      {n j s d r : ℕ} {buffer before after : List ℕ} {w : Walked} → May hcube.walk (n, j, s, d, buffer, before) r after
+      → May walk.walk-for (n, j, s, d, buffer, length before) w tt → w .ending ≡ ending.Halted → r ≡ 65536 + w .hops
   pub walk-refuses :
-      {n s d r k : ℕ} {table before after : List ℕ} {w : Walked} → May hcube.walk (n, s, d, table, before) r after
-      → May walk.walk-for (n, s, d, table, length before) w tt → w .ending ≡ ending.Refused k → (r ≡ k * 16777216) × (after ≡ before)
+      {n j s d r k : ℕ} {buffer before after : List ℕ} {w : Walked} → May hcube.walk (n, j, s, d, buffer, before) r after
+      → May walk.walk-for (n, j, s, d, buffer, length before) w tt → w .ending ≡ ending.Refused k → (r ≡ k * 16777216) × (after ≡ before)
   -- a notice: dimension × 2^48 + count × 2^32 + bytes taken, or refusal × 16,777,216 + place, which fits its 16 bits
   pub notice-reads :
       {r n m taken : ℕ} {bytes before after after′ : List ℕ} → May hcube.read-notice (bytes, before) r after
@@ -54,12 +54,12 @@ pub record InC : Type 0 where
       → May notice.read (bytes, before) (noticed.Refused k at) after′ → (r ≡ k * 16777216 + at) × (at < 65536)
   -- "a lent buffer of exactly 34 bytes, two a node, low byte first": the node is the one that the walk has at that place
   pub row-nodes :
-      {n s d r : ℕ} {table before after : List ℕ} {w : Walked} → May hcube.walk (n, s, d, table, before) r after → refusalPart r ≡ 0
-      → May walk.walk (n, s, d, table) w tt → (k : ℕ) → k < 17 → nodeAt after k ≡ place w k
+      {n j s d r : ℕ} {buffer before after : List ℕ} {w : Walked} → May hcube.walk (n, j, s, d, buffer, before) r after → refusalPart r ≡ 0
+      → May walk.walk (n, j, s, d, buffer) w tt → (k : ℕ) → k < 17 → nodeAt after k ≡ place w k
   pub row-bytes :
-      {n s d r : ℕ} {table before after : List ℕ} → May hcube.walk (n, s, d, table, before) r after → refusalPart r ≡ 0 → (k : ℕ) → k < 17
+      {n j s d r : ℕ} {buffer before after : List ℕ} → May hcube.walk (n, j, s, d, buffer, before) r after → refusalPart r ≡ 0 → (k : ℕ) → k < 17
       → (getD after (2 * k) 0 ≡ nodeAt after k % 256) × (getD after (2 * k + 1) 0 ≡ nodeAt after k / 256)
   -- "an accepted walk writes all 34": whatever stood in the row
   pub row-whole :
-      {n s d r r′ : ℕ} {table before before′ after after′ : List ℕ} → May hcube.walk (n, s, d, table, before) r after
-      → May hcube.walk (n, s, d, table, before′) r′ after′ → refusalPart r ≡ 0 → refusalPart r′ ≡ 0 → (length after ≡ rowBytes) × (after ≡ after′)
+      {n j s d r r′ : ℕ} {buffer before before′ after after′ : List ℕ} → May hcube.walk (n, j, s, d, buffer, before) r after
+      → May hcube.walk (n, j, s, d, buffer, before′) r′ after′ → refusalPart r ≡ 0 → refusalPart r′ ≡ 0 → (length after ≡ rowBytes) × (after ≡ after′)

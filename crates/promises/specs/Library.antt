@@ -23,28 +23,30 @@ use Rattle.hcube.proofs.Functions as hcube
 pub record Library : Type 1 where
   -- the notice at the front of the bytes is read into a fault table
   pub reads : (bytes before : List ℕ) (x : Noticed) (after : List ℕ) → Type 0
-  -- a cabinet is labelled, in a label table
-  pub labels : (K : Cabinet) (before : List ℕ) (x : Labelled) (after : List ℕ) → Type 0
-  -- a hop is decided at c for d, by a label table
-  pub hops : (n c d : ℕ) (table : List ℕ) (x : Hopped) → Type 0
-  -- a walk goes from s to d, by a label table, for a caller who lends a row of `room` bytes
-  pub walks : (n s d : ℕ) (table : List ℕ) (room : ℕ) (w : Walked) → Type 0
+  -- a cabinet is labelled for job j, in a label buffer
+  pub labels : (K : Cabinet) (j : ℕ) (before : List ℕ) (x : Labelled) (after : List ℕ) → Type 0
+  -- a hop is decided at c for d, by the labels that job j has in a buffer
+  pub hops : (n j c d : ℕ) (buffer : List ℕ) (x : Hopped) → Type 0
+  -- a walk goes from s to d, by these labels, for a caller who lends a row of `room` bytes
+  pub walks : (n j s d : ℕ) (buffer : List ℕ) (room : ℕ) (w : Walked) → Type 0
 
 abbrev pub rattle : Library
 rattle =
     record {
       reads = λ bytes before x after. May notice.read (bytes, before) x after;
-      labels = λ K before x after. May labels.label (K .n, K .rule, K .faults, K .draining, before) x after;
-      hops = λ n c d table x. May hop.hop (n, c, d, table) x tt;
-      walks = λ n s d table room w. May walk.walk-for (n, s, d, table, room) w tt ⊎ (May walk.walk (n, s, d, table) w tt × (room ≡ rowBytes));
+      labels = λ K j before x after. May labels.label (K .n, K .rule, j, K .faults, K .draining, K .closed, before) x after;
+      hops = λ n j c d buffer x. May hop.hop (n, j, c, d, buffer) x tt;
+      walks = λ n j s d buffer room w.
+          May walk.walk-for (n, j, s, d, buffer, room) w tt ⊎ (May walk.walk (n, j, s, d, buffer) w tt × (room ≡ rowBytes));
     }
 
 abbrev pub c : Library
 c =
     record {
       reads = λ bytes before x after. (r : ℕ) × May hcube.read-notice (bytes, before) r after × (noticedFrom r ≡ x);
-      labels = λ K before x after. (r : ℕ) × May hcube.label (K .n, K .rule, K .faults, K .draining, before) r after × (labelledFrom r ≡ x);
-      hops = λ n c d table x. (r : ℕ) × May hcube.hop (n, c, d, table) r tt × (hoppedFrom r ≡ x);
-      walks = λ n s d table room w.
-          (r : ℕ) × (before after : List ℕ) × May hcube.walk (n, s, d, table, before) r after × (length before ≡ room) × (walkedFrom r after ≡ w);
+      labels = λ K j before x after.
+          (r : ℕ) × May hcube.label (K .n, K .rule, j, K .faults, K .draining, K .closed, before) r after × (labelledFrom r ≡ x);
+      hops = λ n j c d buffer x. (r : ℕ) × May hcube.hop (n, j, c, d, buffer) r tt × (hoppedFrom r ≡ x);
+      walks = λ n j s d buffer room w.
+          (r : ℕ) × (before after : List ℕ) × May hcube.walk (n, j, s, d, buffer, before) r after × (length before ≡ room) × (walkedFrom r after ≡ w);
     }

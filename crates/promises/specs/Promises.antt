@@ -1,7 +1,8 @@
 -- All that is promised of the library, in one record: if this is proved, each statement that it names is.
 use mathlib.Core.Bool.{Bool}
-use Prim.Native.Nat.{ℕ}
+use Prim.Native.Nat.{ℕ, _<_}
 use Rattle.cube.specs.Laws.{CubeLaws}
+use Rattle.jobs.specs.Laws.{JobLaws}
 use Rattle.groups.specs.Laws.{NumberLaws}
 use Rattle.notice.specs.Laws.{NoticeLaws}
 use Rattle.reader.specs.Laws.{ReaderLaws}
@@ -28,6 +29,7 @@ use Rattle.promises.specs.Answers.{Answers}
 use Rattle.promises.specs.Demands.{Demands}
 use Rattle.promises.specs.InC.{InC}
 use Rattle.promises.specs.InRattle.{InRattle}
+use Rattle.promises.specs.Jobs.{Jobs}
 use Rattle.promises.specs.Library as library
 use Rattle.promises.specs.Refusals.{Refusals}
 use Rattle.promises.specs.Settled.{Settled, Unasked}
@@ -42,9 +44,13 @@ pub record Promises : Type 2 where
   pub unasked : Unasked
   pub rattle-answers : Answers library.rattle
   pub c-answers : Answers library.c
-  -- the three demands, and what C and a caller in Rattle have in hand
+  -- the three demands
   pub rattle-demands : Demands library.rattle
   pub c-demands : Demands library.c
+  -- two jobs: neither sees anything of the other
+  pub rattle-jobs : Jobs library.rattle
+  pub c-jobs : Jobs library.c
+  -- what C and a caller in Rattle have in hand
   pub in-c : InC
   pub in-rattle : InRattle
   pub decodes : Decodes
@@ -57,7 +63,7 @@ pub record Promises : Type 2 where
   pub good : LabelsGood
   pub rules : (n : ℕ) (F : ℕ → Bool) → Rules n F
   pub two-rules : TwoRules
-  pub as-before : AsBefore
+  pub as-before : (j : ℕ) → j < 2 → AsBefore j
   pub progress : ScansProgress
   -- document 01's words
   pub refusals : Refusals
@@ -68,6 +74,7 @@ pub record Promises : Type 2 where
   pub hop-local : HopLocal
   pub walk-local : WalkLocal
   pub cube : CubeLaws
+  pub halves : JobLaws
   pub number : NumberLaws
   pub notice : NoticeLaws
   pub reader : ReaderLaws

@@ -1,11 +1,11 @@
 -- Refusals in words. Document 01 says for each number when it is given, and for each question in which order the numbers are looked at: "each is given then
--- and not otherwise". Here the cases stand in its words, with those of document 02's request A4 on draining nodes, apart from the tables of tests by which the
--- definitions answer. Proved in proofs/Refusals.antt.
+-- and not otherwise". Here the cases stand in its words, with those of document 02's requests A4 on draining nodes and A10 on two jobs, apart from the tables of
+-- tests by which the definitions answer. Proved in proofs/Refusals.antt.
 use mathlib.Core.Bool.{true}
 use mathlib.Core.List.{List, [], _∷_}
 use mathlib.Core.Logic.{_⊎_, _≢_}
 use mathlib.Core.Path.{_≡_}
-use Prim.Native.Nat.{ℕ, zero, suc, _+_, _/_, _^_, _≤_, _<_}
+use Prim.Native.Nat.{ℕ, zero, suc, _+_, _*_, _/_, _^_, _≤_, _<_}
 use lib.ListN.{getD, length}
 use Rattle.cube.specs.Cube.{flip}
 use Rattle.cube.specs.Tables.{nodeBit}
@@ -34,7 +34,11 @@ Dimension n = (1 ≤ n) × (n ≤ 12)
 abbrev pub Rule : (k : ℕ) → Type 0
 Rule k = (k ≡ 2) ⊎ (k ≡ 3)
 
--- the length of a fault table, and of a table of draining nodes: "one byte for n up to 3, otherwise 2^n/8 bytes"
+-- the number of a job, "0 or 1" (document 02, A10)
+abbrev pub Job : (j : ℕ) → Type 0
+Job j = (j ≡ 0) ⊎ (j ≡ 1)
+
+-- the length of a fault table, and of a table of draining or of closed nodes: "one byte for n up to 3, otherwise 2^n/8 bytes"
 abbrev pub TableLength : (n bytes : ℕ) → Type 0
 TableLength n bytes = ((n ≤ 3) × (bytes ≡ 1)) ⊎ ((3 < n) × (bytes ≡ 2 ^ n / 8))
 
@@ -46,61 +50,71 @@ Unused n table = (x : ℕ) × (2 ^ n ≤ x) × (nodeBit table x ≡ true)
 abbrev pub Outside : (n a b : ℕ) → Type 0
 Outside n a b = (2 ^ n ≤ a) ⊎ (2 ^ n ≤ b)
 
--- ---- labelling, of a cabinet and a label table of m bytes: "1, 2 (fault table, then label table), 3", with 18 "directly after 1"; "2 and 3 also test the new
--- table" of draining nodes
+-- "2 now asks that the label buffer hold exactly both halves"
+abbrev pub BothHalves : (n m : ℕ) → Type 0
+BothHalves n m = m ≡ 2 * 2 ^ n
 
-pub data LabelWhen (K : Cabinet) (m : ℕ) : ℕ → Type 0 where
-  label-1 : ¬ (Dimension (K .n)) → LabelWhen K m 1
-  label-18 : ¬ (Rule (K .rule)) → LabelWhen K m 18
-  label-2-faults : ¬ (TableLength (K .n) (length (K .faults))) → LabelWhen K m 2
-  label-2-draining : ¬ (TableLength (K .n) (length (K .draining))) → LabelWhen K m 2
-  label-2-labels : m ≢ 2 ^ K .n → LabelWhen K m 2
-  -- "an unused bit is set in the fault table", or in that of the draining nodes
-  label-3-faults : Unused (K .n) (K .faults) → LabelWhen K m 3
-  label-3-draining : Unused (K .n) (K .draining) → LabelWhen K m 3
+-- ---- labelling, of a cabinet for job j and a label buffer of m bytes: "1, 2 (fault table, then label table), 3", with 18 "directly after 1" and 19 "directly
+-- before 2"; "2 and 3 also test the new table" of draining nodes, and the closed one last
 
-abbrev pub LabelGiven : (K : Cabinet) (m : ℕ) → ℕ → Type 0
-LabelGiven K m = Given (LabelWhen K m) (1 ∷ 18 ∷ 2 ∷ 3 ∷ [])
+pub data LabelWhen (K : Cabinet) (j m : ℕ) : ℕ → Type 0 where
+  label-1 : ¬ (Dimension (K .n)) → LabelWhen K j m 1
+  label-18 : ¬ (Rule (K .rule)) → LabelWhen K j m 18
+  label-19 : ¬ (Job j) → LabelWhen K j m 19
+  label-2-faults : ¬ (TableLength (K .n) (length (K .faults))) → LabelWhen K j m 2
+  label-2-draining : ¬ (TableLength (K .n) (length (K .draining))) → LabelWhen K j m 2
+  label-2-closed : ¬ (TableLength (K .n) (length (K .closed))) → LabelWhen K j m 2
+  label-2-labels : ¬ (BothHalves (K .n) m) → LabelWhen K j m 2
+  -- "an unused bit is set in the fault table", or in that of the draining nodes, or in that of the closed ones
+  label-3-faults : Unused (K .n) (K .faults) → LabelWhen K j m 3
+  label-3-draining : Unused (K .n) (K .draining) → LabelWhen K j m 3
+  label-3-closed : Unused (K .n) (K .closed) → LabelWhen K j m 3
 
--- ---- a hop at c for d, with a label table of m bytes: "1, 2, 5, 4, 6"
+abbrev pub LabelGiven : (K : Cabinet) (j m : ℕ) → ℕ → Type 0
+LabelGiven K j m = Given (LabelWhen K j m) (1 ∷ 18 ∷ 19 ∷ 2 ∷ 3 ∷ [])
 
-pub data HopWhen (n c d m : ℕ) (lab : ℕ → ℕ) : ℕ → Type 0 where
-  hop-1 : ¬ (Dimension n) → HopWhen n c d m lab 1
-  hop-2 : m ≢ 2 ^ n → HopWhen n c d m lab 2
-  hop-5 : Outside n c d → HopWhen n c d m lab 5
+-- ---- a hop at c for d, for job j with a label buffer of m bytes: "1, 2, 5, 4, 6", with 19 "directly before 2". lab are the labels of the job's half, and no byte
+-- of the other is in a case
+
+pub data HopWhen (n j c d m : ℕ) (lab : ℕ → ℕ) : ℕ → Type 0 where
+  hop-1 : ¬ (Dimension n) → HopWhen n j c d m lab 1
+  hop-19 : ¬ (Job j) → HopWhen n j c d m lab 19
+  hop-2 : ¬ (BothHalves n m) → HopWhen n j c d m lab 2
+  hop-5 : Outside n c d → HopWhen n j c d m lab 5
   -- "4 now means a byte above 4" (hop: at c or a neighbour)
-  hop-4-here : 4 < lab c → HopWhen n c d m lab 4
-  hop-4-near : (i : ℕ) → i < n → 4 < lab (flip i c) → HopWhen n c d m lab 4
+  hop-4-here : 4 < lab c → HopWhen n j c d m lab 4
+  hop-4-near : (i : ℕ) → i < n → 4 < lab (flip i c) → HopWhen n j c d m lab 4
   -- "current node has label 3", "and for a hop decision at a draining node that isn't the destination"
-  hop-6-faulty : lab c ≡ 3 → HopWhen n c d m lab 6
-  hop-6-draining : lab c ≡ 4 → c ≢ d → HopWhen n c d m lab 6
+  hop-6-faulty : lab c ≡ 3 → HopWhen n j c d m lab 6
+  hop-6-draining : lab c ≡ 4 → c ≢ d → HopWhen n j c d m lab 6
 
-abbrev pub HopGiven : (n c d m : ℕ) (lab : ℕ → ℕ) → ℕ → Type 0
-HopGiven n c d m lab = Given (HopWhen n c d m lab) (1 ∷ 2 ∷ 5 ∷ 4 ∷ 6 ∷ [])
+abbrev pub HopGiven : (n j c d m : ℕ) (lab : ℕ → ℕ) → ℕ → Type 0
+HopGiven n j c d m lab = Given (HopWhen n j c d m lab) (1 ∷ 19 ∷ 2 ∷ 5 ∷ 4 ∷ 6 ∷ [])
 
--- ---- a walk from s to d, with a label table of m bytes and a row of `room` bytes: "1, 2, 5, 4, 6, 7, 8"
+-- ---- a walk from s to d, for job j with a label buffer of m bytes and a row of `room` bytes: "1, 2, 5, 4, 6, 7, 8", with 19 "directly before 2"
 
 -- "after n + 4 hops without delivery, where the next decision is another hop": from the source on, each decision after 0 to n + 4 hops is one
 abbrev pub AllHops : (n : ℕ) (lab : ℕ → ℕ) (d s : ℕ) → Type 0
 AllHops n lab d s =
     (at : ℕ → ℕ) × (at 0 ≡ s) × ((k : ℕ) → k ≤ n + 4 → (i : ℕ) × (H.hop n lab (at k) d ≡ Hop i) × (at (k + 1) ≡ flip i (at k)))
 
-pub data WalkWhen (n s d m room : ℕ) (lab : ℕ → ℕ) : ℕ → Type 0 where
-  walk-1 : ¬ (Dimension n) → WalkWhen n s d m room lab 1
-  walk-2-labels : m ≢ 2 ^ n → WalkWhen n s d m room lab 2
+pub data WalkWhen (n j s d m room : ℕ) (lab : ℕ → ℕ) : ℕ → Type 0 where
+  walk-1 : ¬ (Dimension n) → WalkWhen n j s d m room lab 1
+  walk-19 : ¬ (Job j) → WalkWhen n j s d m room lab 19
+  walk-2-labels : ¬ (BothHalves n m) → WalkWhen n j s d m room lab 2
   -- "a lent buffer of exactly 34 bytes"
-  walk-2-row : room ≢ 34 → WalkWhen n s d m room lab 2
-  walk-5 : Outside n s d → WalkWhen n s d m room lab 5
-  -- a byte above 4 (walk: anywhere)
-  walk-4 : (x : ℕ) → x < 2 ^ n → 4 < lab x → WalkWhen n s d m room lab 4
+  walk-2-row : room ≢ 34 → WalkWhen n j s d m room lab 2
+  walk-5 : Outside n s d → WalkWhen n j s d m room lab 5
+  -- a byte above 4 (walk: anywhere in the job's half)
+  walk-4 : (x : ℕ) → x < 2 ^ n → 4 < lab x → WalkWhen n j s d m room lab 4
   -- the source has label 3, or 4: "also for a draining source, even when it is the destination"
-  walk-6 : 3 ≤ lab s → WalkWhen n s d m room lab 6
+  walk-6 : 3 ≤ lab s → WalkWhen n j s d m room lab 6
   -- "7 stays for faulty only"
-  walk-7 : lab d ≡ 3 → WalkWhen n s d m room lab 7
-  walk-8 : AllHops n lab d s → WalkWhen n s d m room lab 8
+  walk-7 : lab d ≡ 3 → WalkWhen n j s d m room lab 7
+  walk-8 : AllHops n lab d s → WalkWhen n j s d m room lab 8
 
-abbrev pub WalkGiven : (n s d m room : ℕ) (lab : ℕ → ℕ) → ℕ → Type 0
-WalkGiven n s d m room lab = Given (WalkWhen n s d m room lab) (1 ∷ 2 ∷ 5 ∷ 4 ∷ 6 ∷ 7 ∷ 8 ∷ [])
+abbrev pub WalkGiven : (n j s d m room : ℕ) (lab : ℕ → ℕ) → ℕ → Type 0
+WalkGiven n j s d m room lab = Given (WalkWhen n j s d m room lab) (1 ∷ 19 ∷ 2 ∷ 5 ∷ 4 ∷ 6 ∷ 7 ∷ 8 ∷ [])
 
 -- ---- a number at a place of the bytes: "9 or 10"
 
@@ -155,8 +169,8 @@ pub record Refusals : Type 1 where
   pub one : (When : ℕ → Type 0) (order : List ℕ) (j k : ℕ) → Given When order j → Given When order k → j ≡ k
   pub one-notice : (bytes table : List ℕ) (j p k q : ℕ) → NoticeGiven bytes table j p → NoticeGiven bytes table k q → (j ≡ k) × (p ≡ q)
   -- each question's refusal, 0 for none, is the number given, and a notice's place the one given with it
-  pub labelling : (K : Cabinet) (m : ℕ) → LabelGiven K m (L.refusalOf (L.labelled K m))
-  pub hop : (n c d m : ℕ) (lab : ℕ → ℕ) → HopGiven n c d m lab (H.refusalOf (H.hopped n c d m lab))
-  pub walk : (n s d m room : ℕ) (lab : ℕ → ℕ) → WalkGiven n s d m room lab (W.refusalOf (W.walked n s d m room lab .ending))
+  pub labelling : (K : Cabinet) (j m : ℕ) → LabelGiven K j m (L.refusalOf (L.labelled K j m))
+  pub hop : (n j c d m : ℕ) (lab : ℕ → ℕ) → HopGiven n j c d m lab (H.refusalOf (H.hopped n j c d m lab))
+  pub walk : (n j s d m room : ℕ) (lab : ℕ → ℕ) → WalkGiven n j s d m room lab (W.refusalOf (W.walked n j s d m room lab .ending))
   pub number : (bytes : List ℕ) (at : ℕ) → NumberGiven bytes at (refusalIn (numberAt bytes at))
   pub notice : (bytes table : List ℕ) → NoticeGiven bytes table (N.refusalOf (N.noticed bytes table)) (N.placeOf (N.noticed bytes table))

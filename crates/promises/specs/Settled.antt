@@ -5,6 +5,7 @@ use Rattle.cube.proofs.Functions as cube
 use Rattle.groups.proofs.Functions as groups
 use Rattle.notice.proofs.Functions as notice
 use Rattle.reader.proofs.Functions as reader
+use Rattle.jobs.proofs.Functions as jobs
 use Rattle.labels.proofs.Functions as labels
 use Rattle.hop.proofs.Functions as hop
 use Rattle.walk.proofs.Functions as walk
@@ -30,6 +31,7 @@ pub record Settled : Type 0 where
   pub reader-next-at : Settles reader.next-at
   pub cube-distance : Settles cube.distance
   pub cube-is-dimension : Settles cube.is-dimension
+  pub jobs-is-job : Settles jobs.is-job
   -- what one crate lends another
   pub hop-hop-at : Settles hop.hop-at
   pub cube-nodes : Settles cube.nodes
@@ -37,8 +39,11 @@ pub record Settled : Type 0 where
   pub cube-table-len : Settles cube.table-len
   pub cube-node-bit : Settles cube.node-bit
   pub cube-unused-set : Settles cube.unused-set
+  pub jobs-label-bytes : Settles jobs.label-bytes
+  -- the half of a job: its bytes, and its place in the caller's memory
+  pub jobs-half : Settles jobs.half
 
--- all but those last six
+-- all but those last eight
 pub record Unasked : Type 2 where
   pub hcube-label : AsksNothing hcube.label
   pub hcube-hop : AsksNothing hcube.hop
@@ -57,3 +62,4 @@ pub record Unasked : Type 2 where
   pub reader-next-at : AsksNothing reader.next-at
   pub cube-distance : AsksNothing cube.distance
   pub cube-is-dimension : AsksNothing cube.is-dimension
+  pub jobs-is-job : AsksNothing jobs.is-job

@@ -27,6 +27,10 @@ use Rattle.reader.proofs.Functions as reader
 use Rattle.reader.proofs.Reader.new as reader-new
 use Rattle.reader.proofs.Reader.next as reader-next
 use Rattle.reader.proofs.next_at as reader-next-at
+use Rattle.jobs.proofs.Functions as jobs
+use Rattle.jobs.proofs.half as jobs-half
+use Rattle.jobs.proofs.is_job as jobs-is-job
+use Rattle.jobs.proofs.label_bytes as jobs-label-bytes
 use Rattle.labels.proofs.Functions as labels
 use Rattle.labels.proofs.label as labels-label
 use Rattle.hop.proofs.Functions as hop
@@ -110,20 +114,32 @@ pub record AllTied : Type 2 where
   pub cube-unused-set :
       Tied cube.unused-set (λ w. cube-unused-set.clauses (w .𝓤) (w .H) (w .𝓖 .A) (w .𝓜 .mem) (w .𝓡 .run))
       cube-unused-set.Reads.Asked cube-unused-set.Reads.Post
+  pub jobs-is-job :
+      Tied jobs.is-job (λ w. jobs-is-job.clauses (w .𝓤) (w .H) (w .𝓖 .A) (w .𝓜 .mem) (w .𝓡 .run))
+      jobs-is-job.Reads.Asked jobs-is-job.Reads.Post
+  pub jobs-label-bytes :
+      Tied jobs.label-bytes (λ w. jobs-label-bytes.clauses (w .𝓤) (w .H) (w .𝓖 .A) (w .𝓜 .mem) (w .𝓡 .run))
+      jobs-label-bytes.Reads.Asked jobs-label-bytes.Reads.Post
+  pub jobs-half : Tied jobs.half (λ w. jobs-half.clauses (w .𝓤) (w .H) (w .𝓖 .A) (w .𝓜 .mem) (w .𝓡 .run)) jobs-half.Reads.Asked jobs-half.Reads.Post
 
 -- f is seen to be handed this of its parameters
 abbrev pub Handed : {T : Ended} {A X B : Type 0} → Function T A X B → ((κs : Lfts (T .signature .lifetimes)) → Args (T .signature) κs → A) → Type 0
 Handed {T} f seen = (κs : Lfts (T .signature .lifetimes)) (a : Args (T .signature) κs) → f .handed κs a ≡ seen κs a
 
--- the questions are handed their parameters one after the other, numbers as they are and tables by their bytes: so the first table is the fault table and
--- the second that of the draining nodes, and the first node is the one that a hop is decided at or a walk begins at
+-- the questions are handed their parameters one after the other, numbers as they are and tables by their bytes: so the first number is the dimension and
+-- the job stands before the nodes, the first node is the one that a hop is decided at or a walk begins at, and of labelling's tables the first is the fault
+-- table, the second that of the draining nodes and the third that of the nodes that the job closes
 pub record InOrder : Type 0 where
-  pub hcube-label : Handed hcube.label (λ κs a. (a .0, a .1 .0, now (a .1 .1 .0), now (a .1 .1 .1 .0), now (a .1 .1 .1 .1 .0)))
-  pub hcube-hop : Handed hcube.hop (λ κs a. (a .0, a .1 .0, a .1 .1 .0, now (a .1 .1 .1 .0)))
-  pub hcube-walk : Handed hcube.walk (λ κs a. (a .0, a .1 .0, a .1 .1 .0, now (a .1 .1 .1 .0), now (a .1 .1 .1 .1 .0)))
+  pub hcube-label :
+      Handed hcube.label (λ κs a.
+      (a .0, a .1 .0, a .1 .1 .0, now (a .1 .1 .1 .0), now (a .1 .1 .1 .1 .0), now (a .1 .1 .1 .1 .1 .0), now (a .1 .1 .1 .1 .1 .1 .0)))
+  pub hcube-hop : Handed hcube.hop (λ κs a. (a .0, a .1 .0, a .1 .1 .0, a .1 .1 .1 .0, now (a .1 .1 .1 .1 .0)))
+  pub hcube-walk : Handed hcube.walk (λ κs a. (a .0, a .1 .0, a .1 .1 .0, a .1 .1 .1 .0, now (a .1 .1 .1 .1 .0), now (a .1 .1 .1 .1 .1 .0)))
   pub hcube-read-notice : Handed hcube.read-notice (λ κs a. (now (a .0), now (a .1 .0)))
-  pub labels-label : Handed labels.label (λ κs a. (a .0, a .1 .0, now (a .1 .1 .0), now (a .1 .1 .1 .0), now (a .1 .1 .1 .1 .0)))
-  pub hop-hop : Handed hop.hop (λ κs a. (a .0, a .1 .0, a .1 .1 .0, now (a .1 .1 .1 .0)))
-  pub walk-walk : Handed walk.walk (λ κs a. (a .0, a .1 .0, a .1 .1 .0, now (a .1 .1 .1 .0)))
-  pub walk-walk-for : Handed walk.walk-for (λ κs a. (a .0, a .1 .0, a .1 .1 .0, now (a .1 .1 .1 .0), a .1 .1 .1 .1 .0))
+  pub labels-label :
+      Handed labels.label (λ κs a.
+      (a .0, a .1 .0, a .1 .1 .0, now (a .1 .1 .1 .0), now (a .1 .1 .1 .1 .0), now (a .1 .1 .1 .1 .1 .0), now (a .1 .1 .1 .1 .1 .1 .0)))
+  pub hop-hop : Handed hop.hop (λ κs a. (a .0, a .1 .0, a .1 .1 .0, a .1 .1 .1 .0, now (a .1 .1 .1 .1 .0)))
+  pub walk-walk : Handed walk.walk (λ κs a. (a .0, a .1 .0, a .1 .1 .0, a .1 .1 .1 .0, now (a .1 .1 .1 .1 .0)))
+  pub walk-walk-for : Handed walk.walk-for (λ κs a. (a .0, a .1 .0, a .1 .1 .0, a .1 .1 .1 .0, now (a .1 .1 .1 .1 .0), a .1 .1 .1 .1 .1 .0))
   pub notice-read : Handed notice.read (λ κs a. (now (a .0), now (a .1 .0)))

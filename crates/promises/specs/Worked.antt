@@ -1,6 +1,7 @@
 -- The numbers of document 01 that are proved of the definitions, with the counts of document 02's request A3. k4 is n = 4 with faulty 2, 4, 8, 15; q3 is
 -- n = 3 with faulty 1, 2, 4. And numbers of our own: for the older rule (A13) of k4, and of c3 and c4, n = 3 and n = 4 with faulty 0, 3, 4; for draining nodes
--- (A4) of k4 with 15 draining instead of faulty, with 15 in both tables, and with 9 draining besides.
+-- (A4) of k4 with 15 draining instead of faulty, with 15 in both tables, and with 9 draining besides; for two jobs (A10) of k4 with 15 draining, where one
+-- of them closes 9.
 use mathlib.Core.Bool.{Bool, true, false, cond}
 use mathlib.Core.List.{List, [], _∷_, _++_}
 use mathlib.Core.Path.{_≡_}
@@ -10,7 +11,7 @@ use lib.ListN.{replicate}
 use Rattle.cube.specs.Tables.{nodeBit}
 use Rattle.rule.specs.Cabinet.{Cabinet, cabinet, labelsOf, out}
 use Rattle.rule.specs.Rule.{marked, safe}
-use Rattle.labels.specs.Labelling.{labelRefusal, labelled}
+use Rattle.labels.specs.Labelling.{labelRefusal, labelled, labelsAfter}
 use Rattle.labels.specs.declared.Labelled.the-variants.{Exchanges}
 use Rattle.hop.specs.Hop.{hopped}
 use Rattle.hop.specs.declared.Decision.the-variants.{Deliver}
@@ -22,28 +23,35 @@ use Rattle.walk.specs.declared.Walked.{Walked}
 use Rattle.theorems.specs.Words.{labelAt, walkOf}
 
 abbrev pub k4-by : (rule : ℕ) → Cabinet
-k4-by rule = cabinet 4 rule (20 ∷ 129 ∷ []) (0 ∷ 0 ∷ [])
+k4-by rule = cabinet 4 rule (20 ∷ 129 ∷ []) (0 ∷ 0 ∷ []) (0 ∷ 0 ∷ [])
 
 abbrev pub k4 : Cabinet
 k4 = k4-by 3
 
 abbrev pub q3 : Cabinet
-q3 = cabinet 3 3 (22 ∷ []) (0 ∷ [])
+q3 = cabinet 3 3 (22 ∷ []) (0 ∷ []) (0 ∷ [])
 
 abbrev pub c3-by : (rule : ℕ) → Cabinet
-c3-by rule = cabinet 3 rule (25 ∷ []) (0 ∷ [])
+c3-by rule = cabinet 3 rule (25 ∷ []) (0 ∷ []) (0 ∷ [])
 
 abbrev pub c4-by : (rule : ℕ) → Cabinet
-c4-by rule = cabinet 4 rule (25 ∷ 0 ∷ []) (0 ∷ 0 ∷ [])
+c4-by rule = cabinet 4 rule (25 ∷ 0 ∷ []) (0 ∷ 0 ∷ []) (0 ∷ 0 ∷ [])
 
 abbrev pub k4-drains : Cabinet
-k4-drains = cabinet 4 3 (20 ∷ 1 ∷ []) (0 ∷ 128 ∷ [])
+k4-drains = cabinet 4 3 (20 ∷ 1 ∷ []) (0 ∷ 128 ∷ []) (0 ∷ 0 ∷ [])
 
 abbrev pub k4-both : Cabinet
-k4-both = cabinet 4 3 (20 ∷ 129 ∷ []) (0 ∷ 128 ∷ [])
+k4-both = cabinet 4 3 (20 ∷ 129 ∷ []) (0 ∷ 128 ∷ []) (0 ∷ 0 ∷ [])
 
 abbrev pub k4-nine : Cabinet
-k4-nine = cabinet 4 3 (20 ∷ 129 ∷ []) (0 ∷ 2 ∷ [])
+k4-nine = cabinet 4 3 (20 ∷ 129 ∷ []) (0 ∷ 2 ∷ []) (0 ∷ 0 ∷ [])
+
+-- k4 with 15 draining, as a job has it that closes 9, and as one has it that closes 9 and 15
+abbrev pub k4-closes : Cabinet
+k4-closes = cabinet 4 3 (20 ∷ 1 ∷ []) (0 ∷ 128 ∷ []) (0 ∷ 2 ∷ [])
+
+abbrev pub k4-closes-both : Cabinet
+k4-closes-both = cabinet 4 3 (20 ∷ 1 ∷ []) (0 ∷ 128 ∷ []) (0 ∷ 130 ∷ [])
 
 -- the numbers below n that have p, rising
 unfoldable pub those : ℕ → (ℕ → Bool) → List ℕ
@@ -61,36 +69,36 @@ pub record Worked : Type 0 where
   pub k4-faulty : those 16 (out k4) ≡ 2 ∷ 4 ∷ 8 ∷ 15 ∷ []
   pub k4-round1 : those 16 (marked 4 3 (out k4) 1) ≡ 0 ∷ 6 ∷ 10 ∷ 12 ∷ []
   pub k4-round2 : those 16 (marked 4 3 (out k4) 2) ≡ 0 ∷ 6 ∷ 10 ∷ 12 ∷ 14 ∷ []
-  pub k4-exchanges : labelled k4 16 ≡ Exchanges 3
+  pub k4-exchanges : labelled k4 0 32 ≡ Exchanges 3
   -- its label table, byte by byte
   pub k4-labels : labelsOf k4 ≡ 1 ∷ 0 ∷ 3 ∷ 0 ∷ 3 ∷ 0 ∷ 1 ∷ 0 ∷ 3 ∷ 0 ∷ 1 ∷ 0 ∷ 1 ∷ 0 ∷ 2 ∷ 3 ∷ []
   pub k4-strong : those 16 (λ x. eqb (labelAt k4 x) 2) ≡ 14 ∷ []
-  pub k4-13-0 : walkOf k4 13 0 ≡ visited (13 ∷ 9 ∷ 1 ∷ 0 ∷ []) 3 13 Delivered
-  pub k4-6-0 : walkOf k4 6 0 ≡ visited (6 ∷ 7 ∷ 5 ∷ 1 ∷ 0 ∷ []) 4 12 Delivered
-  pub k4-14-0 : walkOf k4 14 0 ≡ visited (14 ∷ 12 ∷ 13 ∷ 9 ∷ 1 ∷ 0 ∷ []) 5 11 Delivered
-  pub k4-0-14 : walkOf k4 0 14 ≡ visited (0 ∷ 1 ∷ 3 ∷ 7 ∷ 6 ∷ 14 ∷ []) 5 11 Delivered
-  pub k4-10-10 : walkOf k4 10 10 ≡ visited (10 ∷ []) 0 16 Delivered
+  pub k4-13-0 : walkOf k4 0 13 0 ≡ visited (13 ∷ 9 ∷ 1 ∷ 0 ∷ []) 3 13 Delivered
+  pub k4-6-0 : walkOf k4 0 6 0 ≡ visited (6 ∷ 7 ∷ 5 ∷ 1 ∷ 0 ∷ []) 4 12 Delivered
+  pub k4-14-0 : walkOf k4 0 14 0 ≡ visited (14 ∷ 12 ∷ 13 ∷ 9 ∷ 1 ∷ 0 ∷ []) 5 11 Delivered
+  pub k4-0-14 : walkOf k4 0 0 14 ≡ visited (0 ∷ 1 ∷ 3 ∷ 7 ∷ 6 ∷ 14 ∷ []) 5 11 Delivered
+  pub k4-10-10 : walkOf k4 0 10 10 ≡ visited (10 ∷ []) 0 16 Delivered
   pub q3-faulty : those 8 (out q3) ≡ 1 ∷ 2 ∷ 4 ∷ []
   pub q3-safe : those 8 (safe 3 3 (out q3)) ≡ []
-  pub q3-exchanges : labelled q3 8 ≡ Exchanges 3
-  pub q3-0-7 : walkOf q3 0 7 ≡ visited (0 ∷ []) 0 16 Halted
-  pub q3-7-0 : walkOf q3 7 0 ≡ visited (7 ∷ 6 ∷ []) 1 15 Halted
-  pub q3-7-3 : walkOf q3 7 3 ≡ visited (7 ∷ 3 ∷ []) 1 15 Delivered
+  pub q3-exchanges : labelled q3 0 16 ≡ Exchanges 3
+  pub q3-0-7 : walkOf q3 0 0 7 ≡ visited (0 ∷ []) 0 16 Halted
+  pub q3-7-0 : walkOf q3 0 7 0 ≡ visited (7 ∷ 6 ∷ []) 1 15 Halted
+  pub q3-7-3 : walkOf q3 0 7 3 ≡ visited (7 ∷ 3 ∷ []) 1 15 Delivered
   -- one exchange, the quiet one, where no node is faulty and where every node is
   pub no-faults :
-      (K : Cabinet) (m : ℕ) → labelRefusal K m ≡ 0 → ((x : ℕ) → x < 2 ^ K .n → out K x ≡ false) → labelled K m ≡ Exchanges 1
+      (K : Cabinet) (j m : ℕ) → labelRefusal K j m ≡ 0 → ((x : ℕ) → x < 2 ^ K .n → out K x ≡ false) → labelled K j m ≡ Exchanges 1
   pub all-faulty :
-      (K : Cabinet) (m : ℕ) → labelRefusal K m ≡ 0 → ((x : ℕ) → x < 2 ^ K .n → out K x ≡ true) → labelled K m ≡ Exchanges 1
-  pub one-safe : safe 1 3 (out (cabinet 1 3 (1 ∷ []) (0 ∷ []))) 1 ≡ true
+      (K : Cabinet) (j m : ℕ) → labelRefusal K j m ≡ 0 → ((x : ℕ) → x < 2 ^ K .n → out K x ≡ true) → labelled K j m ≡ Exchanges 1
+  pub one-safe : safe 1 3 (out (cabinet 1 3 (1 ∷ []) (0 ∷ []) (0 ∷ []))) 1 ≡ true
   -- ---- the older rule
 
   -- k4 by rule 2: no node is safe, and a walk that rule 3 delivers halts
-  pub k4-older-exchanges : labelled (k4-by 2) 16 ≡ Exchanges 5
+  pub k4-older-exchanges : labelled (k4-by 2) 0 32 ≡ Exchanges 5
   pub k4-older-labels : labelsOf (k4-by 2) ≡ 2 ∷ 2 ∷ 3 ∷ 2 ∷ 3 ∷ 2 ∷ 2 ∷ 2 ∷ 3 ∷ 2 ∷ 2 ∷ 2 ∷ 2 ∷ 2 ∷ 2 ∷ 3 ∷ []
-  pub k4-older-13-0 : walkOf (k4-by 2) 13 0 ≡ visited (13 ∷ 12 ∷ []) 1 15 Halted
+  pub k4-older-13-0 : walkOf (k4-by 2) 0 13 0 ≡ visited (13 ∷ 12 ∷ []) 1 15 Halted
   -- c3: by rule 2 no node is safe, by rule 3 three are
   pub c3-faulty : those 8 (out (c3-by 3)) ≡ 0 ∷ 3 ∷ 4 ∷ []
-  pub c3-older-exchanges : labelled (c3-by 2) 8 ≡ Exchanges 4
+  pub c3-older-exchanges : labelled (c3-by 2) 0 16 ≡ Exchanges 4
   pub c3-older-labels : labelsOf (c3-by 2) ≡ 3 ∷ 2 ∷ 2 ∷ 3 ∷ 3 ∷ 2 ∷ 2 ∷ 2 ∷ []
   pub c3-labels : labelsOf (c3-by 3) ≡ 3 ∷ 1 ∷ 1 ∷ 3 ∷ 3 ∷ 0 ∷ 0 ∷ 0 ∷ []
   -- c4: both leave safe nodes, and rule 3 leaves more
@@ -99,16 +107,30 @@ pub record Worked : Type 0 where
   -- ---- draining nodes
 
   -- k4 with 15 draining: every other label is k4's, and a frame that k4 loses is delivered; it forwards nothing, and takes what is addressed to it
-  pub k4-drains-exchanges : labelled k4-drains 16 ≡ Exchanges 3
+  pub k4-drains-exchanges : labelled k4-drains 0 32 ≡ Exchanges 3
   pub k4-drains-labels : labelsOf k4-drains ≡ 1 ∷ 0 ∷ 3 ∷ 0 ∷ 3 ∷ 0 ∷ 1 ∷ 0 ∷ 3 ∷ 0 ∷ 1 ∷ 0 ∷ 1 ∷ 0 ∷ 2 ∷ 4 ∷ []
-  pub k4-0-15 : walkOf k4 0 15 ≡ refused 7
-  pub k4-drains-0-15 : walkOf k4-drains 0 15 ≡ visited (0 ∷ 1 ∷ 3 ∷ 7 ∷ 15 ∷ []) 4 12 Delivered
-  pub k4-drains-15-15 : walkOf k4-drains 15 15 ≡ refused 6
-  pub k4-drains-15-14 : hopped 4 15 14 16 (labelAt k4-drains) ≡ Hopped.Refused 6
-  pub k4-drains-at-15 : hopped 4 15 15 16 (labelAt k4-drains) ≡ Hopped.Decided Deliver
+  pub k4-0-15 : walkOf k4 0 0 15 ≡ refused 7
+  pub k4-drains-0-15 : walkOf k4-drains 0 0 15 ≡ visited (0 ∷ 1 ∷ 3 ∷ 7 ∷ 15 ∷ []) 4 12 Delivered
+  pub k4-drains-15-15 : walkOf k4-drains 0 15 15 ≡ refused 6
+  pub k4-drains-15-14 : hopped 4 0 15 14 32 (labelAt k4-drains) ≡ Hopped.Refused 6
+  pub k4-drains-at-15 : hopped 4 0 15 15 32 (labelAt k4-drains) ≡ Hopped.Decided Deliver
   -- "a node in both is faulty"
   pub k4-both-labels : labelsOf k4-both ≡ labelsOf k4
   -- k4 with 9 draining besides: 13 to 0, which went through 9, is passed around it, and 13 to 9 arrives
   pub k4-nine-labels : labelsOf k4-nine ≡ 1 ∷ 0 ∷ 3 ∷ 0 ∷ 3 ∷ 0 ∷ 1 ∷ 0 ∷ 3 ∷ 4 ∷ 2 ∷ 1 ∷ 2 ∷ 1 ∷ 2 ∷ 3 ∷ []
-  pub k4-nine-13-0 : walkOf k4-nine 13 0 ≡ visited (13 ∷ 5 ∷ 1 ∷ 0 ∷ []) 3 13 Delivered
-  pub k4-nine-13-9 : walkOf k4-nine 13 9 ≡ visited (13 ∷ 9 ∷ []) 1 15 Delivered
+  pub k4-nine-13-0 : walkOf k4-nine 0 13 0 ≡ visited (13 ∷ 5 ∷ 1 ∷ 0 ∷ []) 3 13 Delivered
+  pub k4-nine-13-9 : walkOf k4-nine 0 13 9 ≡ visited (13 ∷ 9 ∷ []) 1 15 Delivered
+  -- ---- two jobs
+
+  -- job 0 closes nothing and job 1 closes 9: each has its labels in its own half, whichever is labelled last
+  pub k4-jobs-labels :
+      labelsAfter k4-closes 1 (labelsAfter k4-drains 0 (replicate 32 7))
+      ≡ (1 ∷ 0 ∷ 3 ∷ 0 ∷ 3 ∷ 0 ∷ 1 ∷ 0 ∷ 3 ∷ 0 ∷ 1 ∷ 0 ∷ 1 ∷ 0 ∷ 2 ∷ 4 ∷ []) ++ (1 ∷ 0 ∷ 3 ∷ 0 ∷ 3 ∷ 0 ∷ 1 ∷ 0 ∷ 3 ∷ 3 ∷ 2 ∷ 1 ∷ 2 ∷ 1 ∷ 2 ∷ 4 ∷ [])
+  pub k4-jobs-back : labelsAfter k4-drains 0 (labelsAfter k4-closes 1 (replicate 32 7)) ≡ labelsAfter k4-closes 1 (labelsAfter k4-drains 0 (replicate 32 7))
+  -- closed over draining: 15 is faulty to a job that closes it, and nothing else changes
+  pub k4-shut-labels : labelsOf k4-closes-both ≡ 1 ∷ 0 ∷ 3 ∷ 0 ∷ 3 ∷ 0 ∷ 1 ∷ 0 ∷ 3 ∷ 3 ∷ 2 ∷ 1 ∷ 2 ∷ 1 ∷ 2 ∷ 3 ∷ []
+  -- 13 to 0 goes through 9 for job 0 and around it for job 1, on the same cabinet
+  pub k4-job-0 : walkOf k4-drains 0 13 0 ≡ visited (13 ∷ 9 ∷ 1 ∷ 0 ∷ []) 3 13 Delivered
+  pub k4-job-1 : walkOf k4-closes 1 13 0 ≡ visited (13 ∷ 5 ∷ 1 ∷ 0 ∷ []) 3 13 Delivered
+  pub k4-job-1-15 : walkOf k4-closes 1 0 15 ≡ visited (0 ∷ 1 ∷ 3 ∷ 7 ∷ 15 ∷ []) 4 12 Delivered
+  pub k4-shut-15 : walkOf k4-closes-both 1 0 15 ≡ refused 7

@@ -62,6 +62,9 @@ module _ (K : Cabinet) where
   pub is-faulty : (x : ℕ) → x < 2 ^ n → faulty K x ≡ true → labelAt K x ≡ 3
   is-faulty x h e = out-label x h (or-left _ e) ∙ rw e
 
+  is-closed : (x : ℕ) → x < 2 ^ n → nodeBit (K .closed) x ≡ true → labelAt K x ≡ 3
+  is-closed x h e = is-faulty x h (or-right (nodeBit (K .faults) x) e)
+
   pub is-draining : (x : ℕ) → x < 2 ^ n → drains K x ≡ true → labelAt K x ≡ 4
   is-draining x h e =
       let r = and-true (not (faulty K x)) _ e in
@@ -126,6 +129,7 @@ module _ (K : Cabinet) where
         faulty = is-faulty;
         drains = is-draining;
         works = works;
+        shut = is-closed;
         ordinary = ordinary;
         strong = strong;
         safe = λ x h. (λ e. unmarked x h (zero-is x h e), λ e. is-zero x h (makes-safe x h (e .0) (e .1)));

@@ -6,7 +6,6 @@ use Prim.Native.Nat.{ℕ, _+_, _*_, _^_, _≤_, _<_}
 use native.Mathlib.Numerals.{add-one}
 use native.Mathlib.Omega.{arith}
 use lib.Dec.{eqb, ltb}
-use lib.ListN.{length}
 use borrow.Author.Tests.{eq-eqb, ne-eqb, eqb-true, eqb-false, lt-leb, le-ltb}
 use Rattle.cube.specs.Cube.{apart, dist, flip}
 use Rattle.cube.specs.Refusal.{first}
@@ -14,9 +13,11 @@ use Rattle.cube.specs.Tables.{highest, isDimension}
 use Rattle.cube.proofs.Bools.{either, is-false}
 use Rattle.cube.proofs.Search.{find, some-none}
 use Rattle.cube.proofs.Cube.{flip-lt}
-use Rattle.rule.specs.Cabinet.{Cabinet, faulty, labelsOf, out}
+use Rattle.jobs.specs.Jobs.{isJob, labelBytes}
+use Rattle.jobs.proofs.Halves.{is-job}
+use Rattle.rule.specs.Cabinet.{Cabinet, faulty, out}
 use Rattle.rule.specs.Good.{Good}
-use Rattle.rule.proofs.Cabinet.{label-bytes, labels-length, out-high, table-good}
+use Rattle.rule.proofs.Cabinet.{label-bytes, out-high, table-good}
 use Rattle.scans.specs.Hit.{Draining}
 use Rattle.scans.specs.Progress.{Receives}
 use Rattle.labels.proofs.Refusal.{fitting}
@@ -34,29 +35,29 @@ use Rattle.theorems.proofs.Places.{row-unused, row-used}
 use Rattle.theorems.proofs.Walks.{endOf, Kept, Delivers, Halts, delivers, delivers-safe, delivers-or-halts}
 
 -- what is known of the label bytes of an accepted table
-record Table (K : Cabinet) : Type 0 where
+record Table (K : Cabinet) (j : ℕ) : Type 0 where
   dimension : isDimension (K .n) ≡ true
   small : K .n ≤ 12
-  sized : length (labelsOf K) ≡ 2 ^ K .n
+  job : isJob j ≡ true
   good : Good (K .n) (labelAt K)
   out-high : (x : ℕ) → x < 2 ^ K .n → out K x ≡ true → 3 ≤ labelAt K x
   receives : (x : ℕ) → x < 2 ^ K .n → faulty K x ≡ false → Receives (labelAt K x)
   working : (x : ℕ) → x < 2 ^ K .n → out K x ≡ false → labelAt K x ≤ 2
 
-table : (K : Cabinet) → Accepted K → Table K
-table K ok =
-    let f = fitting K (2 ^ K .n) ok in
+table : (K : Cabinet) (j : ℕ) → Accepted K j → Table K j
+table K j ok =
+    let f = fitting K j (labelBytes (K .n)) ok in
     record {
       dimension = f .dimension;
-      small = f .small;
-      sized = labels-length K;
+      small = f .halved .small;
+      job = is-job j (f .halved .job);
       good = table-good K (f .rule .1);
       out-high = λ x h e. omega (arith, out-label K x h e, out-high K x e);
       receives = receives K;
       working = works K;
     }
 
-module _ (K : Cabinet) (T : Table K) (s d : ℕ) (hs : Works K s) (hd : Takes K d) where
+module _ (K : Cabinet) (j : ℕ) (T : Table K j) (s d : ℕ) (hs : Works K s) (hd : Takes K d) where
   abbrev n : ℕ
   n = K .n
 
@@ -71,12 +72,13 @@ module _ (K : Cabinet) (T : Table K) (s d : ℕ) (hs : Works K s) (hd : Takes K 
 
   -- ---- the walk is not refused, where its last decision is no hop
 
-  not-refused : stops (last n (route n lab d) s) ≡ true → walkRefusal n s d (length (labelsOf K)) rowBytes lab ≡ 0
+  not-refused : stops (last n (route n lab d) s) ≡ true → walkRefusal n j s d (labelBytes n) rowBytes lab ≡ 0
   unfolding walkRefusal first
   not-refused e =
       rw (
         T .dimension,
-        eq-eqb (length (labelsOf K)) (2 ^ n) (T .sized),
+        T .job,
+        eq-eqb (labelBytes n) (labelBytes n) refl,
         lt-leb (2 ^ n) s (hs .0),
         lt-leb (2 ^ n) d (hd .0),
         some-none (2 ^ n) (λ x. ltb highest (lab x)) (λ x h. le-ltb highest (lab x) (label-bytes K x h)),
@@ -90,7 +92,7 @@ module _ (K : Cabinet) (T : Table K) (s d : ℕ) (hs : Works K s) (hd : Takes K 
   abbrev ended : Ending → Walked
   ended e = record { row = row n (route n lab d) s; hops = hops n (route n lab d) s; ending = e }
 
-  is-walk : (x : Decision) → last n (route n lab d) s ≡ x → stops x ≡ true → walkOf K s d ≡ ended (endingOf x)
+  is-walk : (x : Decision) → last n (route n lab d) s ≡ x → stops x ≡ true → walkOf K j s d ≡ ended (endingOf x)
   unfolding walked walkFrom
   is-walk x e t = rw (not-refused (ap stops e ∙ t), e)
 
@@ -126,32 +128,32 @@ module _ (K : Cabinet) (T : Table K) (s d : ℕ) (hs : Works K s) (hd : Takes K 
 
   -- a walk that delivers
   module _ (m : ℕ) (D : Delivers n lab d s m) where
-    is-delivered : walkOf K s d ≡ ended ending.Delivered
+    is-delivered : walkOf K j s d ≡ ended ending.Delivered
     unfolding stops
     is-delivered = is-walk Deliver (D .ended) refl
 
-    delivered-stepped : Stepped K lab d s (walkOf K s d)
+    delivered-stepped : Stepped K lab d s (walkOf K j s d)
     delivered-stepped = rw is-delivered (stepped ending.Delivered (D .kept))
 
-    delivered-arrives : Arrives K lab d (walkOf K s d)
+    delivered-arrives : Arrives K lab d (walkOf K j s d)
     unfolding last turn
     delivered-arrives =
         rw is-delivered
         (record { ending = refl; decided = rw (end-place ending.Delivered) (D .ended); there = end-place ending.Delivered ∙ D .there })
 
-    delivered-hops : walkOf K s d .hops ≡ dist s d + 2 * D .extra
+    delivered-hops : walkOf K j s d .hops ≡ dist s d + 2 * D .extra
     delivered-hops = rw is-delivered (D .exact)
 
   -- a walk that halts
   module _ (H : Halts n lab d s) where
-    is-halted : walkOf K s d ≡ ended ending.Halted
+    is-halted : walkOf K j s d ≡ ended ending.Halted
     unfolding stops
     is-halted = is-walk Halted (H .ended) refl
 
-    halted-stepped : Stepped K lab d s (walkOf K s d)
+    halted-stepped : Stepped K lab d s (walkOf K j s d)
     halted-stepped = rw is-halted (stepped ending.Halted (H .kept))
 
-    halted-stuck : Stuck K lab d (walkOf K s d)
+    halted-stuck : Stuck K lab d (walkOf K j s d)
     unfolding last turn
     halted-stuck =
         rw is-halted (record { ending = refl; decided = rw (end-place ending.Halted) (H .ended); far = rw (end-place ending.Halted) (H .far); why = rw (end-place ending.Halted) why })
@@ -176,7 +178,7 @@ module _ (K : Cabinet) (T : Table K) (s d : ℕ) (hs : Works K s) (hd : Takes K 
       delivers-or-halts n lab (T .good) d (hd .0) wd s (hs .0) ws
       (λ x h e. none (x, h, e))
 
-  at-most : SomeSafe n lab → walkOf K s d .hops ≤ dist s d + 2 * lab s
+  at-most : SomeSafe n lab → walkOf K j s d .hops ≤ dist s d + 2 * lab s
   at-most x = let D = by-rank x in omega (arith, delivered-hops (lab s) D, D .few)
 
   -- whichever way it ends
@@ -193,7 +195,7 @@ module _ (K : Cabinet) (T : Table K) (s d : ℕ) (hs : Works K s) (hd : Takes K 
           ⊎-elim (λ (D : Delivers n lab d s 0). delivered 0 (omega arith) D) (λ (H : Halts n lab d s). halted H)
           (by-distance (λ x. eqb-false (lab (x .0)) 0 (f (x .0) (x .1)) (x .2)))
 
-  meets-demand : Walks K lab s d (walkOf K s d)
+  meets-demand : Walks K lab s d (walkOf K j s d)
   meets-demand =
       record {
         stepped = walk-stepped how;
@@ -208,17 +210,17 @@ module _ (K : Cabinet) (T : Table K) (s d : ℕ) (hs : Works K s) (hd : Takes K 
         never-refused = λ k e. never k e how;
       }
     where
-      walk-stepped : Ended → Stepped K lab d s (walkOf K s d)
+      walk-stepped : Ended → Stepped K lab d s (walkOf K j s d)
       walk-stepped (delivered m l D) = delivered-stepped m D
       walk-stepped (halted H) = halted-stepped H
 
-      walk-even : walkOf K s d .ending ≡ ending.Delivered → Ended → (e : ℕ) × (e ≤ lab s) × (walkOf K s d .hops ≡ dist s d + 2 * e)
+      walk-even : walkOf K j s d .ending ≡ ending.Delivered → Ended → (e : ℕ) × (e ≤ lab s) × (walkOf K j s d .hops ≡ dist s d + 2 * e)
       walk-even e (delivered m l D) = (D .extra, omega (arith, D .few), delivered-hops m D)
       walk-even e (halted H) = let q = halted-stuck H .ending in let z : _≡_ {A = ℕ} 0 1 = cc in absurd (omega arith)
 
-      never : (k : ℕ) → walkOf K s d .ending ≡ ending.Refused k → Ended → ⊥
+      never : (k : ℕ) → walkOf K j s d .ending ≡ ending.Refused k → Ended → ⊥
       never k e (delivered m l D) = let q = delivered-arrives m D .ending in let z : _≡_ {A = ℕ} 0 1 = cc in omega arith
       never k e (halted H) = let q = halted-stuck H .ending in let z : _≡_ {A = ℕ} 0 1 = cc in omega arith
 
 pub demand3 : Demand3
-demand3 K ok = meets-demand K (table K ok)
+demand3 K j ok = meets-demand K j (table K j ok)

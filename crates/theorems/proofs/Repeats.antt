@@ -58,9 +58,9 @@ spot-works n lab d s h (suc k) =
 
 -- ---- a walk that is not refused
 
-module _ (n s d m room : ℕ) (lab : ℕ → ℕ) (ok : walkRefusal n s d m room lab ≡ 0) where
-  abbrev G : WalkGood n s d m room lab
-  G = walk-good n s d m room lab ok
+module _ (n j s d m room : ℕ) (lab : ℕ → ℕ) (ok : walkRefusal n j s d m room lab ≡ 0) where
+  abbrev G : WalkGood n j s d m room lab
+  G = walk-good n j s d m room lab ok
 
   abbrev at : ℕ → ℕ
   at = spot (route n lab d) s
@@ -78,7 +78,7 @@ module _ (n s d m room : ℕ) (lab : ℕ → ℕ) (ok : walkRefusal n s d m room
       (λ (e : at k ≡ d). (ne-eqb (lab (at k)) 3 (λ q. G .target (ap lab (sym e) ∙ q)), rw (eq-eqb (at k) d e) (and-false (eqb (lab (at k)) 4))))
       (works k)
 
-  unrefused : (k : ℕ) → hopRefusal n (at k) d m lab ≡ 0
+  unrefused : (k : ℕ) → hopRefusal n j (at k) d m lab ≡ 0
   unfolding hopRefusal first
   unrefused k =
       rw (
@@ -94,9 +94,9 @@ module _ (n s d m room : ℕ) (lab : ℕ → ℕ) (ok : walkRefusal n s d m room
       )
 
   -- the question after k hops
-  decides : (k : ℕ) (x : Decision) → turn (route n lab d) s k ≡ x → Decides n d m lab (at k) x
+  decides : (k : ℕ) (x : Decision) → turn (route n lab d) s k ≡ x → Decides n j d m lab (at k) x
   unfolding turn
-  decides k x e = sym (hop-decides n (at k) d m lab x (unrefused k) (sym e))
+  decides k x e = sym (hop-decides n j (at k) d m lab x (unrefused k) (sym e))
 
   abbrev w : Walked
   w = walkFrom n (route n lab d) s
@@ -106,12 +106,12 @@ module _ (n s d m room : ℕ) (lab : ℕ → ℕ) (ok : walkRefusal n s d m room
   used = row-used n (route n lab d) s (G .placed .small)
 
   steps : (k : ℕ) → k < hops n (route n lab d) s
-      → (i : ℕ) × (i < n) × Decides n d m lab (place w k) (Hop i) × (place w (k + 1) ≡ flip i (place w k))
+      → (i : ℕ) × (i < n) × Decides n j d m lab (place w k) (Hop i) × (place w (k + 1) ≡ flip i (place w k))
   unfolding turn stops
   steps k h = go (turn (route n lab d) s k) refl (hops-on n (route n lab d) s k h)
     where
       go : (x : Decision) → turn (route n lab d) s k ≡ x → stops x ≡ false
-          → (i : ℕ) × (i < n) × Decides n d m lab (place w k) (Hop i) × (place w (k + 1) ≡ flip i (place w k))
+          → (i : ℕ) × (i < n) × Decides n j d m lab (place w k) (Hop i) × (place w (k + 1) ≡ flip i (place w k))
       go Deliver e f = absurd (clash refl f)
       go Halted e f = absurd (clash refl f)
       go (Hop i) e f = (
@@ -121,22 +121,22 @@ module _ (n s d m room : ℕ) (lab : ℕ → ℕ) (ok : walkRefusal n s d m room
         used (k + 1) (omega arith) ∙ spot-next (route n lab d) s k i e ∙ ap (flip i) (sym (used k (omega arith))),
       )
 
-  ends : (Decides n d m lab (place w (hops n (route n lab d) s)) Deliver × (endingOf (last n (route n lab d) s) ≡ ending.Delivered))
-      ⊎ (Decides n d m lab (place w (hops n (route n lab d) s)) Halted × (endingOf (last n (route n lab d) s) ≡ ending.Halted))
+  ends : (Decides n j d m lab (place w (hops n (route n lab d) s)) Deliver × (endingOf (last n (route n lab d) s) ≡ ending.Delivered))
+      ⊎ (Decides n j d m lab (place w (hops n (route n lab d) s)) Halted × (endingOf (last n (route n lab d) s) ≡ ending.Halted))
   unfolding last stops
   ends = go (last n (route n lab d) s) refl (G .stops)
     where
-      here : (x : Decision) → last n (route n lab d) s ≡ x → Decides n d m lab (place w (hops n (route n lab d) s)) x
+      here : (x : Decision) → last n (route n lab d) s ≡ x → Decides n j d m lab (place w (hops n (route n lab d) s)) x
       here x e = rw (used (hops n (route n lab d) s) (omega arith)) (decides (hops n (route n lab d) s) x e)
 
       go : (x : Decision) → last n (route n lab d) s ≡ x → stops x ≡ true
-          → (Decides n d m lab (place w (hops n (route n lab d) s)) Deliver × (endingOf (last n (route n lab d) s) ≡ ending.Delivered))
-          ⊎ (Decides n d m lab (place w (hops n (route n lab d) s)) Halted × (endingOf (last n (route n lab d) s) ≡ ending.Halted))
+          → (Decides n j d m lab (place w (hops n (route n lab d) s)) Deliver × (endingOf (last n (route n lab d) s) ≡ ending.Delivered))
+          ⊎ (Decides n j d m lab (place w (hops n (route n lab d) s)) Halted × (endingOf (last n (route n lab d) s) ≡ ending.Halted))
       go Deliver e f = inl (here Deliver e, ap endingOf e)
       go Halted e f = inr (here Halted e, ap endingOf e)
       go (Hop i) e f = absurd (clash f refl)
 
-  repeats : Repeats n s d m lab (walked n s d m room lab)
+  repeats : Repeats n j s d m lab (walked n j s d m room lab)
   unfolding walked walkFrom
   repeats = rw ok (record {
     starts = used 0 (omega arith) ∙ spot-zero (route n lab d) s;

@@ -12,9 +12,10 @@ use Rattle.cube.proofs.Bools.{either, is-false}
 use Rattle.cube.proofs.Cube.{flip-lt}
 use Rattle.cube.proofs.Search.{find}
 use Rattle.rule.specs.Cabinet.{Cabinet, byRule, out, outByte}
-use Rattle.rule.proofs.Cabinet.{label-in, labels-length}
+use Rattle.rule.proofs.Cabinet.{label-in}
 use Rattle.rule.proofs.Rules.{rules}
-use Rattle.walk.specs.Walk.{rowBytes, walked}
+use Rattle.jobs.specs.Jobs.{labelBytes}
+use Rattle.walk.specs.Walk.{rowBytes}
 use Rattle.walk.specs.declared.Ending.the-variants.{Delivered}
 use Rattle.walk.specs.declared.Walked.{Walked}
 use Rattle.walk.proofs.Local.{walk-local}
@@ -71,24 +72,23 @@ module _ (K : Cabinet) where
         go (inl a) = out-label old x h a ∙ sym (out-label new x h a)
         go (inr a) = omega (arith, eqb-false (labelAt new x) 0 (none x h), not-one, works old x h a, falls x h)
 
-    same-walk : (s d : ℕ) → walkOf old s d ≡ walkOf new s d
-    same-walk s d =
-        ap (λ (m : ℕ). walked n s d m rowBytes (labelAt old)) (labels-length old ∙ sym (labels-length new))
-        ∙ walk-local n s d _ rowBytes (labelAt old) (labelAt new) same-labels
+    same-walk : (j s d : ℕ) → walkOf old j s d ≡ walkOf new j s d
+    same-walk j s d = walk-local n j s d (labelBytes n) rowBytes (labelAt old) (labelAt new) same-labels
 
-  still-delivered : Accepted new → (s d : ℕ) → Works K s → Takes K d → walkOf old s d .ending ≡ Delivered → walkOf new s d .ending ≡ Delivered
-  still-delivered ok s d hs hd e = go (find (2 ^ n) (λ x. eqb (labelAt new x) 0))
+  still-delivered : (j : ℕ) → Accepted new j → (s d : ℕ) → Works K s → Takes K d
+      → walkOf old j s d .ending ≡ Delivered → walkOf new j s d .ending ≡ Delivered
+  still-delivered j ok s d hs hd e = go (find (2 ^ n) (λ x. eqb (labelAt new x) 0))
     where
       go : ((x : ℕ) × (x < 2 ^ n) × (eqb (labelAt new x) 0 ≡ true)) ⊎ ((x : ℕ) → x < 2 ^ n → eqb (labelAt new x) 0 ≡ false)
-          → walkOf new s d .ending ≡ Delivered
-      go (inl r) = demand3 new ok s d hs hd .arrives (r .0, r .1, eqb-true (labelAt new (r .0)) 0 (r .2)) .ending
-      go (inr none) = ap (λ (w : Walked). w .ending) (sym (same-walk none s d)) ∙ e
+          → walkOf new j s d .ending ≡ Delivered
+      go (inl r) = demand3 new j ok s d hs hd .arrives (r .0, r .1, eqb-true (labelAt new (r .0)) 0 (r .2)) .ending
+      go (inr none) = ap (λ (w : Walked). w .ending) (sym (same-walk none j s d)) ∙ e
 
 pub two-rules : TwoRules
 two-rules =
     record {
       better = λ K. better (K .n) (labelAt (old K)) (labelAt (new K)) (falls K);
-      still-delivered = λ K ok s d hs hd e. still-delivered K ok s d hs hd e;
+      still-delivered = λ K j ok s d hs hd e. still-delivered K j ok s d hs hd e;
       none-strong = λ K some x w. omega (
         arith,
         label-in (old K) x (w .0),

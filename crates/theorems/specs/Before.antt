@@ -1,23 +1,25 @@
--- What the library answered before there were draining nodes (document 02, A4), by the definitions that stood then: labelling was lent no table of them, 3 was
--- the highest label, and nothing came before scan 1. A board that lends an empty table of draining nodes is answered as before. Proved in proofs/Before.antt.
+-- What the library answered before there were draining nodes and jobs (document 02, A4 and A10), by the definitions that stood then: labelling was lent the
+-- fault table alone and one label table, 3 was the highest label, and nothing came before scan 1. A board on which no node drains and the job closes none
+-- is answered, in the half of its job, as before. Proved in proofs/Before.antt.
 use mathlib.Core.Bool.{Bool, true, false, Bool·beq, cond, not, _&&_, _||_}
 use mathlib.Core.List.{List, [], _∷_, _++_}
 use mathlib.Core.Logic.{_≢_}
 use mathlib.Core.Path.{_≡_}
-use Prim.Native.Nat.{ℕ, _^_}
+use Prim.Native.Nat.{ℕ, _*_, _^_}
 use lib.Dec.{eqb, leb, ltb}
 use lib.ListN.{getD, length}
 use Rattle.cube.specs.Count.{least, some}
 use Rattle.cube.specs.Cube.{apart, dist, flip}
 use Rattle.cube.specs.Refusal.{Test, first, _⇒_}
 use Rattle.cube.specs.Tables.{emptyTable, isDimension, nodeBit, tab, tableLen, unusedSet}
-use Rattle.rule.specs.Cabinet.{cabinet, isRule}
+use Rattle.jobs.specs.Jobs.{half}
+use Rattle.rule.specs.Cabinet.{Cabinet, cabinet, isRule}
 use Rattle.rule.specs.Rule.{exchanges, label}
 use Rattle.scans.specs.Scans.{forward, noScan, spare}
 use Rattle.labels.specs.Labelling.{labelled, labelsAfter}
 use Rattle.labels.specs.declared.Labelled.{Labelled}
 use Rattle.labels.specs.declared.Labelled.the-variants as labelled
-use Rattle.hop.specs.Hop.{answer, hopped, nodeTests, sizeTests}
+use Rattle.hop.specs.Hop.{answer, hopped, nodeTests}
 use Rattle.hop.specs.declared.Decision.{Decision}
 use Rattle.hop.specs.declared.Hopped.{Hopped}
 use Rattle.hop.specs.declared.Hopped.the-variants as hopped
@@ -44,7 +46,15 @@ abbrev pub labelsAfterThen : (n rule : ℕ) (faults before : List ℕ) → List 
 labelsAfterThen n rule faults before =
     cond (eqb (first (labelTestsThen n rule faults (length before))) 0) (tab (2 ^ n) (label n rule (nodeBit faults) (λ _. 3))) before
 
--- ---- one hop: a scan took a dimension of its side whose neighbour's label was at most top, and the line before scan 1 was empty
+-- ---- one hop: a label table of m bytes had one for each node
+
+abbrev pub sizeTestsThen : (n m : ℕ) → List Test
+sizeTestsThen n m =
+    not (isDimension n) ⇒ 1
+    ∷ not (eqb m (2 ^ n)) ⇒ 2
+    ∷ []
+
+-- a scan took a dimension of its side whose neighbour's label was at most top, and the line before scan 1 was empty
 
 pub record ScanThen : Type 0 where
   pub side : Bool
@@ -81,7 +91,7 @@ hopThen n lab c d =
 
 abbrev pub hopTestsThen : (n c d m : ℕ) (lab : ℕ → ℕ) → List Test
 hopTestsThen n c d m lab =
-    sizeTests n m
+    sizeTestsThen n m
     ++ (nodeTests n c d
     ++ ((ltb 3 (lab c) || some n (λ i. ltb 3 (lab (flip i c)))) ⇒ 4
     ∷ eqb (lab c) 3 ⇒ 6
@@ -97,7 +107,7 @@ routeThen n lab d x = hopThen n lab x d
 
 abbrev pub walkTestsThen : (n s d m room : ℕ) (lab : ℕ → ℕ) → List Test
 walkTestsThen n s d m room lab =
-    sizeTests n m ++ (not (eqb room rowBytes) ⇒ 2 ∷ nodeTests n s d)
+    sizeTestsThen n m ++ (not (eqb room rowBytes) ⇒ 2 ∷ nodeTests n s d)
     ++ (some (2 ^ n) (λ x. ltb 3 (lab x)) ⇒ 4
     ∷ eqb (lab s) 3 ⇒ 6
     ∷ eqb (lab d) 3 ⇒ 7
@@ -110,12 +120,19 @@ walkedThen n s d m room lab =
 
 -- ---- as before
 
-pub record AsBefore : Type 0 where
-  -- labelling that is lent an empty table of draining nodes answers and leaves what it did, refused or not,
-  pub label : (n rule m : ℕ) (faults : List ℕ) → labelled (cabinet n rule faults (emptyTable n)) m ≡ labelledThen n rule faults m
-  pub labels : (n rule : ℕ) (faults before : List ℕ) → labelsAfter (cabinet n rule faults (emptyTable n)) before ≡ labelsAfterThen n rule faults before
+-- no node drains, and the job closes none
+abbrev pub plain : (n rule : ℕ) (faults : List ℕ) → Cabinet
+plain n rule faults = cabinet n rule faults (emptyTable n) (emptyTable n)
+
+-- j is a job, and where a label table of m bytes was lent, a buffer of two such tables is lent now
+pub record AsBefore (j : ℕ) : Type 0 where
+  -- labelling that is lent two empty tables answers what it did, and leaves in the half of its job what it left, refused or not,
+  pub label : (n rule m : ℕ) (faults : List ℕ) → labelled (plain n rule faults) j (2 * m) ≡ labelledThen n rule faults m
+  pub labels :
+      (n rule m : ℕ) (faults before : List ℕ) → length before ≡ 2 * m
+      → half j m (labelsAfter (plain n rule faults) j before) ≡ labelsAfterThen n rule faults (half j m before)
   -- and no label is 4;
-  pub no-four : (n rule : ℕ) (faults : List ℕ) (x : ℕ) → labelAt (cabinet n rule faults (emptyTable n)) x ≢ 4
+  pub no-four : (n rule : ℕ) (faults : List ℕ) (x : ℕ) → labelAt (plain n rule faults) x ≢ 4
   -- and with labels among which there is no 4, right or wrong, a hop and a walk are answered as they were
-  pub hop : (n c d m : ℕ) (lab : ℕ → ℕ) → ((x : ℕ) → lab x ≢ 4) → hopped n c d m lab ≡ hoppedThen n c d m lab
-  pub walk : (n s d m room : ℕ) (lab : ℕ → ℕ) → ((x : ℕ) → lab x ≢ 4) → walked n s d m room lab ≡ walkedThen n s d m room lab
+  pub hop : (n c d m : ℕ) (lab : ℕ → ℕ) → ((x : ℕ) → lab x ≢ 4) → hopped n j c d (2 * m) lab ≡ hoppedThen n c d m lab
+  pub walk : (n s d m room : ℕ) (lab : ℕ → ℕ) → ((x : ℕ) → lab x ≢ 4) → walked n j s d (2 * m) room lab ≡ walkedThen n s d m room lab

@@ -1,5 +1,5 @@
--- Demand 3: walks arrive. K is a cabinet that labelling accepts and lab the labels that it then has; s, the source, is a working node and d, the destination, one
--- that works or drains (the last lines); w is the walk's answer with those labels.
+-- Demand 3: walks arrive. K is a cabinet as one job has it, which labelling accepts, and lab the labels that it then has; s, the source, is a working node and
+-- d, the destination, one that works or drains (the last lines); w is the walk's answer with those labels.
 use mathlib.Core.Bool.{true}
 use mathlib.Core.Logic.{_⊎_}
 use mathlib.Core.Path.{_≡_}
@@ -28,7 +28,7 @@ pub record Arrives (K : Cabinet) (lab : ℕ → ℕ) (d : ℕ) (w : Walked) : Ty
   pub decided : hop (K .n) lab (place w (w .hops)) d ≡ Deliver
   pub there : place w (w .hops) ≡ d
 
--- halted: every neighbour of the last place that is nearer the destination is faulty or draining, and none of them is the destination
+-- halted: every neighbour of the last place that is nearer the destination is faulty, closed or draining, and none of them is the destination
 pub record Stuck (K : Cabinet) (lab : ℕ → ℕ) (d : ℕ) (w : Walked) : Type 0 where
   pub ending : w .ending ≡ ending.Halted
   pub decided : hop (K .n) lab (place w (w .hops)) d ≡ Halted
@@ -44,7 +44,7 @@ pub record Walks (K : Cabinet) (lab : ℕ → ℕ) (s d : ℕ) (w : Walked) : Ty
   -- at most two more from an ordinarily unsafe source, at most four more from a strongly unsafe one
   pub ordinary : SomeSafe (K .n) lab → lab s ≡ 1 → w .hops ≤ dist s d + 2
   pub strong : SomeSafe (K .n) lab → lab s ≡ 2 → w .hops ≤ dist s d + 4
-  -- if no node is safe it arrives in exactly the distance, or halts where every neighbour nearer the destination is faulty or draining
+  -- if no node is safe it arrives in exactly the distance, or halts where every neighbour nearer the destination is faulty, closed or draining
   pub none-safe :
       (SomeSafe (K .n) lab → ⊥) → (Arrives K lab d w × (w .hops ≡ dist s d)) ⊎ Stuck K lab d w
   -- a delivered walk has the distance and an even number of hops more, at most twice the source's label
@@ -52,6 +52,6 @@ pub record Walks (K : Cabinet) (lab : ℕ → ℕ) (s d : ℕ) (w : Walked) : Ty
   -- it is never refused, with 8 or otherwise
   pub never-refused : (k : ℕ) → w .ending ≡ ending.Refused k → ⊥
 
--- with the labels of an accepted cabinet, from a working node to one that takes the frames addressed to it
+-- for either job, with the labels of an accepted cabinet, from a working node to one that takes the frames addressed to it
 abbrev pub Demand3 : Type 0
-Demand3 = (K : Cabinet) → Accepted K → (s d : ℕ) → Works K s → Takes K d → Walks K (labelAt K) s d (walkOf K s d)
+Demand3 = (K : Cabinet) (j : ℕ) → Accepted K j → (s d : ℕ) → Works K s → Takes K d → Walks K (labelAt K) s d (walkOf K j s d)

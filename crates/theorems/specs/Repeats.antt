@@ -14,17 +14,17 @@ use Rattle.walk.specs.declared.Walked.{Walked}
 use Rattle.theorems.specs.Words.{place}
 
 -- the hop question at x is not refused, and decides so
-abbrev pub Decides : (n d m : ℕ) (lab : ℕ → ℕ) (x : ℕ) → Decision → Type 0
-Decides n d m lab x a = hopped n x d m lab ≡ Decided a
+abbrev pub Decides : (n j d m : ℕ) (lab : ℕ → ℕ) (x : ℕ) → Decision → Type 0
+Decides n j d m lab x a = hopped n j x d m lab ≡ Decided a
 
-pub record Repeats (n s d m : ℕ) (lab : ℕ → ℕ) (w : Walked) : Type 0 where
+pub record Repeats (n j s d m : ℕ) (lab : ℕ → ℕ) (w : Walked) : Type 0 where
   pub starts : place w 0 ≡ s
   -- each place but the last: a hop is decided there, and the next place is the neighbour across its dimension
-  pub steps : (k : ℕ) → k < w .hops → (i : ℕ) × (i < n) × Decides n d m lab (place w k) (Hop i) × (place w (k + 1) ≡ flip i (place w k))
+  pub steps : (k : ℕ) → k < w .hops → (i : ℕ) × (i < n) × Decides n j d m lab (place w k) (Hop i) × (place w (k + 1) ≡ flip i (place w k))
   -- the last: deliver or halted is decided there, and so the walk ended
   pub ends :
-      (Decides n d m lab (place w (w .hops)) Deliver × (w .ending ≡ ending.Delivered))
-      ⊎ (Decides n d m lab (place w (w .hops)) Halted × (w .ending ≡ ending.Halted))
+      (Decides n j d m lab (place w (w .hops)) Deliver × (w .ending ≡ ending.Delivered))
+      ⊎ (Decides n j d m lab (place w (w .hops)) Halted × (w .ending ≡ ending.Halted))
   -- "at most 17 node numbers in a fixed row of places, unused ones zero"
   pub few : w .hops ≤ n + 4
   pub unused : (k : ℕ) → w .hops < k → place w k ≡ 0
@@ -33,4 +33,5 @@ pub record Repeats (n s d m : ℕ) (lab : ℕ → ℕ) (w : Walked) : Type 0 whe
   pub ends-in : (lab (place w (w .hops)) ≤ 2) ⊎ (place w (w .hops) ≡ d)
 
 abbrev pub WalkRepeats : Type 0
-WalkRepeats = (n s d m room : ℕ) (lab : ℕ → ℕ) → walkRefusal n s d m room lab ≡ 0 → Repeats n s d m lab (walked n s d m room lab)
+WalkRepeats =
+    (n j s d m room : ℕ) (lab : ℕ → ℕ) → walkRefusal n j s d m room lab ≡ 0 → Repeats n j s d m lab (walked n j s d m room lab)

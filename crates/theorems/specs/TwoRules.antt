@@ -33,8 +33,8 @@ pub record TwoRules : Type 0 where
   pub better : (K : Cabinet) → OnlyBetter (K .n) (labelAt (byRule 2 K)) (labelAt (byRule 3 K))
   -- no frame is lost by it: a walk that was delivered still is
   pub still-delivered :
-      (K : Cabinet) → Accepted (byRule 3 K) → (s d : ℕ) → Works K s → Takes K d
-      → walkOf (byRule 2 K) s d .ending ≡ Delivered → walkOf (byRule 3 K) s d .ending ≡ Delivered
+      (K : Cabinet) (j : ℕ) → Accepted (byRule 3 K) j → (s d : ℕ) → Works K s → Takes K d
+      → walkOf (byRule 2 K) j s d .ending ≡ Delivered → walkOf (byRule 3 K) j s d .ending ≡ Delivered
   pub none-strong : (K : Cabinet) → NoneStrong (byRule 2 K) (labelAt (byRule 2 K))
   -- demand 3's bounds are that bound
   pub bound :

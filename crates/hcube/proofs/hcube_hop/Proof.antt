@@ -9,7 +9,7 @@ use Rattle.hcube.proofs.hcube_hop.Tie as tie
 
 -- the answer's parts are small, from where the answer is known
 small : (c : tie.After-hop) → HopFits (c .hop .result)
-small c = rw (c .hop .ensures) (hop-small _ _ _ _ _)
+small c = rw (c .hop .ensures) (hop-small _ _ _ _ _ _)
 
 hop-requires : tie.Need-hop-requires
 hop-requires c κs = search needs

@@ -11,7 +11,7 @@ use Rattle.hcube.proofs.hcube_label.Tie as tie
 -- the answer's parts are small, from where the answer is known
 small : (c : tie.After-label) → LabelFits (c .label .result)
 small c =
-    rw (c .label .ensures .0) (label-small (cabinet _ _ _ _) _)
+    rw (c .label .ensures .0) (label-small (cabinet _ _ _ _ _) _ _)
 
 label-requires : tie.Need-label-requires
 label-requires c κs = search needs

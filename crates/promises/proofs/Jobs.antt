@@ -1,0 +1,155 @@
+-- Two jobs, of any library that is faithful to the definitions. Each question is defined on the half of its job and the buffer's length, so buffers that agree in
+-- these are answered alike; and what labelling leaves is the buffer with another half of its own job.
+use mathlib.Core.List.{List}
+use mathlib.Core.Logic.{inl, inr, _≢_}
+use mathlib.Core.Path.{_≡_, refl, sym, ap, ap₂, subst, _∙_}
+use Prim.Native.Nat.{ℕ, _*_, _^_, _<_}
+use native.Mathlib.Decide.{ℕ-discrete}
+use native.Mathlib.Omega.{arith}
+use lib.ListN.{length}
+use Rattle.cube.specs.Refusal.{first}
+use Rattle.cube.specs.Tables.{labelIn}
+use Rattle.jobs.specs.Jobs.{half, labelBytes, labelFor}
+use Rattle.jobs.proofs.Halves.{is-job}
+use Rattle.jobs.proofs.Laws.{halves-alike}
+use Rattle.rule.specs.Cabinet.{Cabinet, labelsOf}
+use Rattle.labels.specs.Labelling.{labelRefusal, labelled, labelsAfter}
+use Rattle.labels.specs.declared.Labelled.{Labelled}
+use Rattle.labels.specs.declared.Labelled.the-variants.{Exchanges}
+use Rattle.labels.proofs.Refusal.{buffer-sized, labels-written, length-kept, others-kept, says-refused}
+use Rattle.hop.specs.Hop.{hopRefusal, hopped}
+use Rattle.walk.specs.Walk.{rowBytes, walkRefusal, walked}
+use Rattle.walk.specs.declared.Walked.{Walked}
+use Rattle.theorems.specs.Demand3.{Walks}
+use Rattle.theorems.specs.Words.{Takes, Works}
+use Rattle.promises.specs.Demands.{Demands}
+use Rattle.promises.specs.Jobs.{Jobs, Meanwhile, SameTo, another, nothing}
+use Rattle.promises.specs.Library.{Library, rattle, c}
+use Rattle.promises.specs.Refusals.{Job}
+use Rattle.promises.proofs.Demands.{c-demands, rattle-demands}
+use Rattle.promises.proofs.Given.{job-below}
+use Rattle.promises.proofs.Library.{Faithful, rattle-faithful, c-faithful}
+
+-- ---- what labelling leaves
+
+module _ (K : Cabinet) (j : ℕ) where
+  kept : (l : List ℕ) → labelRefusal K j (length l) ≢ 0 → labelsAfter K j l ≡ l
+  kept l z = sym (says-refused K j l _ refl z .1)
+
+  -- its own half goes by that half and the length
+  own-same : (l l′ : List ℕ) → SameTo (K .n) j l l′ → half j (2 ^ K .n) (labelsAfter K j l) ≡ half j (2 ^ K .n) (labelsAfter K j l′)
+  own-same l l′ s =
+      elim (ℕ-discrete (labelRefusal K j (length l)) 0) [
+        | yes z ↦ labels-written K j l z ∙ sym (labels-written K j l′ (ap (labelRefusal K j) (sym (s .long)) ∙ z))
+        | no z ↦ ap (half j (2 ^ K .n)) (kept l z) ∙ s .own
+            ∙ sym (ap (half j (2 ^ K .n)) (kept l′ (λ e. z (ap (labelRefusal K j) (s .long) ∙ e))))
+      ]
+
+  same-after : (l l′ : List ℕ) → SameTo (K .n) j l l′ → SameTo (K .n) j (labelsAfter K j l) (labelsAfter K j l′)
+  same-after l l′ s = record { long = length-kept K j l ∙ s .long ∙ sym (length-kept K j l′); own = own-same l l′ s }
+
+  -- to another job the buffer is the same
+  other-same : (i : ℕ) → i < 2 → i ≢ j → (l : List ℕ) → SameTo (K .n) i l (labelsAfter K j l)
+  other-same i h d l = record { long = sym (length-kept K j l); own = sym (others-kept K j l i h d) }
+
+-- ---- one job after the other
+
+module _ (K₀ K₁ : Cabinet) (e : K₀ .n ≡ K₁ .n) (l : List ℕ) where
+  abbrev size : ℕ
+  size = 2 ^ K₀ .n
+
+  -- job 0 first, and job 1 first
+  abbrev first-0 : List ℕ
+  first-0 = labelsAfter K₁ 1 (labelsAfter K₀ 0 l)
+
+  abbrev first-1 : List ℕ
+  first-1 = labelsAfter K₀ 0 (labelsAfter K₁ 1 l)
+
+  -- what one leaves is the same to the other
+  to-0 : (t : List ℕ) → SameTo (K₀ .n) 0 t (labelsAfter K₁ 1 t)
+  to-0 t = rw e (other-same K₁ 1 0 (omega arith) (λ q. omega arith) t)
+
+  to-1 : (t : List ℕ) → SameTo (K₁ .n) 1 t (labelsAfter K₀ 0 t)
+  to-1 t = rw (← e) (other-same K₀ 0 1 (omega arith) (λ q. omega arith) t)
+
+  half-0 : half 0 size first-0 ≡ half 0 size first-1
+  half-0 = sym (to-0 (labelsAfter K₀ 0 l) .own) ∙ own-same K₀ 0 l (labelsAfter K₁ 1 l) (to-0 l)
+
+  half-1 : half 1 size first-0 ≡ half 1 size first-1
+  half-1 = rw e (sym (own-same K₁ 1 l (labelsAfter K₀ 0 l) (to-1 l)) ∙ to-1 (labelsAfter K₁ 1 l) .own)
+
+  long-0 : length first-0 ≡ length l
+  long-0 = length-kept K₁ 1 (labelsAfter K₀ 0 l) ∙ length-kept K₀ 0 l
+
+  long-1 : length first-1 ≡ length l
+  long-1 = length-kept K₀ 0 (labelsAfter K₁ 1 l) ∙ length-kept K₁ 1 l
+
+  -- a buffer of another length is refused each time
+  unwritten : (K : Cabinet) (j : ℕ) (t : List ℕ) → length t ≢ 2 * 2 ^ K .n → labelsAfter K j t ≡ t
+  unwritten K j t d = kept K j t (λ z. d (buffer-sized K j t z))
+
+  orders-same : first-0 ≡ first-1
+  orders-same =
+      elim (ℕ-discrete (length l) (2 * size)) [
+        | yes z ↦ halves-alike size first-0 first-1 (long-0 ∙ z) (long-1 ∙ z) half-0 half-1
+        | no z ↦ neither z ∙ sym (nor z)
+      ]
+    where
+      one : length l ≢ 2 * size → labelsAfter K₁ 1 l ≡ l
+      one z = unwritten K₁ 1 l (rw e at z)
+
+      zero : length l ≢ 2 * size → labelsAfter K₀ 0 l ≡ l
+      zero z = unwritten K₀ 0 l z
+
+      neither : length l ≢ 2 * size → first-0 ≡ l
+      neither z = ap (labelsAfter K₁ 1) (zero z) ∙ one z
+
+      nor : length l ≢ 2 * size → first-1 ≡ l
+      nor z = ap (labelsAfter K₀ 0) (one z) ∙ zero z
+
+-- ---- the jobs are alike: which one it is matters for 19 alone
+
+module _ {i j : ℕ} (hi : i < 2) (hj : j < 2) where
+  label-alike : (K : Cabinet) (m : ℕ) → labelled K i m ≡ labelled K j m
+  unfolding labelled labelRefusal
+  label-alike K m = rw (is-job i hi, is-job j hj)
+
+  hop-alike : (n c d m : ℕ) (lab : ℕ → ℕ) → hopped n i c d m lab ≡ hopped n j c d m lab
+  unfolding hopped hopRefusal
+  hop-alike n c d m lab = rw (is-job i hi, is-job j hj)
+
+  walk-alike : (n s d m room : ℕ) (lab : ℕ → ℕ) → walked n i s d m room lab ≡ walked n j s d m room lab
+  unfolding walked walkRefusal
+  walk-alike n s d m room lab = rw (is-job i hi, is-job j hj)
+
+-- ---- of a library
+
+module _ (lib : Library) (F : Faithful lib) (D : Demands lib) where
+  label-own : {K : Cabinet} {j : ℕ} {l l′ after after′ : List ℕ} {x x′ : Labelled} → lib .labels K j l x after → lib .labels K j l′ x′ after′
+      → length l ≡ length l′ → x ≡ x′
+  label-own {K} {j} m m′ e = F .labels m .0 ∙ ap (labelled K j) e ∙ sym (F .labels m′ .0)
+
+  labels-own : {K : Cabinet} {j : ℕ} {l l′ after after′ : List ℕ} {x x′ : Labelled} → lib .labels K j l x after → lib .labels K j l′ x′ after′
+      → SameTo (K .n) j l l′ → SameTo (K .n) j after after′
+  labels-own {K} {j} {l} {l′} m m′ s =
+      let a = F .labels m .1 in
+      let b = F .labels m′ .1 in
+      subst (λ (t : List ℕ). SameTo (K .n) j t _) (sym a) (subst (λ (t : List ℕ). SameTo (K .n) j (labelsAfter K j l) t) (sym b) (same-after K j l l′ s))
+
+  unmoved : {n j : ℕ} {l l′ : List ℕ} → Job j → Meanwhile lib n j l l′ → SameTo n j l l′
+  unmoved job nothing = record { long = refl; own = refl }
+  unmoved {n} {j} {l} {l′} job (another {l₁ = l₁} {i = i} {K = K} d e m rest) =
+      let s : SameTo n j l l₁ = subst (λ (k : ℕ). SameTo k j l l₁) e
+      (subst (λ (t : List ℕ). SameTo (K .n) j l t) (sym (F .labels m .1)) (other-same K i j (job-below job) (λ q. d (sym q)) l)) in
+      let r = unmoved job rest in
+      record { long = s .long ∙ r .long; own = s .own ∙ r .own }
+
+  still-walks : {K : Cabinet} {j e s d : ℕ} {before l l′ : List ℕ} {w : Walked} → lib .labels K j before (Exchanges e) l → Meanwhile lib (K .n) j l l′
+      → Works K s → Takes K d → lib .walks (K .n) j s d l′ rowBytes w → Walks K (labelFor (K .n) j l′) s d w
+  still-walks = ?
+
+pub rattle-jobs : Jobs rattle
+rattle-jobs = ?
+
+pub c-jobs : Jobs c
+c-jobs = ?
