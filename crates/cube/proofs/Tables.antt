@@ -8,7 +8,7 @@ use Prim.Native.Nat.{ℕ, zero, suc, _+_, _-_, _*_, _/_, _%_, _^_, _≤_, _<_}
 use native.Mathlib.Omega.{arith}
 use native.Mathlib.Nat.{mul-div-cancel, zero-lt-suc}
 use lib.Dec.{leb, ltb, eqb}
-use lib.ListN.{length, getD, replicate, length-replicate, getD-replicate, take, List·getD-eq-default}
+use lib.ListN.{length, drop, getD, replicate, length-replicate, getD-replicate, take, List·getD-eq-default}
 use lib.Pow.{pow-add, pow-mono, pow-pos, shr-lt}
 use borrow.Author.Tests.{le-leb, lt-leb, eq-eqb, ne-eqb, leb-true, leb-false, ltb-true, ltb-false}
 use Rattle.cube.specs.Count.{some}
@@ -76,7 +76,13 @@ zeros-front zero m h = refl
 zeros-front (suc k) zero h = absurd (omega arith)
 zeros-front (suc k) (suc m) h = ap (λ (l : List ℕ). 0 ∷ l) (zeros-front k m (omega arith))
 
--- it has no node's bit set, and no unused one
+-- and so is the rest behind such a part
+pub zeros-behind : (k m j : ℕ) → m ≡ k + j → drop k (replicate m 0) ≡ replicate {A = ℕ} j 0
+zeros-behind zero m j e = let z : m ≡ j = omega (arith, e) in ap (λ (i : ℕ). replicate i 0) z
+zeros-behind (suc k) zero j e = absurd (omega (arith, e))
+zeros-behind (suc k) (suc m) j e = zeros-behind k m j (omega (arith, e))
+
+-- a table of zeros has no node's bit set, and no unused one
 pub zeros-none : (m k : ℕ) → nodeBit (replicate m 0) k ≡ false
 unfolding nodeBit
 zeros-none m k = ap (bit (k % 8)) (byte (either (ltb (k / 8) m))) ∙ bit-none (k % 8)

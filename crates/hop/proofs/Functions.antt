@@ -3,12 +3,13 @@
 use mathlib.Core.Bool.{Bool}
 use mathlib.Core.List.{List}
 use mathlib.Core.Path.{refl}
-use Prim.Native.Nat.{ℕ}
+use Prim.Native.Nat.{ℕ, _^_}
 use denote.Ref.{now}
 use lib.ListN.{length}
 use Rattle.cube.specs.Contracts.{AsksNothing, Function, Nothing}
 use Rattle.cube.proofs.Contracts.{Says}
 use Rattle.cube.specs.Tables.{labelIn}
+use Rattle.jobs.specs.Jobs.{half}
 use Rattle.hop.specs.Helpers.{placeRefusal}
 use Rattle.hop.specs.Hop as spec
 use Rattle.hop.specs.declared.Decision.{Decision}
@@ -17,13 +18,13 @@ use Rattle.hop.proofs.hop as hop-claims
 use Rattle.hop.proofs.place_refusal
 use Rattle.hop.proofs.hop_at
 
-abbrev pub hop : Function hop-claims.ended (ℕ × ℕ × ℕ × List ℕ) Hopped Nothing
+abbrev pub hop : Function hop-claims.ended (ℕ × ℕ × ℕ × ℕ × List ℕ) Hopped Nothing
 hop =
     record {
       clauses = λ w. hop-claims.clauses (w .𝓤) (w .H) (w .𝓖 .A) (w .𝓜 .mem) (w .𝓡 .run);
       asked = hop-claims.Reads.Asked;
       post = hop-claims.Reads.Post;
-      handed = λ κs a. (a .0, a .1 .0, a .1 .1 .0, now (a .1 .1 .1 .0));
+      handed = λ κs a. (a .0, a .1 .0, a .1 .1 .0, a .1 .1 .1 .0, now (a .1 .1 .1 .1 .0));
       answered = λ κs r. r;
       left = λ κs e. tt;
     }
@@ -31,16 +32,16 @@ hop =
 pub hop-asks : AsksNothing hop
 hop-asks = record { asked = λ κs a. tt; empty = λ w κs a. (tt, refl) }
 
-pub hop-says : Says hop (λ i. spec.hopped (i .0) (i .1) (i .2) (length (i .3)) (labelIn (i .3))) (λ i. tt)
+pub hop-says : Says hop (λ i. spec.hopped (i .0) (i .1) (i .2) (i .3) (length (i .4)) (labelIn (half (i .1) (2 ^ i .0) (i .4)))) (λ i. tt)
 hop-says = record { says = λ κs a r e p. (p, refl) }
 
-abbrev pub place-refusal : Function place_refusal.ended (ℕ × ℕ × ℕ × ℕ × Bool) ℕ Nothing
+abbrev pub place-refusal : Function place_refusal.ended (ℕ × ℕ × ℕ × ℕ × ℕ × Bool) ℕ Nothing
 place-refusal =
     record {
       clauses = λ w. place_refusal.clauses (w .𝓤) (w .H) (w .𝓖 .A) (w .𝓜 .mem) (w .𝓡 .run);
       asked = place_refusal.Reads.Asked;
       post = place_refusal.Reads.Post;
-      handed = λ κs a. (a .0, a .1 .0, a .1 .1 .0, a .1 .1 .1 .0, a .1 .1 .1 .1 .0);
+      handed = λ κs a. (a .0, a .1 .0, a .1 .1 .0, a .1 .1 .1 .0, a .1 .1 .1 .1 .0, a .1 .1 .1 .1 .1 .0);
       answered = λ κs r. r;
       left = λ κs e. tt;
     }
@@ -48,7 +49,7 @@ place-refusal =
 pub place-refusal-asks : AsksNothing place-refusal
 place-refusal-asks = record { asked = λ κs a. tt; empty = λ w κs a. (tt, refl) }
 
-pub place-refusal-says : Says place-refusal (λ i. placeRefusal (i .0) (i .1) (i .2) (i .3) (i .4)) (λ i. tt)
+pub place-refusal-says : Says place-refusal (λ i. placeRefusal (i .0) (i .1) (i .2) (i .3) (i .4) (i .5)) (λ i. tt)
 place-refusal-says = record { says = λ κs a r e p. (p, refl) }
 
 abbrev pub hop-at : Function hop_at.ended (ℕ × ℕ × ℕ × List ℕ) Decision Nothing

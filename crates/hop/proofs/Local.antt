@@ -1,5 +1,5 @@
--- Locality. A decision and its refusals depend on the label of c and on those of its n neighbours, and on no other byte of the table, since each scan
--- looks at the neighbours alone.
+-- Locality. A decision and its refusals depend on the label of c and on those of its n neighbours, and on no other byte of the job's half, since each
+-- scan looks at the neighbours alone.
 use mathlib.Core.Path.{_≡_, ap, _∙_}
 use mathlib.Core.Logic.{_⊎_, inl, inr}
 use mathlib.Core.Bool.{true, false}
@@ -51,13 +51,13 @@ hop-dim n lab c d i e = decide-dim n c d (lab c) (λ j. lab (flip j c)) i e
 
 -- ---- the question: labels that agree at c and at its neighbours are answered alike, refused or not
 
-module _ (n c d m : ℕ) (lab lab′ : ℕ → ℕ) (own : lab c ≡ lab′ c) (near : (i : ℕ) → i < n → lab (flip i c) ≡ lab′ (flip i c)) where
-  refusal-same : hopRefusal n c d m lab ≡ hopRefusal n c d m lab′
+module _ (n j c d m : ℕ) (lab lab′ : ℕ → ℕ) (own : lab c ≡ lab′ c) (near : (i : ℕ) → i < n → lab (flip i c) ≡ lab′ (flip i c)) where
+  refusal-same : hopRefusal n j c d m lab ≡ hopRefusal n j c d m lab′
   unfolding hopRefusal
   refusal-same =
       rw (own, some-same n (λ i. ltb highest (lab (flip i c))) (λ i. ltb highest (lab′ (flip i c))) (λ i h. ap (ltb highest) (near i h)))
 
-  hopped-same : hopped n c d m lab ≡ hopped n c d m lab′
+  hopped-same : hopped n j c d m lab ≡ hopped n j c d m lab′
   unfolding hopped
   hopped-same = rw (refusal-same, hop-same n lab lab′ c d own near)
 

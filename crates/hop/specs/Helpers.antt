@@ -8,6 +8,7 @@ use lib.Dec.{leb, ltb}
 use Rattle.cube.specs.Cube.{bit, flip}
 use Rattle.cube.specs.Refusal.{Test, first, _⇒_}
 use Rattle.cube.specs.Tables.{tab}
+use Rattle.jobs.specs.Jobs.{Halved}
 use Rattle.scans.specs.Scans.{firstScan, lowest, noScan}
 use Rattle.hop.specs.Hop.{nodeTests, sizeTests}
 use Rattle.hop.specs.declared.Decision.{Decision}
@@ -15,14 +16,20 @@ use Rattle.hop.specs.declared.Decision.the-variants.{Hop, Halted}
 
 -- ---- the refusals that need no label
 
--- of nodes a and b and a label table of m bytes; `other` says that another lent buffer has a wrong length
-abbrev pub placeTests : (n a b m : ℕ) (other : Bool) → List Test
-placeTests n a b m other = sizeTests n m ++ (other ⇒ 2 ∷ nodeTests n a b)
+-- of job j, nodes a and b and a label buffer of m bytes; `other` says that another lent buffer has a wrong length
+abbrev pub placeTests : (n j a b m : ℕ) (other : Bool) → List Test
+placeTests n j a b m other = sizeTests n j m ++ (other ⇒ 2 ∷ nodeTests n a b)
 
-unfoldable pub placeRefusal : (n a b m : ℕ) (other : Bool) → ℕ
-placeRefusal n a b m other = first (placeTests n a b m other)
+unfoldable pub placeRefusal : (n j a b m : ℕ) (other : Bool) → ℕ
+placeRefusal n j a b m other = first (placeTests n j a b m other)
 
--- what holds where none of them is given
+-- what holds where none of them is given: the buffer has a half of the job, and the nodes are in the cube
+pub record Asked (n j a b m : ℕ) : Type 0 where
+  pub halved : Halved n j m
+  pub first : a < 2 ^ n
+  pub second : b < 2 ^ n
+
+-- and what the functions that are handed that half, a table of m bytes, may assume of it
 pub record Placed (n a b m : ℕ) : Type 0 where
   pub small : n ≤ 12
   pub sized : m ≡ 2 ^ n

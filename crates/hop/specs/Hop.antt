@@ -1,6 +1,7 @@
 -- One hop: the decision that Algorithm ROUTE takes at a node, and its refusals.
 -- The decision is a function of n, c, d, c's own label and the labels of its n neighbours, and of nothing else: `hop` takes these from the labels
--- of all nodes. The question `hopped` is asked of any label table: m is its length, and lab x the byte of node x.
+-- of all nodes. The question `hopped` is asked for a job of any label buffer: m is the buffer's length, j the job, and lab x the byte of node x in the
+-- job's half.
 use mathlib.Core.Bool.{cond, not, _&&_, _||_}
 use mathlib.Core.List.{List, [], _∷_, _++_}
 use Prim.Native.Nat.{ℕ, _^_}
@@ -9,6 +10,7 @@ use Rattle.cube.specs.Count.{some}
 use Rattle.cube.specs.Cube.{dist, flip}
 use Rattle.cube.specs.Refusal.{Test, first, _⇒_}
 use Rattle.cube.specs.Tables.{highest, isDimension}
+use Rattle.jobs.specs.Jobs.{isJob, labelBytes}
 use Rattle.scans.specs.Scans.{firstScan, lowest, noScan}
 use Rattle.hop.specs.declared.Decision.{Decision}
 use Rattle.hop.specs.declared.Decision.the-variants.{Deliver, Hop, Halted}
@@ -30,12 +32,13 @@ hop n lab c d = decide n c d (lab c) (λ i. lab (flip i c))
 
 -- ---- the question
 
--- its refusals, by parts: of the dimension and a label table of m bytes; of two nodes; of c's label and those of its neighbours: at a faulty node nothing
--- is decided, and at a draining one only that what is addressed to it has arrived
-abbrev pub sizeTests : (n m : ℕ) → List Test
-sizeTests n m =
+-- its refusals, by parts: of the dimension, the job and a label buffer of m bytes; of two nodes; of c's label and those of its neighbours: at a faulty
+-- node nothing is decided, and at a draining one only that what is addressed to it has arrived
+abbrev pub sizeTests : (n j m : ℕ) → List Test
+sizeTests n j m =
     not (isDimension n) ⇒ 1
-    ∷ not (eqb m (2 ^ n)) ⇒ 2
+    ∷ not (isJob j) ⇒ 19
+    ∷ not (eqb m (labelBytes n)) ⇒ 2
     ∷ []
 
 abbrev pub nodeTests : (n a b : ℕ) → List Test
@@ -48,16 +51,16 @@ nearTests n c d own near =
     ∷ (eqb own 4 && not (eqb c d)) ⇒ 6
     ∷ []
 
--- and in order: 1, 2, 5, 4, 6
-abbrev pub hopTests : (n c d m : ℕ) (lab : ℕ → ℕ) → List Test
-hopTests n c d m lab = sizeTests n m ++ (nodeTests n c d ++ nearTests n c d (lab c) (λ i. lab (flip i c)))
+-- and in order: 1, 19, 2, 5, 4, 6
+abbrev pub hopTests : (n j c d m : ℕ) (lab : ℕ → ℕ) → List Test
+hopTests n j c d m lab = sizeTests n j m ++ (nodeTests n c d ++ nearTests n c d (lab c) (λ i. lab (flip i c)))
 
-unfoldable pub hopRefusal : (n c d m : ℕ) (lab : ℕ → ℕ) → ℕ
-hopRefusal n c d m lab = first (hopTests n c d m lab)
+unfoldable pub hopRefusal : (n j c d m : ℕ) (lab : ℕ → ℕ) → ℕ
+hopRefusal n j c d m lab = first (hopTests n j c d m lab)
 
 -- the answer: the decision, or the refusal
-unfoldable pub hopped : (n c d m : ℕ) (lab : ℕ → ℕ) → Hopped
-hopped n c d m lab = cond (eqb (hopRefusal n c d m lab) 0) (Decided (hop n lab c d)) (Refused (hopRefusal n c d m lab))
+unfoldable pub hopped : (n j c d m : ℕ) (lab : ℕ → ℕ) → Hopped
+hopped n j c d m lab = cond (eqb (hopRefusal n j c d m lab) 0) (Decided (hop n lab c d)) (Refused (hopRefusal n j c d m lab))
 
 -- document 01's numbers for the cases
 abbrev pub decisionKind : Decision → ℕ

@@ -1,11 +1,12 @@
-// One hop: the decision at a node. `hop` is the question: it takes any numbers and bytes, and tests them. `place_refusal` and `hop_at` are lent to the
-// walk, which tests its whole table once; the other functions are theirs.
+// One hop: the decision at a node, for a job. `hop` is the question: it takes any numbers and bytes, and tests them. What reads labels is handed the job's
+// half alone. `place_refusal` and `hop_at` are lent to the walk, which tests that half once; the other functions are theirs.
 ghost use Prim.Native.Nat.{_+_, _*_, _<_, _≤_, _^_};
 ghost use Rattle.cube.specs.Count.{least, some};
 ghost use Rattle.cube.specs.Cube.{flip};
 ghost use Rattle.cube.specs.Tables.{highest, labelIn};
 ghost use Rattle.hop.specs.Helpers.{Placed, across, chosen, gathered, inSet, placeRefusal};
 ghost use Rattle.hop.specs.Hop as spec;
+ghost use Rattle.jobs.specs.Jobs.{half};
 ghost use Rattle.scans.specs.Scans as scans;
 ghost use lib.Dec.{ltb};
 ghost use lib.ListN.{getD, length, replicate};
@@ -15,6 +16,9 @@ use cube::HIGHEST;
 use cube::distance;
 use cube::is_dimension;
 use cube::nodes;
+use jobs::half;
+use jobs::is_job;
+use jobs::label_bytes;
 
 const DRAINING: u8 = 4; // the label of a draining node
 
@@ -34,20 +38,23 @@ pub enum Hopped {
     Refused(u32),
 }
 
-// The refusals that need no label, 0 for none: of two nodes, a label table of len bytes, and whether another lent buffer has a wrong length.
-pub fn place_refusal(n: usize, a: usize, b: usize, len: usize, other: bool) -> u32
-    ensures { λ r. ⌜ r ≡ placeRefusal n a b len other ⌝ }
+// The refusals that need no label, 0 for none: of a job, two nodes, a label buffer of len bytes, and whether another lent buffer has a wrong length.
+pub fn place_refusal(n: usize, job: usize, a: usize, b: usize, len: usize, other: bool) -> u32
+    ensures { λ r. ⌜ r ≡ placeRefusal n job a b len other ⌝ }
 {
     if !is_dimension(n) {
         return 1;
     }
-    let size = nodes(n);
-    if len != size {
+    if !is_job(job) {
+        return 19;
+    }
+    if len != label_bytes(n) {
         return 2;
     }
     if other {
         return 2;
     }
+    let size = nodes(n);
     if (size <= a) | (size <= b) {
         return 5;
     }
@@ -189,17 +196,18 @@ fn across(picked: usize) -> Decision
     Decision::Halted
 }
 
-// The decision at c on the way to d. It reads c's label and each neighbour's once, and no other byte.
-pub fn hop(n: usize, c: usize, d: usize, labels: &[u8]) -> Hopped
-    ensures { λ r. ⌜ r ≡ spec.hopped n c d (length (now (labels .entry))) (labelIn (now (labels .entry))) ⌝ }
+// The decision at c on the way to d, for a job. Of the job's half it reads c's label and each neighbour's once, and no other byte.
+pub fn hop(n: usize, job: usize, c: usize, d: usize, labels: &[u8]) -> Hopped
+    ensures { λ r. ⌜ r ≡ spec.hopped n job c d (length (now (labels .entry))) (labelIn (half job (2 ^ n) (now (labels .entry)))) ⌝ }
 {
-    let k = place_refusal(n, c, d, labels.len(), false);
+    let k = place_refusal(n, job, c, d, labels.len(), false);
     if k != 0 {
         return Hopped::Refused(k);
     }
-    let own = labels[c];
+    let table = half(n, job, labels);
+    let own = table[c];
     let mut near = [0u8; 12];
-    let high = gather(n, labels, c, &mut near);
+    let high = gather(n, table, c, &mut near);
     if (HIGHEST < own) | high {
         return Hopped::Refused(4);
     }

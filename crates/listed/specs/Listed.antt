@@ -21,7 +21,7 @@ pub record Listed : Type 2 where
   -- for the notice: its line stands at the front of the buffer, and beside it are the dimension and the labels of its cube
   pub head :
       {bytes faults labels out labels′ out′ : List ℕ} {h : Head} → May printed.head-line (bytes, faults, labels, out) h (labels′, out′)
-      → (take (h .end) out′ ≡ headLine bytes) × (h .n ≡ dimensionOf (noticeOf bytes)) × (take (h .nodes) labels′ ≡ labelsIn bytes)
+      → (take (h .end) out′ ≡ headLine bytes) × (h .n ≡ dimensionOf (noticeOf bytes)) × (take (h .bytes) labels′ ≡ labelsIn bytes)
   -- for a pair: its line, and where the input has the next one
   pub line :
       {n at : ℕ} {labels bytes out out′ : List ℕ} {l : Line} → May printed.line-at (n, labels, bytes, at, out) l out′

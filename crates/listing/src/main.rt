@@ -4,7 +4,7 @@ ghost use Prim.Native.Nat.{_≤_};
 ghost use Rattle.lines.specs.Lines.{room};
 ghost use Rattle.notice.specs.Notice.{dimensionOf, noticeOf};
 ghost use Rattle.printed.specs.Printed.{labelsIn};
-ghost use lib.ListN.{length};
+ghost use lib.ListN.{length, replicate};
 ghost use mathlib.Core.Path.{_≡_};
 use libc::STDIN_FILENO;
 use libc::STDOUT_FILENO;
@@ -32,12 +32,12 @@ fn list_pairs(n: usize, labels: &[u8], bytes: &[u8], out: &mut [u8])
 
 fn list(bytes: &[u8], faults: &mut [u8], labels: &mut [u8], out: &mut [u8])
     requires { ⌜ length (now faults) ≡ 512 ⌝ }
-    requires { ⌜ (length (now labels) ≡ 4096) × (length (now out) ≡ room) ⌝ }
+    requires { ⌜ (now labels ≡ replicate 8192 0) × (length (now out) ≡ room) ⌝ }
 {
     let head = printed::head_line(bytes, faults, labels, out);
     say(out, head.end);
-    let nodes = head.nodes;
-    list_pairs(head.n, &labels[..nodes], bytes, out);
+    let kept = head.bytes;
+    list_pairs(head.n, &labels[..kept], bytes, out);
 }
 
 fn main() {
@@ -50,6 +50,6 @@ fn main() {
         return;
     }
     let mut faults = [0u8; 512];
-    let mut labels = [0u8; 4096];
+    let mut labels = [0u8; 8192];
     list(&input[..length], &mut faults, &mut labels, &mut out);
 }

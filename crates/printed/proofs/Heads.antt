@@ -4,17 +4,19 @@ use mathlib.Core.Path.{_≡_, refl, sym, ap, _∙_}
 use mathlib.Core.List.{List, _++_}
 use Prim.Native.Nat.{ℕ, _^_, _≤_}
 use native.Mathlib.Omega.{arith}
-use lib.ListN.{length, length-replicate, replicate, take}
+use lib.ListN.{drop, length, length-replicate, replicate, take}
 use lib.Seq.{take-at}
 use borrow.Author.Tests.{eq-eqb}
 use Rattle.cube.specs.Refusal.{first}
 use Rattle.cube.specs.Tables.{emptyTable, tableLen}
-use Rattle.cube.proofs.Tables.{nodes-few, table-few, zeros-unused}
+use Rattle.cube.proofs.Tables.{nodes-few, table-few, zeros-behind, zeros-unused}
 use Rattle.groups.specs.Number.{onNumber}
 use Rattle.groups.specs.declared.Number.{Number}
 use Rattle.groups.specs.declared.Number.the-variants as number
-use Rattle.labels.specs.Labelling.{labelRefusal, labelled}
-use Rattle.labels.proofs.Refusal.{fits}
+use Rattle.jobs.specs.Jobs.{labelBytes}
+use Rattle.jobs.proofs.Halves.{with-first}
+use Rattle.labels.specs.Labelling.{labelRefusal, labelsAfter}
+use Rattle.labels.proofs.Refusal.{fits, length-kept}
 use Rattle.notice.specs.Addresses.{withBits}
 use Rattle.notice.specs.Laws.{ReadNotice, TableOf}
 use Rattle.notice.specs.Notice.{addressesOf, dimensionAt, noticeFrom, noticeOf, noticed, tableAfter}
@@ -23,8 +25,7 @@ use Rattle.notice.specs.declared.Noticed.the-variants.{Notice, Refused}
 use Rattle.notice.proofs.Cases.{on-number, tested-passes, tested-refused}
 use Rattle.notice.proofs.Laws.{notice-laws}
 use Rattle.notice.proofs.Opened.{opened-dimension, opened-notice}
-use Rattle.rule.specs.Cabinet.{cabinet, labelsOf}
-use Rattle.rule.proofs.Cabinet.{labels-length}
+use Rattle.rule.specs.Cabinet.{Cabinet, cabinet, labelsOf}
 use Rattle.lines.specs.Lines.{noticeRefused, room}
 use Rattle.printed.specs.Printed.{Headed, cabinetOf, firstLine, headLine, labelsIn, wantedLen}
 
@@ -58,7 +59,7 @@ module _ (s t : List ℕ) (sized : length t ≡ wantedLen s) where
   same = ap (λ (x : Number). noticeFrom x s) (passes t (dimensionAt s) sized)
 
   pub refused-head : {k at end : ℕ} (labels out : List ℕ) → noticed s t ≡ Refused k at → (take end out ≡ noticeRefused k at) × (end ≤ room)
-      → Headed s (record { n = 0; nodes = 0; end = end }) labels out
+      → Headed s (record { n = 0; bytes = 0; end = end }) labels out
   unfolding headLine labelsIn
   refused-head {k} {at} labels out e made =
       let q : noticeOf s ≡ Refused k at = sym same ∙ e in
@@ -82,26 +83,41 @@ module _ (s t : List ℕ) (sized : length t ≡ wantedLen s) where
     same-length = let d = opened-notice (dimensionAt s) s n m taken is-notice .dimension in rw d at sized
 
     module _ {faults : List ℕ} (after : faults ≡ tableAfter s t) where
-      same-cabinet : cabinet n 3 faults (emptyTable n) ≡ cabinetOf s n
+      abbrev K : Cabinet
+      K = cabinet n 3 faults (emptyTable n) (emptyTable n)
+
+      same-cabinet : K ≡ cabinetOf s n
       unfolding tableAfter
       same-cabinet =
-          ap (λ (t : List ℕ). cabinet n 3 t (emptyTable n)) after
-          ∙ rw e (ap (λ (k : ℕ). cabinet n 3 (withBits (replicate k 0) (addressesOf s)) (emptyTable n)) same-length)
+          ap (λ (t : List ℕ). cabinet n 3 t (emptyTable n) (emptyTable n)) after
+          ∙ rw e (ap (λ (k : ℕ). cabinet n 3 (withBits (replicate k 0) (addressesOf s)) (emptyTable n) (emptyTable n)) same-length)
 
-      pub labels-fit : {size : ℕ} → size ≡ 2 ^ n → labelRefusal (cabinet n 3 faults (emptyTable n)) size ≡ 0
+      pub labels-fit : {bytes : ℕ} → bytes ≡ labelBytes n → labelRefusal K 0 bytes ≡ 0
       labels-fit full =
           rw after
-          (fits (cabinet n 3 (tableAfter s t) (emptyTable n)) _ (read .dimension) (omega arith, omega arith) (table .sized)
-          (length-replicate (tableLen n) 0) (table .unused) (zeros-unused n (tableLen n)) full)
+          (fits (cabinet n 3 (tableAfter s t) (emptyTable n) (emptyTable n)) 0 _ (read .dimension) (omega arith, omega arith) (omega arith) (table .sized)
+          (length-replicate (tableLen n) 0) (length-replicate (tableLen n) 0) (table .unused) (zeros-unused n (tableLen n)) (zeros-unused n (tableLen n)) full)
 
-      pub cube-head : {nodes end : ℕ} (labels rest out : List ℕ) → nodes ≡ 2 ^ n
-          → (take end out ≡ firstLine m (cabinet n 3 faults (emptyTable n))) × ((end ≤ room) × (labels ≡ labelsOf (cabinet n 3 faults (emptyTable n))))
-          → Headed s (record { n = n; nodes = nodes; end = end }) (labels ++ rest) out
-      unfolding headLine labelsIn
-      cube-head {nodes} labels rest out full made = record {
-        line = rw is-notice (made .0 ∙ ap (firstLine m) same-cabinet);
-        near = made .1 .0;
-        dimension = rw is-notice;
-        labelled = take-at labels rest nodes (ap length (made .1 .1) ∙ labels-length _ ∙ sym full) ∙ made .1 .1 ∙ rw (is-notice, same-cabinet);
-        few = omega (arith, few-nodes .1);
-      }
+      -- the labels as those of job 0, and the zeros that stood there
+      made-labels : (before : List ℕ) → before ≡ replicate (labelBytes n) 0 → labelsAfter K 0 before ≡ labelsOf K ++ replicate (2 ^ n) 0
+      unfolding labelsAfter labelBytes
+      made-labels before zeros =
+          rw (labels-fit (ap length zeros ∙ length-replicate (labelBytes n) 0))
+          (with-first (2 ^ n) before (labelsOf K)
+          ∙ ap (λ (l : List ℕ). labelsOf K ++ drop (2 ^ n) l) zeros
+          ∙ ap (λ (l : List ℕ). labelsOf K ++ l) (zeros-behind (2 ^ n) (labelBytes n) (2 ^ n) (omega arith)))
+
+      pub cube-head : {bytes end : ℕ} (before labels rest out : List ℕ) → bytes ≡ labelBytes n → before ≡ replicate (labelBytes n) 0
+          → (take end out ≡ firstLine m K) × ((end ≤ room) × (labels ≡ labelsAfter K 0 before))
+          → Headed s (record { n = n; bytes = bytes; end = end }) (labels ++ rest) out
+      unfolding headLine labelsIn labelBytes
+      cube-head {bytes} before labels rest out full zeros made =
+          let kept = made .1 .1 ∙ made-labels before zeros in
+          let long = ap length (made .1 .1) ∙ length-kept K 0 before ∙ ap length zeros ∙ length-replicate (labelBytes n) 0 in
+          record {
+            line = rw is-notice (made .0 ∙ ap (firstLine m) same-cabinet);
+            near = made .1 .0;
+            dimension = rw is-notice;
+            labelled = take-at labels rest bytes (long ∙ sym full) ∙ kept ∙ rw (is-notice, same-cabinet);
+            few = omega (arith, full, few-nodes .1);
+          }

@@ -7,7 +7,7 @@ use mathlib.Core.List.{List, [], _∷_, _++_, append-nil}
 use Prim.Native.Nat.{ℕ, zero, suc, _+_, _≤_, _<_}
 use lib.Count.{ones}
 use lib.Dec.{ltb}
-use lib.ListN.{length}
+use lib.ListN.{length, replicate}
 use borrow.Author.Tests.{le-ltb, lt-ltb, ltb-true}
 use native.Mathlib.Omega.{arith}
 use Rattle.cube.specs.Count.{count, least, some}
@@ -24,7 +24,8 @@ use Rattle.notice.specs.Notice.{addressesOf, dimensionAt, noticeFrom, noticeOf,
 use Rattle.notice.specs.Tests.{tested}
 use Rattle.notice.specs.declared.Noticed.the-variants.{Notice, Refused}
 use Rattle.notice.proofs.Outcomes.{tail-refused}
-use Rattle.rule.specs.Cabinet.{cabinet, exchangesOf, labelsOf}
+use Rattle.jobs.specs.Jobs.{half, isJob, labelBytes}
+use Rattle.rule.specs.Cabinet.{Cabinet, cabinet, exchangesOf, labelsOf}
 use Rattle.rule.specs.Rule.{exchanges, label, labelOf, marked, meets, newly, quiet, rounds, safe, working}
 use Rattle.scans.specs.Scans.{firstScan, lowest, suits, takes}
 use Rattle.walk.specs.Walk.{hops, last, onto, refused, row, spot, stops, turn, walkFrom, walkRefusal, walked}
@@ -43,15 +44,18 @@ is-notice : noticeOf sampleBytes ≡ Notice 4 4 6
 unfolding noticeOf noticeFrom dimensionAt restAt tested first isDimension numberAt addressesEnd further
 is-notice = refl
 
-table : cabinetOf sampleBytes 4 ≡ cabinet 4 3 (0x14 ∷ 0x81 ∷ []) (0 ∷ 0 ∷ [])
+abbrev K : Cabinet
+K = cabinet 4 3 (0x14 ∷ 0x81 ∷ []) (0 ∷ 0 ∷ []) (0 ∷ 0 ∷ [])
+
+table : cabinetOf sampleBytes 4 ≡ K
 unfolding addressesOf dimensionAt restAt tested first isDimension numberAt addressesEnd further addressesAt withBits withBit tableLen
 table = refl
 
-labels-are : labelsOf (cabinet 4 3 (0x14 ∷ 0x81 ∷ []) (0 ∷ 0 ∷ [])) ≡ k4
+labels-are : labelsOf K ≡ k4
 unfolding labelsOf label labelOf safe rounds working quiet newly meets marked count least some flip tab nodeBit bit
 labels-are = refl
 
-exchanges-are : exchangesOf (cabinet 4 3 (0x14 ∷ 0x81 ∷ []) (0 ∷ 0 ∷ [])) ≡ 3
+exchanges-are : exchangesOf K ≡ 3
 unfolding exchangesOf exchanges rounds working quiet newly meets marked count least some flip tab nodeBit bit
 exchanges-are = refl
 
@@ -63,18 +67,18 @@ head : headLine sampleBytes ≡ text "cube 4 faulty 4 safe 7 ordinary 4 strong 1
 unfolding headLine
 head = rw is-notice (rw table (ap₂ (cubeLine 4 4) labels-are exchanges-are ∙ line-is))
 
-labels : labelsIn sampleBytes ≡ k4
+labels : labelsIn sampleBytes ≡ k4 ++ replicate 16 0
 unfolding labelsIn
-labels = rw is-notice (rw table labels-are)
+labels = rw is-notice (rw table (ap (λ (l : List ℕ). l ++ replicate 16 0) labels-are))
 
 tail : tailAt sampleBytes ≡ 6
 unfolding tailAt
 tail = rw is-notice
 
-pairs : pairLines 12 4 k4 sampleBytes 6
+pairs : pairLines 12 4 (k4 ++ replicate 16 0) sampleBytes 6
     ≡ text "13 0 delivered 3 13 9 1 0\n6 0 delivered 4 6 7 5 1 0\n2 0 refused 6\n"
 unfolding pairLines lineAt lineFrom nextAt nextFrom numberAt pairLine rowText decimal width least walked walkRefusal walkFrom refused first row last hops
-    turn spot stops onto hop decide answer firstScan lowest takes suits apart dist ones labelIn tab isDimension some count bit flip
+    turn spot stops onto hop decide answer firstScan lowest takes suits apart dist ones labelIn tab isDimension isJob labelBytes half some count bit flip
 pairs = refl
 
 sample : listing sampleBytes ≡ sampleLines
@@ -147,11 +151,11 @@ none-faulty : noticeOf (0x01 ∷ 0x00 ∷ 0x00 ∷ 0x81 ∷ []) ≡ Notice 1 0 2
 unfolding noticeOf noticeFrom dimensionAt restAt tested first isDimension numberAt twoGroups addressesEnd further
 none-faulty = refl
 
-none-table : cabinetOf (0x01 ∷ 0x00 ∷ 0x00 ∷ 0x81 ∷ []) 1 ≡ cabinet 1 3 (0 ∷ []) (0 ∷ [])
+none-table : cabinetOf (0x01 ∷ 0x00 ∷ 0x00 ∷ 0x81 ∷ []) 1 ≡ cabinet 1 3 (0 ∷ []) (0 ∷ []) (0 ∷ [])
 unfolding addressesOf dimensionAt restAt tested first isDimension numberAt addressesEnd further addressesAt withBits withBit tableLen
 none-table = refl
 
-none-line : firstLine 0 (cabinet 1 3 (0 ∷ []) (0 ∷ [])) ≡ text "cube 1 faulty 0 safe 2 ordinary 0 strong 0 rounds 1\n"
+none-line : firstLine 0 (cabinet 1 3 (0 ∷ []) (0 ∷ []) (0 ∷ [])) ≡ text "cube 1 faulty 0 safe 2 ordinary 0 strong 0 rounds 1\n"
 unfolding cubeLine decimal width labelsOf exchangesOf label labelOf safe exchanges rounds working quiet newly meets marked labelIn count least some flip
     tab nodeBit bit
 none-line = refl

@@ -2,10 +2,11 @@
 use mathlib.Core.Path.{_≡_}
 use mathlib.Core.Bool.{cond}
 use mathlib.Core.List.{List, [], _++_}
-use Prim.Native.Nat.{ℕ, zero, suc, _≤_}
+use Prim.Native.Nat.{ℕ, zero, suc, _^_, _≤_}
 use lib.Dec.{ltb}
-use lib.ListN.{length, take}
-use Rattle.cube.specs.Tables.{emptyTable, labelIn, tableLen}
+use lib.ListN.{length, replicate, take}
+use Rattle.cube.specs.Tables.{emptyTable, tableLen}
+use Rattle.jobs.specs.Jobs.{labelFor}
 use Rattle.groups.specs.Number.{numberAt, onNumber}
 use Rattle.lines.specs.Lines.{cubeLine, inputRefused, noticeRefused, pairLine, room, tooLong}
 use Rattle.notice.specs.Addresses.{withBits}
@@ -21,13 +22,13 @@ use Rattle.printed.specs.declared.Head.{Head}
 unfoldable pub wantedLen : List ℕ → ℕ
 wantedLen s = onNumber (dimensionAt s) (λ k at. 1) (λ n at. tableLen n)
 
--- the cabinet of an accepted notice of dimension n: the listing labels by document 01's rule, and no node drains
+-- the cabinet of an accepted notice of dimension n: the listing labels by document 01's rule, no node drains, and none is closed
 abbrev pub cabinetOf : (s : List ℕ) (n : ℕ) → Cabinet
-cabinetOf s n = cabinet n 3 (withBits (emptyTable n) (addressesOf s)) (emptyTable n)
+cabinetOf s n = cabinet n 3 (withBits (emptyTable n) (addressesOf s)) (emptyTable n) (emptyTable n)
 
--- its labels; a refused notice has none
+-- the label buffer that the program keeps: its labels as those of job 0, for whom the listing asks, and zeros for the other; a refused notice has none
 unfoldable pub labelsIn : List ℕ → List ℕ
-labelsIn s = onNoticed (noticeOf s) (λ k at. []) (λ n m taken. labelsOf (cabinetOf s n))
+labelsIn s = onNoticed (noticeOf s) (λ k at. []) (λ n m taken. labelsOf (cabinetOf s n) ++ replicate (2 ^ n) 0)
 
 abbrev pub firstLine : (faulty : ℕ) → Cabinet → List ℕ
 firstLine faulty K = cubeLine (K .n) faulty (labelsOf K) (exchangesOf K)
@@ -36,19 +37,19 @@ firstLine faulty K = cubeLine (K .n) faulty (labelsOf K) (exchangesOf K)
 unfoldable pub headLine : List ℕ → List ℕ
 headLine s = onNoticed (noticeOf s) noticeRefused (λ n m taken. firstLine m (cabinetOf s n))
 
--- what is answered for it: the line stands at the front of the buffer `out`, and the labels at the front of theirs
+-- what is answered for it: the line stands at the front of the buffer `out`, and the label buffer at the front of `labels`
 pub record Headed (s : List ℕ) (h : Head) (labels out : List ℕ) : Type 0 where
   pub line : take (h .end) out ≡ headLine s
   pub near : h .end ≤ room
   pub dimension : h .n ≡ dimensionOf (noticeOf s)
-  pub labelled : take (h .nodes) labels ≡ labelsIn s
-  pub few : h .nodes ≤ 4096
+  pub labelled : take (h .bytes) labels ≡ labelsIn s
+  pub few : h .bytes ≤ 8192
 
--- ---- for the pair at place `at` of the input, in a cube of dimension n with these labels
+-- ---- for the pair at place `at` of the input, in a cube of dimension n with this label buffer
 
--- the walk with the labels that the program keeps
+-- the walk of job 0
 abbrev pub walkedIn : (n : ℕ) (labels : List ℕ) (s d : ℕ) → Walked
-walkedIn n labels s d = walked n s d (length labels) rowBytes (labelIn labels)
+walkedIn n labels s d = walked n 0 s d (length labels) rowBytes (labelFor n 0 labels)
 
 -- its source is a, and its destination begins at the place
 unfoldable pub lineFrom : (n : ℕ) (labels : List ℕ) (a : ℕ) (s : List ℕ) (at : ℕ) → List ℕ

@@ -2,18 +2,19 @@
 // all of it; the program writes it line by line.
 ghost use Prim.Native.Nat.{_≤_};
 ghost use Rattle.notice.specs.Notice.{dimensionOf, noticeOf, tailAt};
-ghost use Rattle.labels.specs.Labelling.{labelRefusal};
+ghost use Rattle.labels.specs.Labelling.{labelRefusal, labelsAfter};
 ghost use Rattle.lines.specs.Lines.{inputRefused, room};
 ghost use Rattle.printed.specs.Printed.{Headed, firstLine, labelsIn, lineAt, lineFrom, nextAt, nextFrom, wantedLen};
 ghost use Rattle.cube.specs.Tables.{emptyTable};
-ghost use Rattle.rule.specs.Cabinet.{cabinet, labelsOf};
-ghost use lib.ListN.{length, take};
+ghost use Rattle.rule.specs.Cabinet.{cabinet};
+ghost use lib.ListN.{length, replicate, take};
 ghost use mathlib.Core.Path.{_≡_};
 use cube::is_dimension;
-use cube::nodes;
 use cube::table_len;
 use groups::Number;
 use groups::number_at;
+use jobs::half;
+use jobs::label_bytes;
 use labels::Labelled;
 use lines::cube_line;
 use lines::pair_line;
@@ -21,10 +22,10 @@ use lines::refused_line;
 use notice::Noticed;
 use walk::walk;
 
-// The line of the notice by its end in the buffer, with the dimension of the cube and its nodes, both 0 where the notice is refused.
+// The line of the notice by its end in the buffer, with the dimension of the cube and the bytes of its label buffer, both 0 where the notice is refused.
 pub struct Head {
     pub n: usize,
-    pub nodes: usize,
+    pub bytes: usize,
     pub end: usize,
 }
 
@@ -50,27 +51,28 @@ fn wanted_len(bytes: &[u8]) -> usize
     1
 }
 
-// Labels the nodes of an accepted notice by document 01's rule, 3, and makes its first line. A notice names no draining node. Labelling never refuses such a
-// table, so 0 is never answered.
+// Labels the nodes of an accepted notice as job 0 by document 01's rule, 3, and makes its first line. A notice names no draining node, and no node is closed.
+// Labelling never refuses such a table, so 0 is never answered.
 fn first_line(n: usize, faulty: usize, faults: &[u8], labels: &mut [u8], out: &mut [u8]) -> usize
-    requires { ⌜ labelRefusal (cabinet n 3 (now faults) (emptyTable n)) (length (now labels)) ≡ 0 ⌝ }
+    requires { ⌜ labelRefusal (cabinet n 3 (now faults) (emptyTable n) (emptyTable n)) 0 (length (now labels)) ≡ 0 ⌝ }
     requires { ⌜ length (now out) ≡ room ⌝ }
-    ensures line { λ r. ⌜ take r (now (out .exit)) ≡ firstLine faulty (cabinet n 3 (now (faults .entry)) (emptyTable n)) ⌝ }
+    ensures line { λ r. ⌜ take r (now (out .exit)) ≡ firstLine faulty (cabinet n 3 (now (faults .entry)) (emptyTable n) (emptyTable n)) ⌝ }
     ensures near { λ r. ⌜ r ≤ room ⌝ }
-    ensures labels { λ r. ⌜ now (labels .exit) ≡ labelsOf (cabinet n 3 (now (faults .entry)) (emptyTable n)) ⌝ }
+    ensures labels { λ r. ⌜ now (labels .exit) ≡ labelsAfter (cabinet n 3 (now (faults .entry)) (emptyTable n) (emptyTable n)) 0 (now (labels .entry)) ⌝ }
 {
-    let none = [0u8; 512];
-    let labelled = labels::label(n, 3, faults, &none[..faults.len()], labels);
+    let zeros = [0u8; 512];
+    let none = &zeros[..faults.len()];
+    let labelled = labels::label(n, 3, 0, faults, none, none, labels);
     let Labelled::Exchanges(exchanges) = labelled else {
         return 0;
     };
-    cube_line(n, faulty, labels, exchanges, out)
+    cube_line(n, faulty, half(n, 0, labels), exchanges, out)
 }
 
 // The line of the notice, with a fault table of the length that it asks for.
 fn notice_line(bytes: &[u8], faults: &mut [u8], labels: &mut [u8], out: &mut [u8]) -> Head
     requires { ⌜ length (now faults) ≡ wantedLen (now bytes) ⌝ }
-    requires { ⌜ (length (now labels) ≡ 4096) × (length (now out) ≡ room) ⌝ }
+    requires { ⌜ (now labels ≡ replicate 8192 0) × (length (now out) ≡ room) ⌝ }
     ensures { λ r. ⌜ Headed (now (bytes .entry)) r (now (labels .exit)) (now (out .exit)) ⌝ }
 {
     match notice::read(bytes, faults) {
@@ -78,22 +80,22 @@ fn notice_line(bytes: &[u8], faults: &mut [u8], labels: &mut [u8], out: &mut [u8
             let end = refused_line(b"notice refused ", k, at, out);
             Head {
                 n: 0,
-                nodes: 0,
+                bytes: 0,
                 end,
             }
         }
         Noticed::Notice(n, faulty, _) => {
-            let nodes = nodes(n);
-            let end = first_line(n, faulty, faults, &mut labels[..nodes], out);
-            Head { n, nodes, end }
+            let bytes = label_bytes(n);
+            let end = first_line(n, faulty, faults, &mut labels[..bytes], out);
+            Head { n, bytes, end }
         }
     }
 }
 
-// The line of the notice at the front of the bytes: the first line, or the refusal. The labels are at the front of their table.
+// The line of the notice at the front of the bytes: the first line, or the refusal. The label buffer is made at the front of `labels`, which is handed over empty.
 pub fn head_line(bytes: &[u8], faults: &mut [u8], labels: &mut [u8], out: &mut [u8]) -> Head
     requires { ⌜ length (now faults) ≡ 512 ⌝ }
-    requires { ⌜ (length (now labels) ≡ 4096) × (length (now out) ≡ room) ⌝ }
+    requires { ⌜ (now labels ≡ replicate 8192 0) × (length (now out) ≡ room) ⌝ }
     ensures { λ r. ⌜ Headed (now (bytes .entry)) r (now (labels .exit)) (now (out .exit)) ⌝ }
 {
     let len = wanted_len(bytes);
@@ -126,13 +128,13 @@ fn line_from(n: usize, labels: &[u8], s: usize, bytes: &[u8], at: usize, out: &m
     match number_at(bytes, at) {
         Number::Refused(k, place) => last_line(k, place, bytes, out),
         Number::Value(d, next) => {
-            let end = pair_line(s, d, walk(n, s, d, labels), out);
+            let end = pair_line(s, d, walk(n, 0, s, d, labels), out);
             Line { end, next }
         }
     }
 }
 
-// The line of the pair at a place of the input, behind its notice, whose dimension and labels these are.
+// The line of the pair at a place of the input, behind its notice, whose dimension and label buffer these are.
 pub fn line_at(n: usize, labels: &[u8], bytes: &[u8], at: usize, out: &mut [u8]) -> Line
     requires { ⌜ (n ≡ dimensionOf (noticeOf (now bytes))) × (now labels ≡ labelsIn (now bytes)) ⌝ }
     requires { ⌜ (tailAt (now bytes) ≤ at) × (length (now out) ≡ room) ⌝ }

@@ -1,31 +1,32 @@
 -- Two jobs, of any library that is faithful to the definitions. Each question is defined on the half of its job and the buffer's length, so buffers that agree in
 -- these are answered alike; and what labelling leaves is the buffer with another half of its own job.
 use mathlib.Core.List.{List}
-use mathlib.Core.Logic.{inl, inr, _≢_}
-use mathlib.Core.Path.{_≡_, refl, sym, ap, ap₂, subst, _∙_}
+use mathlib.Core.Logic.{_≢_}
+use mathlib.Core.Path.{_≡_, refl, sym, ap, ap₂, _∙_}
 use Prim.Native.Nat.{ℕ, _*_, _^_, _<_}
 use native.Mathlib.Decide.{ℕ-discrete}
 use native.Mathlib.Omega.{arith}
 use lib.ListN.{length}
-use Rattle.cube.specs.Refusal.{first}
 use Rattle.cube.specs.Tables.{labelIn}
-use Rattle.jobs.specs.Jobs.{half, labelBytes, labelFor}
+use Rattle.jobs.specs.Jobs.{half, labelFor}
 use Rattle.jobs.proofs.Halves.{is-job}
 use Rattle.jobs.proofs.Laws.{halves-alike}
 use Rattle.rule.specs.Cabinet.{Cabinet, labelsOf}
 use Rattle.labels.specs.Labelling.{labelRefusal, labelled, labelsAfter}
 use Rattle.labels.specs.declared.Labelled.{Labelled}
 use Rattle.labels.specs.declared.Labelled.the-variants.{Exchanges}
-use Rattle.labels.proofs.Refusal.{buffer-sized, labels-written, length-kept, others-kept, says-refused}
+use Rattle.labels.proofs.Refusal.{buffer-sized, fitting, labels-written, length-kept, of-exchanges, others-kept, says-refused}
 use Rattle.hop.specs.Hop.{hopRefusal, hopped}
+use Rattle.hop.specs.declared.Hopped.{Hopped}
 use Rattle.walk.specs.Walk.{rowBytes, walkRefusal, walked}
 use Rattle.walk.specs.declared.Walked.{Walked}
 use Rattle.theorems.specs.Demand3.{Walks}
 use Rattle.theorems.specs.Words.{Takes, Works}
+use Rattle.promises.specs.Answers.{Answers}
 use Rattle.promises.specs.Demands.{Demands}
 use Rattle.promises.specs.Jobs.{Jobs, Meanwhile, SameTo, another, nothing}
 use Rattle.promises.specs.Library.{Library, rattle, c}
-use Rattle.promises.specs.Refusals.{Job}
+use Rattle.promises.proofs.Answers.{c-answers, rattle-answers}
 use Rattle.promises.proofs.Demands.{c-demands, rattle-demands}
 use Rattle.promises.proofs.Given.{job-below}
 use Rattle.promises.proofs.Library.{Faithful, rattle-faithful, c-faithful}
@@ -124,32 +125,81 @@ module _ {i j : ℕ} (hi : i < 2) (hj : j < 2) where
 
 -- ---- of a library
 
-module _ (lib : Library) (F : Faithful lib) (D : Demands lib) where
-  label-own : {K : Cabinet} {j : ℕ} {l l′ after after′ : List ℕ} {x x′ : Labelled} → lib .labels K j l x after → lib .labels K j l′ x′ after′
-      → length l ≡ length l′ → x ≡ x′
-  label-own {K} {j} m m′ e = F .labels m .0 ∙ ap (labelled K j) e ∙ sym (F .labels m′ .0)
-
+module _ (lib : Library) (F : Faithful lib) (A : Answers lib) (D : Demands lib) where
   labels-own : {K : Cabinet} {j : ℕ} {l l′ after after′ : List ℕ} {x x′ : Labelled} → lib .labels K j l x after → lib .labels K j l′ x′ after′
       → SameTo (K .n) j l l′ → SameTo (K .n) j after after′
-  labels-own {K} {j} {l} {l′} m m′ s =
-      let a = F .labels m .1 in
-      let b = F .labels m′ .1 in
-      subst (λ (t : List ℕ). SameTo (K .n) j t _) (sym a) (subst (λ (t : List ℕ). SameTo (K .n) j (labelsAfter K j l) t) (sym b) (same-after K j l l′ s))
+  labels-own {K} {j} {l} {l′} m m′ s = rw (F .labels m .1, F .labels m′ .1) (same-after K j l l′ s)
 
-  unmoved : {n j : ℕ} {l l′ : List ℕ} → Job j → Meanwhile lib n j l l′ → SameTo n j l l′
-  unmoved job nothing = record { long = refl; own = refl }
-  unmoved {n} {j} {l} {l′} job (another {l₁ = l₁} {i = i} {K = K} d e m rest) =
-      let s : SameTo n j l l₁ = subst (λ (k : ℕ). SameTo k j l l₁) e
-      (subst (λ (t : List ℕ). SameTo (K .n) j l t) (sym (F .labels m .1)) (other-same K i j (job-below job) (λ q. d (sym q)) l)) in
-      let r = unmoved job rest in
-      record { long = s .long ∙ r .long; own = s .own ∙ r .own }
+  hop-own : {n j c d : ℕ} {l l′ : List ℕ} {x x′ : Hopped} → lib .hops n j c d l x → lib .hops n j c d l′ x′ → SameTo n j l l′ → x ≡ x′
+  hop-own {n} {j} {c} {d} m m′ s =
+      F .hops m ∙ ap₂ (λ (k : ℕ) (t : List ℕ). hopped n j c d k (labelIn t)) (s .long) (s .own) ∙ sym (F .hops m′)
 
+  walk-own : {n j s d room : ℕ} {l l′ : List ℕ} {w w′ : Walked} → lib .walks n j s d l room w → lib .walks n j s d l′ room w′ → SameTo n j l l′ → w ≡ w′
+  walk-own {n} {j} {s} {d} {room} v v′ e =
+      F .walks v ∙ ap₂ (λ (k : ℕ) (t : List ℕ). walked n j s d k room (labelIn t)) (e .long) (e .own) ∙ sym (F .walks v′)
+
+  -- one labelling of another, and any number of them
+  unmoved-by : {K : Cabinet} {i j : ℕ} {l l′ : List ℕ} {x : Labelled} → j < 2 → i ≢ j → lib .labels K i l x l′ → SameTo (K .n) j l l′
+  unmoved-by {K} {i} {j} {l} h d m = rw (F .labels m .1) (other-same K i j h (λ q. d (sym q)) l)
+
+  unmoved : {n j : ℕ} {l l′ : List ℕ} → j < 2 → Meanwhile lib n j l l′ → SameTo n j l l′
+  unmoved h nothing = record { long = refl; own = refl }
+  unmoved h (another d e m rest) =
+      let s = rw e at (unmoved-by h d m) in
+      let t = unmoved h rest in
+      record { long = s .long ∙ t .long; own = s .own ∙ t .own }
+
+  -- the walk on the buffer as it is now is the walk on the buffer as labelling left it
   still-walks : {K : Cabinet} {j e s d : ℕ} {before l l′ : List ℕ} {w : Walked} → lib .labels K j before (Exchanges e) l → Meanwhile lib (K .n) j l l′
       → Works K s → Takes K d → lib .walks (K .n) j s d l′ rowBytes w → Walks K (labelFor (K .n) j l′) s d w
-  still-walks = ?
+  still-walks {K} {j} {e} {s} {d} {before} {l} {l′} m meanwhile hs hd v =
+      let o = of-exchanges K j (length before) e (sym (F .labels m .0)) in
+      let same = unmoved (fitting K j (length before) (o .0) .halved .job) meanwhile in
+      let v₀ = A .walks (K .n) j s d l rowBytes in
+      rw (← same .own, ← walk-own (v₀ .1) v same) (D .walks m hs hd (v₀ .1))
+
+  both : {K₀ K₁ : Cabinet} {e f : ℕ} {before l after : List ℕ} → K₀ .n ≡ K₁ .n → lib .labels K₀ 0 before (Exchanges e) l
+      → lib .labels K₁ 1 l (Exchanges f) after → (half 0 (2 ^ K₀ .n) after ≡ labelsOf K₀) × (half 1 (2 ^ K₁ .n) after ≡ labelsOf K₁)
+  both e m₀ m₁ =
+      let s = rw (← e) at (unmoved-by (omega arith) (λ q. omega arith) m₁) in
+      (sym (s .own) ∙ D .labels-written m₀, D .labels-written m₁)
+
+  either-order : {K₀ K₁ : Cabinet} {before l l′ after after′ : List ℕ} {x x′ y y′ : Labelled} → K₀ .n ≡ K₁ .n
+      → lib .labels K₀ 0 before x l → lib .labels K₁ 1 l y after → lib .labels K₁ 1 before y′ l′ → lib .labels K₀ 0 l′ x′ after′
+      → (x ≡ x′) × (y ≡ y′) × (after ≡ after′)
+  either-order {K₀} {K₁} {before} e a b c d =
+      let fa = F .labels a in
+      let fb = F .labels b in
+      let fc = F .labels c in
+      let fd = F .labels d in (
+        fa .0 ∙ ap (labelled K₀ 0) (sym (ap length (fc .1) ∙ length-kept K₁ 1 before)) ∙ sym (fd .0),
+        fb .0 ∙ ap (labelled K₁ 1) (ap length (fa .1) ∙ length-kept K₀ 0 before) ∙ sym (fc .0),
+        fb .1 ∙ ap (labelsAfter K₁ 1) (fa .1) ∙ orders-same K₀ K₁ e before ∙ sym (fd .1 ∙ ap (labelsAfter K₀ 0) (fc .1)),
+      )
+
+  jobs : Jobs lib
+  jobs =
+      record {
+        label-own = λ {K} {j} m m′ e. F .labels m .0 ∙ ap (labelled K j) e ∙ sym (F .labels m′ .0);
+        labels-own = λ m m′ s. labels-own m m′ s;
+        hop-own = λ m m′ s. hop-own m m′ s;
+        walk-own = λ v v′ e. walk-own v v′ e;
+        unmoved = λ job m. unmoved (job-below job) m;
+        still-walks = λ m meanwhile hs hd v. still-walks m meanwhile hs hd v;
+        both = λ e m₀ m₁. both e m₀ m₁;
+        either-order = λ e a b c d. either-order e a b c d;
+        label-alike = λ {K} {i} {j} {l} {l′} hi hj m m′ e.
+            F .labels m .0 ∙ label-alike (job-below hi) (job-below hj) K (length l) ∙ ap (labelled K j) e ∙ sym (F .labels m′ .0);
+        hop-alike = λ {n} {i} {j} {c} {d} {l} {l′} hi hj m m′ e o.
+            F .hops m ∙ hop-alike (job-below hi) (job-below hj) n c d (length l) (labelFor n i l)
+            ∙ ap₂ (λ (k : ℕ) (t : List ℕ). hopped n j c d k (labelIn t)) e o ∙ sym (F .hops m′);
+        walk-alike = λ {n} {i} {j} {s} {d} {room} {l} {l′} hi hj v v′ e o.
+            F .walks v ∙ walk-alike (job-below hi) (job-below hj) n s d (length l) room (labelFor n i l)
+            ∙ ap₂ (λ (k : ℕ) (t : List ℕ). walked n j s d k room (labelIn t)) e o ∙ sym (F .walks v′);
+      }
 
 pub rattle-jobs : Jobs rattle
-rattle-jobs = ?
+rattle-jobs = jobs rattle rattle-faithful rattle-answers rattle-demands
 
 pub c-jobs : Jobs c
-c-jobs = ?
+c-jobs = jobs c c-faithful c-answers c-demands

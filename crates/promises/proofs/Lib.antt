@@ -10,5 +10,6 @@ pub mod InRattle
 pub mod Answers
 pub mod Tied
 pub mod Settled
+pub mod Jobs
 pub mod Worked
 pub mod Promises

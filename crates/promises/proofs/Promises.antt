@@ -1,5 +1,6 @@
 -- Each is proved where it belongs.
 use Rattle.cube.proofs.Laws.{cube-laws}
+use Rattle.jobs.proofs.Laws.{job-laws}
 use Rattle.groups.proofs.Laws.{number-laws}
 use Rattle.notice.proofs.Laws.{notice-laws}
 use Rattle.reader.proofs.Laws.{reader-laws}
@@ -25,6 +26,7 @@ use Rattle.promises.proofs.Answers.{c-answers, rattle-answers}
 use Rattle.promises.proofs.Demands.{c-demands, rattle-demands}
 use Rattle.promises.proofs.InC.{in-c}
 use Rattle.promises.proofs.InRattle.{in-rattle}
+use Rattle.promises.proofs.Jobs.{c-jobs, rattle-jobs}
 use Rattle.promises.proofs.Refusals.{refusals}
 use Rattle.promises.proofs.Settled.{settled, unasked}
 use Rattle.promises.proofs.Tied.{all-tied, in-order}
@@ -41,6 +43,8 @@ promises =
       c-answers = c-answers;
       rattle-demands = rattle-demands;
       c-demands = c-demands;
+      rattle-jobs = rattle-jobs;
+      c-jobs = c-jobs;
       in-c = in-c;
       in-rattle = in-rattle;
       decodes = decodes;
@@ -62,6 +66,7 @@ promises =
       hop-local = hop-local;
       walk-local = walk-local;
       cube = cube-laws;
+      halves = job-laws;
       number = number-laws;
       notice = notice-laws;
       reader = reader-laws;

@@ -9,11 +9,12 @@ use Rattle.cube.specs.Count.{count, least, some}
 use Rattle.cube.specs.Cube.{bit, flip, apart, dist}
 use Rattle.cube.specs.Refusal.{first}
 use Rattle.cube.specs.Tables.{tab, isDimension, tableLen, nodeBit, unusedSet, labelIn}
+use Rattle.jobs.specs.Jobs.{isJob, labelBytes, withHalf}
 use Rattle.rule.specs.Cabinet.{Cabinet, exchangesOf, isRule, labelsOf, out}
 use Rattle.rule.specs.Rule.{meets, newly, marked, quiet, working, rounds, exchanges, safe, labelOf, label}
 use Rattle.scans.specs.Scans.{suits, takes, lowest, firstScan}
 use Rattle.rule.proofs.Exchanges.{exchanged}
-use Rattle.labels.specs.Labelling.{labelRefusal, labelled}
+use Rattle.labels.specs.Labelling.{labelRefusal, labelled, labelsAfter}
 use Rattle.labels.specs.declared.Labelled.the-variants.{Exchanges}
 use Rattle.labels.proofs.Refusal.{fitting}
 use Rattle.hop.specs.Hop.{answer, decide, hop, hopRefusal, hopped}
@@ -21,9 +22,8 @@ use Rattle.hop.specs.declared.Hopped.{Hopped}
 use Rattle.walk.specs.Walk.{onto, stops, spot, turn, hops, last, row, rowBytes, refused, walkFrom, walkRefusal, walked}
 use Rattle.walk.specs.declared.Walked.{Walked}
 use Rattle.theorems.specs.Words.{labelAt, walkOf}
-use Rattle.promises.specs.Worked.{k4, k4-by, k4-drains, k4-nine, q3, those, visited, Worked}
+use Rattle.promises.specs.Worked.{k4, k4-by, k4-closes, k4-closes-both, k4-drains, k4-nine, q3, those, visited, Worked}
 use Rattle.promises.proofs.Outcomes.{answered}
-use lib.ListN.{length}
 
 k4-labels : labelsOf k4 ≡ 1 ∷ 0 ∷ 3 ∷ 0 ∷ 3 ∷ 0 ∷ 1 ∷ 0 ∷ 3 ∷ 0 ∷ 1 ∷ 0 ∷ 1 ∷ 0 ∷ 2 ∷ 3 ∷ []
 unfolding labelsOf label labelOf safe rounds working quiet newly meets marked count least some flip tab nodeBit bit
@@ -45,30 +45,38 @@ k4-nine-labels : labelsOf k4-nine ≡ 1 ∷ 0 ∷ 3 ∷ 0 ∷ 3 ∷ 0 ∷ 1 ∷ 
 unfolding labelsOf label labelOf safe rounds working quiet newly meets marked count least some flip tab nodeBit bit
 k4-nine-labels = refl
 
+k4-closes-labels : labelsOf k4-closes ≡ 1 ∷ 0 ∷ 3 ∷ 0 ∷ 3 ∷ 0 ∷ 1 ∷ 0 ∷ 3 ∷ 3 ∷ 2 ∷ 1 ∷ 2 ∷ 1 ∷ 2 ∷ 4 ∷ []
+unfolding labelsOf label labelOf safe rounds working quiet newly meets marked count least some flip tab nodeBit bit
+k4-closes-labels = refl
+
+k4-shut-labels : labelsOf k4-closes-both ≡ 1 ∷ 0 ∷ 3 ∷ 0 ∷ 3 ∷ 0 ∷ 1 ∷ 0 ∷ 3 ∷ 3 ∷ 2 ∷ 1 ∷ 2 ∷ 1 ∷ 2 ∷ 3 ∷ []
+unfolding labelsOf label labelOf safe rounds working quiet newly meets marked count least some flip tab nodeBit bit
+k4-shut-labels = refl
+
 -- a hop by the labels of a cabinet is the hop by what they compute to
-hop-on : {x : Hopped} (K : Cabinet) (c d m : ℕ) (labels : List ℕ) → labelsOf K ≡ labels → hopped (K .n) c d m (labelIn labels) ≡ x
-    → hopped (K .n) c d m (labelAt K) ≡ x
-hop-on K c d m labels e f = ap (λ (l : List ℕ). hopped (K .n) c d m (labelIn l)) e ∙ f
+hop-on : {x : Hopped} (K : Cabinet) (j c d m : ℕ) (labels : List ℕ) → labelsOf K ≡ labels → hopped (K .n) j c d m (labelIn labels) ≡ x
+    → hopped (K .n) j c d m (labelAt K) ≡ x
+hop-on K j c d m labels e f = ap (λ (l : List ℕ). hopped (K .n) j c d m (labelIn l)) e ∙ f
 
 -- a walk on the labels of a cabinet is the walk on what they compute to
-on : {w : Walked} (K : Cabinet) (s d : ℕ) (labels : List ℕ) → labelsOf K ≡ labels → walked (K .n) s d (length labels) rowBytes (labelIn labels) ≡ w
-    → walkOf K s d ≡ w
-on K s d labels e f = ap (λ (l : List ℕ). walked (K .n) s d (length l) rowBytes (labelIn l)) e ∙ f
+on : {w : Walked} (K : Cabinet) (j s d : ℕ) (labels : List ℕ) → labelsOf K ≡ labels
+    → walked (K .n) j s d (labelBytes (K .n)) rowBytes (labelIn labels) ≡ w → walkOf K j s d ≡ w
+on K j s d labels e f = ap (λ (l : List ℕ). walked (K .n) j s d (labelBytes (K .n)) rowBytes (labelIn l)) e ∙ f
 
-module _ (K : Cabinet) (m : ℕ) (accepted : labelRefusal K m ≡ 0) where
-  no-faults : ((x : ℕ) → x < 2 ^ K .n → out K x ≡ false) → labelled K m ≡ Exchanges 1
+module _ (K : Cabinet) (j m : ℕ) (accepted : labelRefusal K j m ≡ 0) where
+  no-faults : ((x : ℕ) → x < 2 ^ K .n → out K x ≡ false) → labelled K j m ≡ Exchanges 1
   unfolding exchangesOf
   no-faults f =
-      answered K m accepted ∙ ap Exchanges (exchanged (K .n) (K .rule) (out K) .no-faults (omega (arith, fitting K m accepted .rule .0)) f)
+      answered K j m accepted ∙ ap Exchanges (exchanged (K .n) (K .rule) (out K) .no-faults (omega (arith, fitting K j m accepted .rule .0)) f)
 
-  all-faulty : ((x : ℕ) → x < 2 ^ K .n → out K x ≡ true) → labelled K m ≡ Exchanges 1
+  all-faulty : ((x : ℕ) → x < 2 ^ K .n → out K x ≡ true) → labelled K j m ≡ Exchanges 1
   unfolding exchangesOf
-  all-faulty f = answered K m accepted ∙ ap Exchanges (exchanged (K .n) (K .rule) (out K) .none-works f)
+  all-faulty f = answered K j m accepted ∙ ap Exchanges (exchanged (K .n) (K .rule) (out K) .none-works f)
 
 pub worked : Worked
 unfolding those visited walked walkRefusal walkFrom refused first row last hops turn spot stops onto hopped hopRefusal hop decide answer firstScan lowest
     takes suits apart dist ones labelIn tab isDimension isRule tableLen unusedSet nodeBit bit flip some least count labelled labelRefusal exchangesOf
-    exchanges labelsOf label labelOf safe rounds working quiet newly meets marked
+    exchanges labelsOf label labelOf safe rounds working quiet newly meets marked isJob labelBytes labelsAfter withHalf
 worked =
     record {
       table-bytes = refl;
@@ -79,23 +87,23 @@ worked =
       k4-exchanges = refl;
       k4-labels = k4-labels;
       k4-strong = refl;
-      k4-13-0 = on k4 13 0 _ k4-labels refl;
-      k4-6-0 = on k4 6 0 _ k4-labels refl;
-      k4-14-0 = on k4 14 0 _ k4-labels refl;
-      k4-0-14 = on k4 0 14 _ k4-labels refl;
-      k4-10-10 = on k4 10 10 _ k4-labels refl;
+      k4-13-0 = on k4 0 13 0 _ k4-labels refl;
+      k4-6-0 = on k4 0 6 0 _ k4-labels refl;
+      k4-14-0 = on k4 0 14 0 _ k4-labels refl;
+      k4-0-14 = on k4 0 0 14 _ k4-labels refl;
+      k4-10-10 = on k4 0 10 10 _ k4-labels refl;
       q3-faulty = refl;
       q3-safe = refl;
       q3-exchanges = refl;
-      q3-0-7 = on q3 0 7 _ q3-labels refl;
-      q3-7-0 = on q3 7 0 _ q3-labels refl;
-      q3-7-3 = on q3 7 3 _ q3-labels refl;
+      q3-0-7 = on q3 0 0 7 _ q3-labels refl;
+      q3-7-0 = on q3 0 7 0 _ q3-labels refl;
+      q3-7-3 = on q3 0 7 3 _ q3-labels refl;
       no-faults = no-faults;
       all-faulty = all-faulty;
       one-safe = refl;
       k4-older-exchanges = refl;
       k4-older-labels = k4-older-labels;
-      k4-older-13-0 = on (k4-by 2) 13 0 _ k4-older-labels refl;
+      k4-older-13-0 = on (k4-by 2) 0 13 0 _ k4-older-labels refl;
       c3-faulty = refl;
       c3-older-exchanges = refl;
       c3-older-labels = refl;
@@ -104,13 +112,20 @@ worked =
       c4-labels = refl;
       k4-drains-exchanges = refl;
       k4-drains-labels = k4-drains-labels;
-      k4-0-15 = on k4 0 15 _ k4-labels refl;
-      k4-drains-0-15 = on k4-drains 0 15 _ k4-drains-labels refl;
-      k4-drains-15-15 = on k4-drains 15 15 _ k4-drains-labels refl;
-      k4-drains-15-14 = hop-on k4-drains 15 14 16 _ k4-drains-labels refl;
-      k4-drains-at-15 = hop-on k4-drains 15 15 16 _ k4-drains-labels refl;
+      k4-0-15 = on k4 0 0 15 _ k4-labels refl;
+      k4-drains-0-15 = on k4-drains 0 0 15 _ k4-drains-labels refl;
+      k4-drains-15-15 = on k4-drains 0 15 15 _ k4-drains-labels refl;
+      k4-drains-15-14 = hop-on k4-drains 0 15 14 32 _ k4-drains-labels refl;
+      k4-drains-at-15 = hop-on k4-drains 0 15 15 32 _ k4-drains-labels refl;
       k4-both-labels = refl;
       k4-nine-labels = k4-nine-labels;
-      k4-nine-13-0 = on k4-nine 13 0 _ k4-nine-labels refl;
-      k4-nine-13-9 = on k4-nine 13 9 _ k4-nine-labels refl;
+      k4-nine-13-0 = on k4-nine 0 13 0 _ k4-nine-labels refl;
+      k4-nine-13-9 = on k4-nine 0 13 9 _ k4-nine-labels refl;
+      k4-jobs-labels = refl;
+      k4-jobs-back = refl;
+      k4-shut-labels = k4-shut-labels;
+      k4-job-0 = on k4-drains 0 13 0 _ k4-drains-labels refl;
+      k4-job-1 = on k4-closes 1 13 0 _ k4-closes-labels refl;
+      k4-job-1-15 = on k4-closes 1 0 15 _ k4-closes-labels refl;
+      k4-shut-15 = on k4-closes-both 1 0 15 _ k4-shut-labels refl;
     }

@@ -1,5 +1,8 @@
--- `hop`: the place first, then the labels of the node and its neighbours, then the decision by the labels gathered, which are the table's.
-use mathlib.Core.Path.{_≡_, refl, sym, _∙_}
+-- `hop`: the place first, then the labels of the node and its neighbours in the job's half, then the decision by the labels gathered, which are that
+-- half's.
+use mathlib.Core.Path.{_≡_, refl, sym, ap, _∙_}
+use mathlib.Core.List.{List}
+use Prim.Native.Nat.{ℕ, _^_}
 use native.Mathlib.Omega.{arith}
 use borrow.Author.Needs.{needs}
 use borrow.Author.Tests.{eq-eqb, ne-eqb}
@@ -7,37 +10,68 @@ use lib.ListN.{length}
 use Rattle.cube.specs.Cube.{flip}
 use Rattle.cube.specs.Refusal.{first}
 use Rattle.cube.specs.Tables.{labelIn}
-use Rattle.hop.specs.Helpers.{Placed}
-use Rattle.hop.specs.Hop.{hopRefusal, nearTests}
+use Rattle.jobs.specs.Jobs.{half}
+use Rattle.hop.specs.Helpers.{Asked, Placed}
+use Rattle.hop.specs.Hop.{hopRefusal, hopped, nearTests}
+use Rattle.hop.specs.declared.Hopped.{Hopped}
+use Rattle.hop.specs.declared.Hopped.the-variants.{Refused}
 use Rattle.hop.proofs.Gathered.{arrives, goes}
-use Rattle.hop.proofs.Refusals.{placed, hop-misplaced, hop-placed, hop-refuses, hop-decides}
+use Rattle.hop.proofs.Refusals.{half-placed, placed, hop-misplaced, hop-placed, hop-refuses, hop-decides}
 use Rattle.hop.proofs.hop.Statement.{statement}
 use Rattle.hop.proofs.hop.Tie as tie
 
--- the arguments, from behind the first test; that place from where the labels are gathered; and this one from behind the tests of c's label
+-- the places of the code: the arguments from behind the first test; where the half was taken, from where the labels are gathered; and that place from
+-- behind the tests of c's label
 abbrev start : tie.Else1 → tie.Start
 start c = c .before .before .before
 
-abbrev placed-at : tie.After-gather → tie.Else1
-placed-at c = c .before .before .before
+abbrev halved-at : tie.After-gather → tie.After-half
+halved-at c = c .before .before .before
 
 abbrev gathered-at : tie.Else4 → tie.After-gather
 gathered-at c = c .before .before .before
 
+-- the job's half, as the specification takes it from the buffer and as the code has it
+abbrev own-half : tie.After-half → List ℕ
+own-half c = let a = start (c .before) .args in half (a .job) (2 ^ a .n) (a .labels .now)
+
+abbrev table : tie.After-half → List ℕ
+table c = c .half .result .now
+
+-- the refusal and the answer by a table
+abbrev refusal-by : tie.After-half → List ℕ → ℕ
+refusal-by c t = let a = start (c .before) .args in hopRefusal (a .n) (a .job) (a .c) (a .d) (length (a .labels .now)) (labelIn t)
+
+abbrev answer-by : tie.After-half → List ℕ → Hopped
+answer-by c t = let a = start (c .before) .args in hopped (a .n) (a .job) (a .c) (a .d) (length (a .labels .now)) (labelIn t)
+
 -- past the first test the place is good
-good : (c : tie.Else1) → let a = start c .args in Placed (a .n) (a .c) (a .d) (length (a .labels .now))
-good c = placed _ _ _ _ _ (sym (c .before .place-refusal .ensures) ∙ c .if1 .left)
+asked : (c : tie.Else1) → let a = start c .args in Asked (a .n) (a .job) (a .c) (a .d) (length (a .labels .now))
+asked c = placed _ _ _ _ _ _ (sym (c .before .place-refusal .ensures) ∙ c .if1 .left)
+
+good : (c : tie.After-half) → let a = start (c .before) .args in Placed (a .n) (a .c) (a .d) (length (table c))
+good c = rw (c .half .ensures .0) (half-placed _ _ _ _ _ (asked (c .before)))
 
 -- and the labels decide
-near-is : (c : tie.Else1) → let a = start c .args in let lab = labelIn (a .labels .now) in
-    hopRefusal (a .n) (a .c) (a .d) (length (a .labels .now)) lab ≡ first (nearTests (a .n) (a .c) (a .d) (lab (a .c)) (λ i. lab (flip i (a .c))))
-near-is c = hop-placed _ _ _ _ _ (sym (c .before .place-refusal .ensures) ∙ c .if1 .left)
+near-is : (c : tie.After-half) → let a = start (c .before) .args in let lab = labelIn (table c) in
+    refusal-by c (table c) ≡ first (nearTests (a .n) (a .c) (a .d) (lab (a .c)) (λ i. lab (flip i (a .c))))
+near-is c = hop-placed _ _ _ _ _ _ (sym (c .before .before .place-refusal .ensures) ∙ c .before .if1 .left)
+
+-- the answer by the code's table is that by the job's half
+answers : (c : tie.After-half) (r : Hopped) → r ≡ answer-by c (table c) → r ≡ answer-by c (own-half c)
+answers c r e = e ∙ ap (answer-by c) (c .half .ensures .0)
+
+refuses : (c : tie.After-half) (k : ℕ) → (k ≡ 0 → ⊥) → refusal-by c (table c) ≡ k → Refused k ≡ answer-by c (own-half c)
+refuses c k z e = answers c _ (hop-refuses _ _ _ _ _ _ k z e)
 
 place-refusal-requires : tie.Need-place-refusal-requires
 place-refusal-requires c κs = search needs
 
 returns : tie.Need-returns
-returns c = hop-refuses _ _ _ _ _ _ (c .if1 .taken) (hop-misplaced _ _ _ _ _ _ (c .before .place-refusal .ensures) (c .if1 .taken))
+returns c = hop-refuses _ _ _ _ _ _ _ (c .if1 .taken) (hop-misplaced _ _ _ _ _ _ _ (c .before .place-refusal .ensures) (c .if1 .taken))
+
+half-requires : tie.Need-half-requires
+half-requires c κs = asked c .halved
 
 shared-slice-read-own : tie.Need-shared-slice-read-own
 shared-slice-read-own c = omega (arith, good (c .before))
@@ -47,32 +81,35 @@ gather-requires c κs = let g = good (c .before .before) in (g .small, g .first,
 
 returns-2 : tie.Need-returns-2
 unfolding labelIn first
-returns-2 c = hop-refuses _ _ _ _ _ 4 (λ z. omega arith) (near-is (placed-at (c .before)) ∙ rw (rw (c .before .gather .ensures .1) at (c .if2 .taken)))
+returns-2 c =
+    let h = halved-at (c .before) in
+    refuses h 4 (λ z. omega arith) (near-is h ∙ rw (rw (c .before .gather .ensures .1) at (c .if2 .taken)))
 
 returns-3 : tie.Need-returns-3
 unfolding labelIn first
 returns-3 c =
     let g = c .before .before in
-    hop-refuses _ _ _ _ _ 6 (λ z. omega arith) (near-is (placed-at g) ∙ rw (rw (g .gather .ensures .1) at (c .before .if2 .left), eq-eqb _ _ (c .if3 .taken)))
+    let h = halved-at g in
+    refuses h 6 (λ z. omega arith) (near-is h ∙ rw (rw (g .gather .ensures .1) at (c .before .if2 .left), eq-eqb _ _ (c .if3 .taken)))
 
 returns-4 : tie.Need-returns-4
 unfolding labelIn first
 returns-4 c =
     let e = c .before in
     let g = e .before .before in
-    hop-refuses _ _ _ _ _ 6 (λ z. omega arith)
-    (near-is (placed-at g) ∙ rw (rw (g .gather .ensures .1) at (e .before .if2 .left), ne-eqb _ _ (e .if3 .left), c .if4 .taken))
+    let h = halved-at g in
+    refuses h 6 (λ z. omega arith)
+    (near-is h ∙ rw (rw (g .gather .ensures .1) at (e .before .if2 .left), ne-eqb _ _ (e .if3 .left), c .if4 .taken))
 
 -- past the fourth test nothing is refused
-nothing : (c : tie.Else4) → let a = start (placed-at (gathered-at c)) .args in
-    hopRefusal (a .n) (a .c) (a .d) (length (a .labels .now)) (labelIn (a .labels .now)) ≡ 0
+nothing : (c : tie.Else4) → let h = halved-at (gathered-at c) in refusal-by h (table h) ≡ 0
 unfolding labelIn first
 nothing c =
     let g = gathered-at c in
-    near-is (placed-at g) ∙ rw (rw (g .gather .ensures .1) at (c .before .before .if2 .left), ne-eqb _ _ (c .before .if3 .left), c .if4 .left)
+    near-is (halved-at g) ∙ rw (rw (g .gather .ensures .1) at (c .before .before .if2 .left), ne-eqb _ _ (c .before .if3 .left), c .if4 .left)
 
 chosen-requires : tie.Need-chosen-requires
-chosen-requires c κs = let g = good (placed-at (gathered-at (c .before .before))) in (g .small, g .first, g .second, c .before .if5 .taken)
+chosen-requires c κs = let g = good (halved-at (gathered-at (c .before .before))) in (g .small, g .first, g .second, c .before .if5 .taken)
 
 across-requires : tie.Need-across-requires
 across-requires c κs = search needs
@@ -82,13 +119,16 @@ unfolding labelIn
 returns-5 c =
     let far = c .before .before .before in
     let g = gathered-at (far .before) in
-    let lab = labelIn (start (placed-at g) .args .labels .now) in
-    let p = good (placed-at g) in
+    let h = halved-at g in
+    let lab = labelIn (table h) in
+    let p = good h in
     let goes-on = goes _ lab _ _ (p .small) (g .gather .ensures .0) _ _ (p .first) (p .second) (far .if5 .taken) (c .before .chosen .ensures) in
-    hop-decides _ _ _ _ _ _ (nothing (far .before)) (c .across .ensures ∙ goes-on)
+    answers h _ (hop-decides _ _ _ _ _ _ _ (nothing (far .before)) (c .across .ensures ∙ goes-on))
 
 returns-6 : tie.Need-returns-6
-returns-6 c = hop-decides _ _ _ _ _ _ (nothing (c .before)) (arrives _ _ _ _ (c .if5 .left))
+returns-6 c =
+    let h = halved-at (gathered-at (c .before)) in
+    answers h _ (hop-decides _ _ _ _ _ _ _ (nothing (c .before)) (arrives _ _ _ _ (c .if5 .left)))
 
 pub hop-spec : {M : Type 1} → statement M
 hop-spec =
@@ -96,6 +136,7 @@ hop-spec =
     (tie.spec
     place-refusal-requires
     returns
+    half-requires
     shared-slice-read-own
     gather-requires
     returns-2

@@ -1,4 +1,4 @@
--- `list`: the pairs are walked with the labels that stand at the front of the table.
+-- `list`: the pairs are walked with the label buffer that stands at the front of the lent one.
 use native.Mathlib.Omega.{arith}
 use lib.ListN.{length-take}
 use borrow.Author.Needs.{needs}

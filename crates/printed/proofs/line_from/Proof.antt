@@ -23,7 +23,7 @@ walk-requires : tie.Need-walk-requires
 walk-requires c κs = search needs
 
 pair-line-requires : tie.Need-pair-line-requires
-pair-line-requires c κs = (rw (c .before .walk .ensures) (hops-few _ _ _ _ _ _), search needs)
+pair-line-requires c κs = (rw (c .before .walk .ensures) (hops-few _ _ _ _ _ _ _), search needs)
 
 same-length : tie.Need-same-length
 same-length c = search needs
