@@ -3,16 +3,16 @@
 use mathlib.Core.Bool.{true, cond}
 use mathlib.Core.List.{List}
 use mathlib.Core.Path.{_≡_, refl, sym, ap, _∙_}
-use Prim.Native.Nat.{ℕ, _+_, _*_, _/_, _%_, _^_, _<_}
+use Prim.Native.Nat.{ℕ, _+_, _*_, _/_, _%_, _<_}
 use native.Mathlib.Omega.{arith}
 use lib.Dec.{eqb, leb}
 use lib.ListN.{getD, length}
 use borrow.Author.Tests.{eqb-false, eqb-true, ne-eqb}
-use Rattle.cube.specs.Tables.{labelIn, tab}
+use Rattle.cube.specs.Tables.{tab}
 use Rattle.cube.proofs.Bools.{by-cases}
 use Rattle.cube.proofs.Front.{getD-tab, tab-cong}
 use Rattle.cube.proofs.Tables.{nodes-few}
-use Rattle.jobs.specs.Jobs.{half}
+use Rattle.jobs.specs.Jobs.{labelFor}
 use Rattle.rule.specs.Cabinet.{Cabinet, exchangesOf}
 use Rattle.labels.specs.Labelling as L
 use Rattle.labels.specs.declared.Labelled.the-variants as labelled
@@ -173,7 +173,7 @@ refused-decoded before k l h =
 
 module _ (n j s d : ℕ) (labels before : List ℕ) where
   abbrev lab : ℕ → ℕ
-  lab = labelIn (half j (2 ^ n) labels)
+  lab = labelFor n j labels
 
   abbrev walk-k : ℕ
   walk-k = W.walkRefusal n j s d (length labels) (length before) lab
@@ -185,7 +185,7 @@ module _ (n j s d : ℕ) (labels before : List ℕ) where
       let p = walk-good n j s d (length labels) (length before) lab e .placed in
       row-decoded (λ k. cond (leb k (W.hops n (W.route n lab d) s)) (W.spot (W.route n lab d) s k) 0)
       (λ k _. by-cases (λ x. x < 65536) (leb k (W.hops n (W.route n lab d) s))
-      (λ _. omega (arith, spot-lt n lab d s (p .first) k, nodes-few n (p .small))) (λ _. omega arith))
+      (λ _. omega (arith, spot-lt n lab d s (p .first) k, nodes-few n (p .halved .small))) (λ _. omega arith))
 
   walk-decoded : walkedFrom (walkNumber (walkedBy n j s d labels before)) (rowAfter (walkedBy n j s d labels before) before) ≡ walkedBy n j s d labels before
   unfolding W.walked W.walkFrom W.refused

@@ -2,13 +2,12 @@
 -- answer, and what is left of what was lent, for whatever is handed; and that an entry point asks nothing of its caller.
 use mathlib.Core.List.{List}
 use mathlib.Core.Path.{refl}
-use Prim.Native.Nat.{ℕ, _^_}
+use Prim.Native.Nat.{ℕ}
 use denote.Ref.{now}
 use lib.ListN.{length}
 use Rattle.cube.specs.Contracts.{AsksNothing, Function, Nothing}
 use Rattle.cube.proofs.Contracts.{Says}
-use Rattle.cube.specs.Tables.{labelIn}
-use Rattle.jobs.specs.Jobs.{half}
+use Rattle.jobs.specs.Jobs.{labelFor}
 use Rattle.rule.specs.Cabinet.{cabinet}
 use Rattle.labels.specs.Labelling.{labelled, labelsAfter}
 use Rattle.hop.specs.Hop.{hopped}
@@ -53,7 +52,7 @@ hop =
 pub hop-asks : AsksNothing hop
 hop-asks = record { asked = λ κs a. tt; empty = λ w κs a. (tt, refl) }
 
-pub hop-says : Says hop (λ i. hopNumber (hopped (i .0) (i .1) (i .2) (i .3) (length (i .4)) (labelIn (half (i .1) (2 ^ i .0) (i .4))))) (λ i. tt)
+pub hop-says : Says hop (λ i. hopNumber (hopped (i .0) (i .1) (i .2) (i .3) (length (i .4)) (labelFor (i .0) (i .1) (i .4)))) (λ i. tt)
 hop-says = record { says = λ κs a r e p. (p, refl) }
 
 abbrev pub walk : Function hcube_walk.ended (ℕ × ℕ × ℕ × ℕ × List ℕ × List ℕ) ℕ (List ℕ)

@@ -58,7 +58,7 @@ module _ (n j c d m : ℕ) (lab : ℕ → ℕ) where
   unfolding H.hopped
   hop-small =
       by-cases HopFits (eqb (H.hopRefusal n j c d m lab) 0)
-      (λ e. (omega arith, decision-small (H.hop n lab c d) (hop-good n j c d m lab (eqb-true (H.hopRefusal n j c d m lab) 0 e) .small) refl))
+      (λ e. (omega arith, decision-small (H.hop n lab c d) (hop-good n j c d m lab (eqb-true (H.hopRefusal n j c d m lab) 0 e) .halved .small) refl))
       (λ _. (omega (arith, hop-refusal), omega arith))
 
 -- ---- the walk

@@ -1,11 +1,11 @@
 -- What C is answered, and what the row's buffer then holds: document 01's number of the answer that the library's own function gives.
 use mathlib.Core.Bool.{Bool, true, false, cond}
 use mathlib.Core.List.{List}
-use Prim.Native.Nat.{ℕ, _+_, _*_, _/_, _%_, _^_}
+use Prim.Native.Nat.{ℕ, _+_, _*_, _/_, _%_}
 use lib.Dec.{eqb}
 use lib.ListN.{getD, length}
-use Rattle.cube.specs.Tables.{labelIn, tab}
-use Rattle.jobs.specs.Jobs.{half}
+use Rattle.cube.specs.Tables.{tab}
+use Rattle.jobs.specs.Jobs.{labelFor}
 use Rattle.labels.specs.Labelling as L
 use Rattle.labels.specs.declared.Labelled.{Labelled}
 use Rattle.notice.specs.Notice as N
@@ -42,7 +42,7 @@ noticeNumber a = packedNotice (N.dimensionOf a) (N.countOf a) (packed (N.refusal
 
 -- the walk with the buffers that C lends
 abbrev pub walkedBy : (n j s d : ℕ) (labels row : List ℕ) → Walked
-walkedBy n j s d labels row = W.walked n j s d (length labels) (length row) (labelIn (half j (2 ^ n) labels))
+walkedBy n j s d labels row = W.walked n j s d (length labels) (length row) (labelFor n j labels)
 
 -- byte k of a row: two bytes a node, low byte first
 unfoldable pub rowByte : (row : List ℕ) (k : ℕ) → ℕ

@@ -1,10 +1,10 @@
 // What C calls: plain numbers and byte slices in, one number out. include/hcube.h is the C side of it. C's numbers are widened and never
 // narrowed, so none is mistaken for a smaller one.
-ghost use Prim.Native.Nat.{_<_, _≤_, _^_};
-ghost use Rattle.cube.specs.Tables.{labelIn, tab};
+ghost use Prim.Native.Nat.{_<_, _≤_};
+ghost use Rattle.cube.specs.Tables.{tab};
 ghost use Rattle.hcube.specs.Answers.{hasRow, hopNumber, labelNumber, noticeNumber, packed, packedNotice, rowAfter, rowByte, walkNumber, walkedBy};
 ghost use Rattle.hcube.specs.Fits.{RowFits, WalkFits};
-ghost use Rattle.jobs.specs.Jobs.{half};
+ghost use Rattle.jobs.specs.Jobs.{labelFor};
 ghost use Rattle.labels.specs.Labelling.{labelled, labelsAfter};
 ghost use Rattle.notice.specs.Notice.{noticed, tableAfter};
 ghost use Rattle.hop.specs.Hop.{decisionKind, decisionValue, hopped};
@@ -71,7 +71,7 @@ fn pack_decision(x: Decision) -> u32
 // Decides one hop at c for d, by the labels of a job.
 #[no_mangle]
 pub extern "C" fn hcube_hop(n: u32, job: u32, c: u32, d: u32, labels: &[u8]) -> u32
-    ensures { λ r. ⌜ r ≡ hopNumber (hopped n job c d (length (now (labels .entry))) (labelIn (half job (2 ^ n) (now (labels .entry))))) ⌝ }
+    ensures { λ r. ⌜ r ≡ hopNumber (hopped n job c d (length (now (labels .entry))) (labelFor n job (now (labels .entry)))) ⌝ }
 {
     let answer = hop::hop(n as usize, job as usize, c as usize, d as usize, labels);
     match answer {

@@ -3,13 +3,13 @@
 use mathlib.Core.Bool.{Bool}
 use mathlib.Core.List.{List}
 use mathlib.Core.Path.{refl}
-use Prim.Native.Nat.{ℕ, _^_}
+use Prim.Native.Nat.{ℕ}
 use denote.Ref.{now}
 use lib.ListN.{length}
 use Rattle.cube.specs.Contracts.{AsksNothing, Function, Nothing}
 use Rattle.cube.proofs.Contracts.{Says}
 use Rattle.cube.specs.Tables.{labelIn}
-use Rattle.jobs.specs.Jobs.{half}
+use Rattle.jobs.specs.Jobs.{labelFor}
 use Rattle.hop.specs.Helpers.{placeRefusal}
 use Rattle.hop.specs.Hop as spec
 use Rattle.hop.specs.declared.Decision.{Decision}
@@ -32,7 +32,7 @@ hop =
 pub hop-asks : AsksNothing hop
 hop-asks = record { asked = λ κs a. tt; empty = λ w κs a. (tt, refl) }
 
-pub hop-says : Says hop (λ i. spec.hopped (i .0) (i .1) (i .2) (i .3) (length (i .4)) (labelIn (half (i .1) (2 ^ i .0) (i .4)))) (λ i. tt)
+pub hop-says : Says hop (λ i. spec.hopped (i .0) (i .1) (i .2) (i .3) (length (i .4)) (labelFor (i .0) (i .1) (i .4))) (λ i. tt)
 hop-says = record { says = λ κs a r e p. (p, refl) }
 
 abbrev pub place-refusal : Function place_refusal.ended (ℕ × ℕ × ℕ × ℕ × ℕ × Bool) ℕ Nothing

@@ -6,7 +6,7 @@ ghost use Rattle.cube.specs.Cube.{flip};
 ghost use Rattle.cube.specs.Tables.{highest, labelIn};
 ghost use Rattle.hop.specs.Helpers.{Placed, across, chosen, gathered, inSet, placeRefusal};
 ghost use Rattle.hop.specs.Hop as spec;
-ghost use Rattle.jobs.specs.Jobs.{half};
+ghost use Rattle.jobs.specs.Jobs.{labelFor};
 ghost use Rattle.scans.specs.Scans as scans;
 ghost use lib.Dec.{ltb};
 ghost use lib.ListN.{getD, length, replicate};
@@ -198,7 +198,7 @@ fn across(picked: usize) -> Decision
 
 // The decision at c on the way to d, for a job. Of the job's half it reads c's label and each neighbour's once, and no other byte.
 pub fn hop(n: usize, job: usize, c: usize, d: usize, labels: &[u8]) -> Hopped
-    ensures { λ r. ⌜ r ≡ spec.hopped n job c d (length (now (labels .entry))) (labelIn (half job (2 ^ n) (now (labels .entry)))) ⌝ }
+    ensures { λ r. ⌜ r ≡ spec.hopped n job c d (length (now (labels .entry))) (labelFor n job (now (labels .entry))) ⌝ }
 {
     let k = place_refusal(n, job, c, d, labels.len(), false);
     if k != 0 {

@@ -131,13 +131,13 @@ module _ (n rule : ℕ) (faults : List ℕ) where
         kept : labelRefusal K j (length before) ≢ 0 → labelsAfter K j before ≡ before
         kept z = sym (says-refused K j before _ refl z .1)
 
+        nodes-are : labelRefusal K j (length before) ≡ 0 → m ≡ 2 ^ n
+        nodes-are z = omega (arith, sym e ∙ buffer-sized K j before z)
+
         written : labelRefusal K j (length before) ≡ 0 → half j m (labelsAfter K j before) ≡ labelsAfterThen n rule faults (half j m before)
         written z =
             ap (λ (k : ℕ). half j k (labelsAfter K j before)) (nodes-are z) ∙ labels-written K j before z ∙ labels-same
             ∙ sym (rw (sized ∙ refusal-is, z))
-
-        nodes-are : labelRefusal K j (length before) ≡ 0 → m ≡ 2 ^ n
-        nodes-are z = omega (arith, sym e ∙ buffer-sized K j before z)
 
   no-four : (x : ℕ) → labelAt K x ≢ 4
   unfolding labelIn label

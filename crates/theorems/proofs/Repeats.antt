@@ -14,6 +14,8 @@ use Rattle.cube.specs.Tables.{highest}
 use Rattle.cube.proofs.Bools.{clash}
 use Rattle.cube.proofs.Cube.{flip-lt}
 use Rattle.cube.proofs.Search.{some-none}
+use Rattle.jobs.specs.Jobs.{labelBytes}
+use Rattle.jobs.proofs.Halves.{is-job}
 use Rattle.scans.specs.Hit.{Hit, scan0, scan1, scan2, scan3, scan4, scan5}
 use Rattle.scans.specs.Progress.{WorksOrEnds}
 use Rattle.hop.specs.Hop.{hop, hopRefusal}
@@ -83,7 +85,8 @@ module _ (n j s d m room : ℕ) (lab : ℕ → ℕ) (ok : walkRefusal n j s d m 
   unrefused k =
       rw (
         G .dimension,
-        eq-eqb m (2 ^ n) (G .placed .sized),
+        is-job j (G .placed .halved .job),
+        eq-eqb m (labelBytes n) (G .placed .halved .sized),
         lt-leb (2 ^ n) (at k) (inside k),
         lt-leb (2 ^ n) d (G .placed .second),
         le-ltb highest (lab (at k)) (G .low (at k) (inside k)),
@@ -103,7 +106,7 @@ module _ (n j s d m room : ℕ) (lab : ℕ → ℕ) (ok : walkRefusal n j s d m 
 
   used : (k : ℕ) → k ≤ hops n (route n lab d) s → place w k ≡ at k
   unfolding walkFrom
-  used = row-used n (route n lab d) s (G .placed .small)
+  used = row-used n (route n lab d) s (G .placed .halved .small)
 
   steps : (k : ℕ) → k < hops n (route n lab d) s
       → (i : ℕ) × (i < n) × Decides n j d m lab (place w k) (Hop i) × (place w (k + 1) ≡ flip i (place w k))

@@ -72,8 +72,8 @@ module _ (n : ℕ) (lab : ℕ → ℕ) (d : ℕ) where
   spot-lt s hs = stays n (route n lab d) route-across s hs
 
 -- and its refusals: nodes outside are refused before any label is looked at
-module _ (n s d m room : ℕ) (lab lab′ : ℕ → ℕ) (same : (x : ℕ) → x < 2 ^ n → lab x ≡ lab′ x) where
-  inside-same : s < 2 ^ n → d < 2 ^ n → walked n s d m room lab ≡ walked n s d m room lab′
+module _ (n j s d m room : ℕ) (lab lab′ : ℕ → ℕ) (same : (x : ℕ) → x < 2 ^ n → lab x ≡ lab′ x) where
+  inside-same : s < 2 ^ n → d < 2 ^ n → walked n j s d m room lab ≡ walked n j s d m room lab′
   unfolding walked walkRefusal
   inside-same hs hd =
       rw (
@@ -87,15 +87,15 @@ module _ (n s d m room : ℕ) (lab lab′ : ℕ → ℕ) (same : (x : ℕ) → x
       decides : (x : ℕ) → x < 2 ^ n → route n lab d x ≡ route n lab′ d x
       decides x h = hop-same n lab lab′ x d (same x h) (λ i l. same (flip i x) (flip-lt n i x l h))
 
-  walked-same : walked n s d m room lab ≡ walked n s d m room lab′
+  walked-same : walked n j s d m room lab ≡ walked n j s d m room lab′
   walked-same =
       elim (ℕ-discrete k 0) [
-        | yes e ↦ let p = placed n s d m (not (eqb room rowBytes)) e in inside-same (p .first) (p .second)
-        | no e ↦ sym (walk-misplaced n s d m room lab k refl e) ∙ walk-misplaced n s d m room lab′ k refl e
+        | yes e ↦ let p = placed n j s d m (not (eqb room rowBytes)) e in inside-same (p .first) (p .second)
+        | no e ↦ sym (walk-misplaced n j s d m room lab k refl e) ∙ walk-misplaced n j s d m room lab′ k refl e
       ]
     where
       k : ℕ
-      k = placeRefusal n s d m (not (eqb room rowBytes))
+      k = placeRefusal n j s d m (not (eqb room rowBytes))
 
 pub walk-local : WalkLocal
 walk-local = walked-same

@@ -3,8 +3,8 @@ use mathlib.Core.Path.{_≡_}
 use Prim.Native.Nat.{ℕ, _^_, _<_}
 use Rattle.walk.specs.Walk.{walked}
 
--- a walk, and its refusals too, depend on the labels of the cube's nodes alone
+-- a walk, and its refusals too, depend on the numbers that it is asked with and on the labels of the cube's nodes in the job's half alone
 abbrev pub WalkLocal : Type 0
 WalkLocal =
-    (n s d m room : ℕ) (lab lab′ : ℕ → ℕ) → ((x : ℕ) → x < 2 ^ n → lab x ≡ lab′ x)
-    → walked n s d m room lab ≡ walked n s d m room lab′
+    (n j s d m room : ℕ) (lab lab′ : ℕ → ℕ) → ((x : ℕ) → x < 2 ^ n → lab x ≡ lab′ x)
+    → walked n j s d m room lab ≡ walked n j s d m room lab′

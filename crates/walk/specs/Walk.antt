@@ -1,6 +1,7 @@
 -- The walk: hops from the source until a decision is no hop. It is given place by place, for any way `go` of deciding at a node: `spot` is the node after k
 -- hops from s and `turn` the decision there; the hop count, the row and the ending are read off them. The walk of document 01 goes by the hop decision: n is
--- the dimension, lab the labels and d the destination. The question `walked` is asked of any label table: m is its length, and lab x the byte of node x.
+-- the dimension, lab the labels and d the destination. The question `walked` is asked for a job of any label buffer: m is the buffer's length, j the job, and
+-- lab x the byte of node x in the job's half.
 use mathlib.Core.Bool.{Bool, true, false, cond, not}
 use mathlib.Core.List.{List, [], _∷_, _++_}
 use Prim.Native.Nat.{ℕ, zero, suc, _+_, _^_}
@@ -61,7 +62,7 @@ route n lab d x = hop n lab x d
 abbrev pub rowBytes : ℕ
 rowBytes = 34
 
--- the refusals that the labels give: no walk begins at a node that does not work, and none goes to a faulty one
+-- the refusals that the labels of the job's half give: no walk begins at a node that does not work, and none goes to a faulty one
 abbrev pub tableTests : (n s d : ℕ) (lab : ℕ → ℕ) → List Test
 tableTests n s d lab =
     some (2 ^ n) (λ x. ltb highest (lab x)) ⇒ 4
@@ -69,14 +70,14 @@ tableTests n s d lab =
     ∷ eqb (lab d) 3 ⇒ 7
     ∷ []
 
--- all of them in order, 1, 2 (labels, then row), 5, 4, 6, 7, 8, for a caller who lends a row of `room` bytes
-abbrev pub walkTests : (n s d m room : ℕ) (lab : ℕ → ℕ) → List Test
-walkTests n s d m room lab =
-    sizeTests n m ++ (not (eqb room rowBytes) ⇒ 2 ∷ nodeTests n s d)
+-- all of them in order, 1, 19, 2 (labels, then row), 5, 4, 6, 7, 8, for a caller who lends a row of `room` bytes
+abbrev pub walkTests : (n j s d m room : ℕ) (lab : ℕ → ℕ) → List Test
+walkTests n j s d m room lab =
+    sizeTests n j m ++ (not (eqb room rowBytes) ⇒ 2 ∷ nodeTests n s d)
     ++ (tableTests n s d lab ++ (not (stops (last n (route n lab d) s)) ⇒ 8 ∷ []))
 
-unfoldable pub walkRefusal : (n s d m room : ℕ) (lab : ℕ → ℕ) → ℕ
-walkRefusal n s d m room lab = first (walkTests n s d m room lab)
+unfoldable pub walkRefusal : (n j s d m room : ℕ) (lab : ℕ → ℕ) → ℕ
+walkRefusal n j s d m room lab = first (walkTests n j s d m room lab)
 
 -- how a walk ends, by its last decision. (One whose last decision is a hop is refused, by the table.)
 abbrev pub endingOf : Decision → Ending
@@ -91,8 +92,8 @@ walkFrom n go s = record { row = row n go s; hops = hops n go s; ending = ending
 unfoldable pub refused : ℕ → Walked
 refused k = record { row = replicate 17 0; hops = 0; ending = ending.Refused k }
 
-unfoldable pub walked : (n s d m room : ℕ) (lab : ℕ → ℕ) → Walked
-walked n s d m room lab = cond (eqb (walkRefusal n s d m room lab) 0) (walkFrom n (route n lab d) s) (refused (walkRefusal n s d m room lab))
+unfoldable pub walked : (n j s d m room : ℕ) (lab : ℕ → ℕ) → Walked
+walked n j s d m room lab = cond (eqb (walkRefusal n j s d m room lab) 0) (walkFrom n (route n lab d) s) (refused (walkRefusal n j s d m room lab))
 
 -- the travelling message one hop on, across dimension i
 unfoldable pub moved : Message → ℕ → Message

@@ -1,10 +1,11 @@
-// The walk: a message is moved by hops until a decision is no hop. `walk` and `walk_for` are the questions: they take any numbers and bytes, and test
-// them. The other functions are theirs.
+// The walk of a job: a message is moved by hops until a decision is no hop. `walk` and `walk_for` are the questions: they take any numbers and bytes, and
+// test them. The other functions are theirs, and what reads labels is handed the job's half alone.
 ghost use Prim.Native.Nat.{_<_};
 ghost use Rattle.cube.specs.Count.{larger, largest};
 ghost use Rattle.cube.specs.Tables.{labelIn};
 ghost use Rattle.hop.specs.Helpers.{Placed};
-ghost use Rattle.walk.specs.Helpers.{startRefusal, walkOrRefusal};
+ghost use Rattle.jobs.specs.Jobs.{labelFor};
+ghost use Rattle.walk.specs.Helpers.{tableRefusal, walkOrRefusal};
 ghost use Rattle.walk.specs.Walk.{moved, refused, rowBytes, walked};
 ghost use lib.ListN.{length};
 ghost use mathlib.Core.Path.{_≡_};
@@ -13,6 +14,7 @@ use cube::neighbour;
 use hop::Decision;
 use hop::hop_at;
 use hop::place_refusal;
+use jobs::half;
 
 const ROW_BYTES: usize = 34; // a row that is lent: two bytes for each of 17 places
 
@@ -122,14 +124,11 @@ fn largest(labels: &[u8]) -> u8
     high
 }
 
-// The refusals of a walk but for 8, 0 for none. room is the length of the row that the caller lends.
-fn start_refusal(n: usize, s: usize, d: usize, labels: &[u8], room: usize) -> u32
-    ensures { λ r. ⌜ r ≡ startRefusal n s d (length (now (labels .entry))) room (labelIn (now (labels .entry))) ⌝ }
+// The refusals that the labels give, 0 for none.
+fn table_refusal(n: usize, s: usize, d: usize, labels: &[u8]) -> u32
+    requires { ⌜ Placed n s d (length (now labels)) ⌝ }
+    ensures { λ r. ⌜ r ≡ tableRefusal n s d (labelIn (now (labels .entry))) ⌝ }
 {
-    let k = place_refusal(n, s, d, labels.len(), room != ROW_BYTES);
-    if k != 0 {
-        return k;
-    }
     if HIGHEST < largest(labels) {
         return 4;
     }
@@ -142,20 +141,25 @@ fn start_refusal(n: usize, s: usize, d: usize, labels: &[u8], room: usize) -> u3
     0
 }
 
-// The walk from s to d, for a caller who lends a row of `room` bytes: another length than 34 is refused.
-pub fn walk_for(n: usize, s: usize, d: usize, labels: &[u8], room: usize) -> Walked
-    ensures { λ r. ⌜ r ≡ walked n s d (length (now (labels .entry))) room (labelIn (now (labels .entry))) ⌝ }
+// The walk from s to d for a job, for a caller who lends a row of `room` bytes: another length than 34 is refused.
+pub fn walk_for(n: usize, job: usize, s: usize, d: usize, labels: &[u8], room: usize) -> Walked
+    ensures { λ r. ⌜ r ≡ walked n job s d (length (now (labels .entry))) room (labelFor n job (now (labels .entry))) ⌝ }
 {
-    let k = start_refusal(n, s, d, labels, room);
-    if k != 0 {
-        return refused(k);
+    let by_place = place_refusal(n, job, s, d, labels.len(), room != ROW_BYTES);
+    if by_place != 0 {
+        return refused(by_place);
     }
-    walk_or_refusal(n, s, d, labels)
+    let table = half(n, job, labels);
+    let by_labels = table_refusal(n, s, d, table);
+    if by_labels != 0 {
+        return refused(by_labels);
+    }
+    walk_or_refusal(n, s, d, table)
 }
 
-// The walk from s to d, for a caller who takes the row from the answer.
-pub fn walk(n: usize, s: usize, d: usize, labels: &[u8]) -> Walked
-    ensures { λ r. ⌜ r ≡ walked n s d (length (now (labels .entry))) rowBytes (labelIn (now (labels .entry))) ⌝ }
+// The walk from s to d for a job, for a caller who takes the row from the answer.
+pub fn walk(n: usize, job: usize, s: usize, d: usize, labels: &[u8]) -> Walked
+    ensures { λ r. ⌜ r ≡ walked n job s d (length (now (labels .entry))) rowBytes (labelFor n job (now (labels .entry))) ⌝ }
 {
-    walk_for(n, s, d, labels, ROW_BYTES)
+    walk_for(n, job, s, d, labels, ROW_BYTES)
 }

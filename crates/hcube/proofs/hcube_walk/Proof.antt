@@ -1,9 +1,7 @@
 -- `hcube_walk` writes the row and packs the answer of one walk.
 use mathlib.Core.Path.{ap, _∙_}
-use Prim.Native.Nat.{_^_}
 use lib.ListN.{length}
-use Rattle.cube.specs.Tables.{labelIn}
-use Rattle.jobs.specs.Jobs.{half}
+use Rattle.jobs.specs.Jobs.{labelFor}
 use Rattle.walk.specs.declared.Walked.{Walked}
 use Rattle.hcube.specs.Answers.{rowAfter, walkNumber}
 use Rattle.hcube.proofs.Small.{row-fits, walk-small}
@@ -17,13 +15,13 @@ walk-for-requires c κs = search needs
 write-row-requires : tie.Need-write-row-requires
 write-row-requires c κs =
     let a = c .before .before .before .before .args in
-    rw (c .before .walk-for .ensures) (row-fits (a .n) (a .job) (a .s) (a .d) (length (a .labels .now)) (length (a .row .now)) (labelIn (half (a .job) (2 ^ a .n) (a .labels .now))))
+    rw (c .before .walk-for .ensures) (row-fits (a .n) (a .job) (a .s) (a .d) (length (a .labels .now)) (length (a .row .now)) (labelFor (a .n) (a .job) (a .labels .now)))
 
 pack-walk-requires : tie.Need-pack-walk-requires
 pack-walk-requires c κs =
     let a = c .before .before .before .before .before .before .before .args in
     rw (c .before .before .before .before .walk-for .ensures)
-    (walk-small (a .n) (a .job) (a .s) (a .d) (length (a .labels .now)) (length (a .row .now)) (labelIn (half (a .job) (2 ^ a .n) (a .labels .now))))
+    (walk-small (a .n) (a .job) (a .s) (a .d) (length (a .labels .now)) (length (a .row .now)) (labelFor (a .n) (a .job) (a .labels .now)))
 
 same-length : tie.Need-same-length
 same-length c = search needs
