@@ -179,9 +179,9 @@ module _ (lib : Library) (F : Faithful lib) where
   -- ---- as before
 
   label-before :
-      {n rule j m : ℕ} {faults before after : List ℕ} {x : Labelled} → Job j → length before ≡ 2 * m → lib .labels (plain n rule faults) j before x after
+      {n rule j : ℕ} {faults before after : List ℕ} {x : Labelled} → Job j → (m : ℕ) → length before ≡ 2 * m → lib .labels (plain n rule faults) j before x after
       → (x ≡ labelledThen n rule faults m) × (half j m after ≡ labelsAfterThen n rule faults (half j m before))
-  label-before {n} {rule} {j} {m} {faults} {before} job long l =
+  label-before {n} {rule} {j} {faults} {before} job m long l =
       let f = F .labels l in
       let b = as-before j (job-below job) in (
         f .0 ∙ ap (L.labelled (plain n rule faults) j) long ∙ b .label n rule m faults,
@@ -231,10 +231,10 @@ module _ (lib : Library) (F : Faithful lib) where
         label-before = label-before;
         no-four = λ {n} {rule} {j} {e} {faults} m x.
             subst (λ (t : List ℕ). labelIn t x ≢ 4) (left m .bytes) (as-before 0 (omega arith) .no-four n rule faults x);
-        hop-before = λ {n} {j} {c} {d} {m} {buffer} v job long none.
+        hop-before = λ {n} {j} {c} {d} {buffer} v job m long none.
             F .hops v ∙ ap (λ (k : ℕ). H.hopped n j c d k (labelFor n j buffer)) long
             ∙ as-before j (job-below job) .hop n c d m (labelFor n j buffer) none;
-        walk-before = λ {n} {j} {s} {d} {m} {room} {buffer} v job long none.
+        walk-before = λ {n} {j} {s} {d} {room} {buffer} v job m long none.
             F .walks v ∙ ap (λ (k : ℕ). W.walked n j s d k room (labelFor n j buffer)) long
             ∙ as-before j (job-below job) .walk n s d m room (labelFor n j buffer) none;
       }

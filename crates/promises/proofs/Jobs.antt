@@ -2,7 +2,7 @@
 -- these are answered alike; and what labelling leaves is the buffer with another half of its own job.
 use mathlib.Core.List.{List}
 use mathlib.Core.Logic.{_≢_}
-use mathlib.Core.Path.{_≡_, refl, sym, ap, ap₂, _∙_}
+use mathlib.Core.Path.{_≡_, refl, sym, ap, ap₂, subst, _∙_}
 use Prim.Native.Nat.{ℕ, _*_, _^_, _<_}
 use native.Mathlib.Decide.{ℕ-discrete}
 use native.Mathlib.Omega.{arith}
@@ -68,16 +68,18 @@ module _ (K₀ K₁ : Cabinet) (e : K₀ .n ≡ K₁ .n) (l : List ℕ) where
 
   -- what one leaves is the same to the other
   to-0 : (t : List ℕ) → SameTo (K₀ .n) 0 t (labelsAfter K₁ 1 t)
-  to-0 t = rw e (other-same K₁ 1 0 (omega arith) (λ q. omega arith) t)
+  to-0 t = subst (λ (k : ℕ). SameTo k 0 t (labelsAfter K₁ 1 t)) (sym e) (other-same K₁ 1 0 (omega arith) (λ q. omega arith) t)
 
   to-1 : (t : List ℕ) → SameTo (K₁ .n) 1 t (labelsAfter K₀ 0 t)
-  to-1 t = rw (← e) (other-same K₀ 0 1 (omega arith) (λ q. omega arith) t)
+  to-1 t = subst (λ (k : ℕ). SameTo k 1 t (labelsAfter K₀ 0 t)) e (other-same K₀ 0 1 (omega arith) (λ q. omega arith) t)
 
   half-0 : half 0 size first-0 ≡ half 0 size first-1
   half-0 = sym (to-0 (labelsAfter K₀ 0 l) .own) ∙ own-same K₀ 0 l (labelsAfter K₁ 1 l) (to-0 l)
 
   half-1 : half 1 size first-0 ≡ half 1 size first-1
-  half-1 = rw e (sym (own-same K₁ 1 l (labelsAfter K₀ 0 l) (to-1 l)) ∙ to-1 (labelsAfter K₁ 1 l) .own)
+  half-1 =
+      ap (λ (k : ℕ). half 1 (2 ^ k) first-0) e ∙ sym (own-same K₁ 1 l (labelsAfter K₀ 0 l) (to-1 l)) ∙ to-1 (labelsAfter K₁ 1 l) .own
+      ∙ sym (ap (λ (k : ℕ). half 1 (2 ^ k) first-1) e)
 
   long-0 : length first-0 ≡ length l
   long-0 = length-kept K₁ 1 (labelsAfter K₀ 0 l) ∙ length-kept K₀ 0 l
@@ -160,8 +162,8 @@ module _ (lib : Library) (F : Faithful lib) (A : Answers lib) (D : Demands lib) 
 
   both : {K₀ K₁ : Cabinet} {e f : ℕ} {before l after : List ℕ} → K₀ .n ≡ K₁ .n → lib .labels K₀ 0 before (Exchanges e) l
       → lib .labels K₁ 1 l (Exchanges f) after → (half 0 (2 ^ K₀ .n) after ≡ labelsOf K₀) × (half 1 (2 ^ K₁ .n) after ≡ labelsOf K₁)
-  both e m₀ m₁ =
-      let s = rw (← e) at (unmoved-by (omega arith) (λ q. omega arith) m₁) in
+  both {l = l} {after = after} e m₀ m₁ =
+      let s = subst (λ (k : ℕ). SameTo k 0 l after) (sym e) (unmoved-by {j = 0} (omega arith) (λ q. omega arith) m₁) in
       (sym (s .own) ∙ D .labels-written m₀, D .labels-written m₁)
 
   either-order : {K₀ K₁ : Cabinet} {before l l′ after after′ : List ℕ} {x x′ y y′ : Labelled} → K₀ .n ≡ K₁ .n

@@ -129,11 +129,11 @@ pub record Demands (lib : Library) : Type 0 where
       → lib .walks (K .n) j s d old W.rowBytes v → lib .walks (K .n) j s d new W.rowBytes w → v .ending ≡ ending.Delivered → w .ending ≡ ending.Delivered
   -- with rule 2, where some node is safe no working node is strongly unsafe,
   pub none-strong :
-      (K : Cabinet) {j e : ℕ} {before buffer : List ℕ} → lib .labels (byRule 2 K) j before (labelled.Exchanges e) table
+      (K : Cabinet) {j e : ℕ} {before buffer : List ℕ} → lib .labels (byRule 2 K) j before (labelled.Exchanges e) buffer
       → NoneStrong (byRule 2 K) (labelFor (K .n) j buffer)
   -- so there no walk is longer than the distance and two more
   pub two-more :
-      (K : Cabinet) {j e s d : ℕ} {before buffer : List ℕ} {w : Walked} → lib .labels (byRule 2 K) j before (labelled.Exchanges e) table
+      (K : Cabinet) {j e s d : ℕ} {before buffer : List ℕ} {w : Walked} → lib .labels (byRule 2 K) j before (labelled.Exchanges e) buffer
       → SomeSafe (K .n) (labelFor (K .n) j buffer) → Works K s → Takes K d → lib .walks (K .n) j s d buffer W.rowBytes w
       → w .hops ≤ dist s d + 2
   -- ---- boards on which no node drains and the job closes none (document 02, A4 and A10): every answer is what it was, in the job's half of a buffer of two
@@ -141,7 +141,7 @@ pub record Demands (lib : Library) : Type 0 where
 
   -- labelling that is lent two empty tables answers what it did, and leaves in that half what it left,
   pub label-before :
-      {n rule j m : ℕ} {faults before after : List ℕ} {x : Labelled} → Job j → length before ≡ 2 * m → lib .labels (plain n rule faults) j before x after
+      {n rule j : ℕ} {faults before after : List ℕ} {x : Labelled} → Job j → (m : ℕ) → length before ≡ 2 * m → lib .labels (plain n rule faults) j before x after
       → (x ≡ labelledThen n rule faults m) × (half j m after ≡ labelsAfterThen n rule faults (half j m before))
   -- no label is 4 then,
   pub no-four :
@@ -149,8 +149,8 @@ pub record Demands (lib : Library) : Type 0 where
       → (x : ℕ) → labelFor n j buffer x ≢ 4
   -- and on labels without a 4 a hop and a walk are answered as they were
   pub hop-before :
-      {n j c d m : ℕ} {buffer : List ℕ} {x : Hopped} → lib .hops n j c d buffer x → Job j → length buffer ≡ 2 * m → ((k : ℕ) → labelFor n j buffer k ≢ 4)
+      {n j c d : ℕ} {buffer : List ℕ} {x : Hopped} → lib .hops n j c d buffer x → Job j → (m : ℕ) → length buffer ≡ 2 * m → ((k : ℕ) → labelFor n j buffer k ≢ 4)
       → x ≡ hoppedThen n c d m (labelFor n j buffer)
   pub walk-before :
-      {n j s d m room : ℕ} {buffer : List ℕ} {w : Walked} → lib .walks n j s d buffer room w → Job j → length buffer ≡ 2 * m
+      {n j s d room : ℕ} {buffer : List ℕ} {w : Walked} → lib .walks n j s d buffer room w → Job j → (m : ℕ) → length buffer ≡ 2 * m
       → ((k : ℕ) → labelFor n j buffer k ≢ 4) → w ≡ walkedThen n s d m room (labelFor n j buffer)
