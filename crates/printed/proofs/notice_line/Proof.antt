@@ -1,7 +1,10 @@
 -- `notice_line`: the refusal of the notice, or the first line with the labels of its cube, which fit their table.
-use mathlib.Core.Path.{sym, _∙_}
+use mathlib.Core.Path.{_≡_, sym, ap, _∙_}
+use Prim.Native.Nat.{ℕ, _≤_}
 use native.Mathlib.Omega.{arith}
-use lib.ListN.{length-take}
+use lib.ListN.{length, length-replicate, length-take, replicate, take}
+use Rattle.cube.proofs.Tables.{zeros-front}
+use Rattle.jobs.specs.Jobs.{labelBytes}
 use Rattle.printed.proofs.Heads.{Few, cube-head, few-nodes, labels-fit, refused-head}
 use borrow.Author.Needs.{needs}
 use Rattle.printed.proofs.notice_line.Statement.{statement}
@@ -30,14 +33,28 @@ refused-line-requires c κs = search needs
 enum-known-n : tie.Need-enum-known-n
 enum-known-n c = search needs
 
-nodes-requires : tie.Need-nodes-requires
-nodes-requires c κs = omega (arith, few (c .before))
+label-bytes-requires : tie.Need-label-bytes-requires
+label-bytes-requires c κs = omega (arith, few (c .before))
+
+-- the lent buffer has 8192 zeros, and the label buffer fits it
+abbrev origin : tie.After-label-bytes → tie.Start
+origin c = start (c .before .before .before .before .before .before)
+
+whole : (c : tie.After-label-bytes) → length (origin c .args .labels .now) ≡ 8192
+whole c = ap length (origin c .pre .1 .0) ∙ length-replicate {A = ℕ} 8192 0
+
+fits : (c : tie.After-label-bytes) → c .label-bytes .result ≤ 8192
+unfolding labelBytes
+fits c = omega (arith, few (c .before .before), c .label-bytes .ensures)
+
+zeros : (c : tie.After-label-bytes) → take (c .label-bytes .result) (origin c .args .labels .now) ≡ replicate (c .label-bytes .result) 0
+zeros c = ap (take (c .label-bytes .result)) (origin c .pre .1 .0) ∙ zeros-front (c .label-bytes .result) 8192 (fits c)
 
 slice-relend-prefix-first-line : tie.Need-slice-relend-prefix-first-line
-slice-relend-prefix-first-line c = omega (arith, few (c .before .before .before), c .before .nodes .ensures)
+slice-relend-prefix-first-line c = omega (arith, fits (c .before), whole (c .before))
 
 slice-aggregate-first-line : tie.Need-slice-aggregate-first-line
-slice-aggregate-first-line c = simp length-take (omega (arith, few (c .before .before .before .before), c .before .before .nodes .ensures))
+slice-aggregate-first-line c = simp length-take (omega (arith, fits (c .before .before), whole (c .before .before)))
 
 first-line-requires : tie.Need-first-line-requires
 first-line-requires c κs =
@@ -45,7 +62,7 @@ first-line-requires c κs =
     let n = size .before .before in
     let r = n .before .before .before .before in
     let fit = labels-fit _ _ (start r .pre .0) (sym (r .read .ensures .0) ∙ n .n .given .1) (r .read .ensures .1) in
-    (fit (simp length-take (omega (arith, few n, size .nodes .ensures))), search needs)
+    (fit (simp length-take (omega (arith, fits size, whole size, size .label-bytes .ensures))), search needs)
 
 same-length : tie.Need-same-length
 same-length c = search needs
@@ -75,7 +92,8 @@ returns-2 c =
     let size = l .before .before .before .before in
     let n = size .before .before in
     let r = n .before .before .before .before in
-    cube-head _ _ (start r .pre .0) (sym (r .read .ensures .0) ∙ n .n .given .1) (r .read .ensures .1) _ _ _ (size .nodes .ensures) (l .first-line .ensures)
+    cube-head _ _ (start r .pre .0) (sym (r .read .ensures .0) ∙ n .n .given .1) (r .read .ensures .1) _ _ _ _ (size .label-bytes .ensures)
+    (zeros size ∙ ap (λ (k : ℕ). replicate k 0) (size .label-bytes .ensures)) (l .first-line .ensures)
 
 pub notice-line-spec : {M : Type 1} → statement M
 notice-line-spec =
@@ -86,7 +104,7 @@ notice-line-spec =
     slice-aggregate-refused-line
     refused-line-requires
     enum-known-n
-    nodes-requires
+    label-bytes-requires
     slice-relend-prefix-first-line
     slice-aggregate-first-line
     first-line-requires
