@@ -19,7 +19,7 @@ static uint32_t refused(uint32_t refusal)
     return refusal << 24;
 }
 
-/* ---- labelling, in the lent buffer */
+/* ---- labelling, in the job's half of the lent buffer */
 
 /* Two faulty neighbours, or as many as the rule names that are faulty or marked:
  * a byte is what it weighs, and twice the rule is enough. A fresh one, 128,
@@ -61,49 +61,57 @@ static int has_safe_neighbour(uint32_t n, uint32_t k, const uint8_t *labels)
     return 0;
 }
 
-/* The table before the first exchange. A draining node counts as faulty until
- * the exchanges are over. */
+/* The half before the first exchange. A closed node is a faulty one; a draining
+ * node counts as one until the exchanges are over. */
 static void start(const uint8_t *faults, const uint8_t *draining,
-                  uint8_t *labels, size_t nodes)
+                  const uint8_t *closed, uint8_t *labels, size_t nodes)
 {
-    for (size_t k = 0; k < nodes; k++)
-        labels[k] = (faults[k / 8] | draining[k / 8]) >> (k % 8) & 1 ? FAULTY
-                                                                     : SAFE;
+    for (size_t k = 0; k < nodes; k++) {
+        unsigned out = faults[k / 8] | draining[k / 8] | closed[k / 8];
+        labels[k] = out >> (k % 8) & 1 ? FAULTY : SAFE;
+    }
 }
 
-/* Tells the draining nodes that are not faulty from those that are. */
+/* Tells the draining nodes that are neither faulty nor closed from the others. */
 static void put_draining(const uint8_t *faults, const uint8_t *draining,
-                         size_t bytes, uint8_t *labels)
+                         const uint8_t *closed, size_t bytes, uint8_t *labels)
 {
     for (size_t k = 0; k < bytes; k++)
-        for (unsigned alone = draining[k] & ~faults[k]; alone;
+        for (unsigned alone = draining[k] & ~(faults[k] | closed[k]); alone;
              alone &= alone - 1)
             labels[8 * k + (size_t)__builtin_ctz(alone)] = DRAINING;
 }
 
-uint32_t NAME(label)(uint32_t n, uint32_t rule, const uint8_t *faults,
-                     size_t faults_len, const uint8_t *draining,
-                     size_t draining_len, uint8_t *labels, size_t labels_len)
+uint32_t NAME(label)(uint32_t n, uint32_t rule, uint32_t job,
+                     const uint8_t *faults, size_t faults_len,
+                     const uint8_t *draining, size_t draining_len,
+                     const uint8_t *closed, size_t closed_len,
+                     uint8_t *labels, size_t labels_len)
 {
     uint32_t exchanges = 1;
+    size_t nodes;
     if (n < 1 || n > 12)
         return refused(1);
     if (rule < 2 || rule > 3)
         return refused(18);
-    if (faults_len != ((1u << n) + 7) / 8 || draining_len != faults_len ||
-        labels_len != 1u << n)
+    if (job > 1)
+        return refused(19);
+    nodes = (size_t)1 << n;
+    if (faults_len != (nodes + 7) / 8 || draining_len != faults_len ||
+        closed_len != faults_len || labels_len != 2 * nodes)
         return refused(2);
-    if (n < 3 && (faults[0] | draining[0]) >> (1u << n))
+    if (n < 3 && (faults[0] | draining[0] | closed[0]) >> nodes)
         return refused(3);
-    start(faults, draining, labels, labels_len);
-    while (sweep(n, rule, labels, labels_len)) {
-        settle(labels, labels_len);
+    labels += job * nodes;
+    start(faults, draining, closed, labels, nodes);
+    while (sweep(n, rule, labels, nodes)) {
+        settle(labels, nodes);
         exchanges++;
     }
-    for (uint32_t k = 0; k < labels_len; k++)
+    for (uint32_t k = 0; k < nodes; k++)
         if (labels[k] == MARKED && has_safe_neighbour(n, k, labels))
             labels[k] = ORDINARY;
-    put_draining(faults, draining, draining_len, labels);
+    put_draining(faults, draining, closed, closed_len, labels);
     return exchanges;
 }
 
@@ -169,17 +177,20 @@ static uint32_t chosen(uint32_t n, uint32_t forward,
     return scan(n, spare, ORDINARY, around);
 }
 
-uint32_t NAME(hop)(uint32_t n, uint32_t c, uint32_t d, const uint8_t *labels,
-                   size_t labels_len)
+uint32_t NAME(hop)(uint32_t n, uint32_t job, uint32_t c, uint32_t d,
+                   const uint8_t *labels, size_t labels_len)
 {
     struct around around;
     uint32_t i;
     if (n < 1 || n > 12)
         return refused(1);
-    if (labels_len != 1u << n)
+    if (job > 1)
+        return refused(19);
+    if (labels_len != 2u << n)
         return refused(2);
     if (c >> n || d >> n)
         return refused(5);
+    labels += (size_t)job << n;
     if (!gather(n, c, labels, &around))
         return refused(4);
     if (around.own == FAULTY || (around.own == DRAINING && c != d))
@@ -192,19 +203,23 @@ uint32_t NAME(hop)(uint32_t n, uint32_t c, uint32_t d, const uint8_t *labels,
 
 /* ---- walk */
 
-uint32_t NAME(walk)(uint32_t n, uint32_t s, uint32_t d, const uint8_t *labels,
-                    size_t labels_len, uint8_t *row, size_t row_len)
+uint32_t NAME(walk)(uint32_t n, uint32_t job, uint32_t s, uint32_t d,
+                    const uint8_t *labels, size_t labels_len,
+                    uint8_t *row, size_t row_len)
 {
     uint16_t places[17] = {0};
     uint32_t hops = 0, c = s, i;
     struct around around;
     if (n < 1 || n > 12)
         return refused(1);
-    if (labels_len != 1u << n || row_len != 34)
+    if (job > 1)
+        return refused(19);
+    if (labels_len != 2u << n || row_len != 34)
         return refused(2);
     if (s >> n || d >> n)
         return refused(5);
-    if (!all_labels(labels, labels_len))
+    labels += (size_t)job << n;
+    if (!all_labels(labels, (size_t)1 << n))
         return refused(4);
     if (labels[s] >= FAULTY)
         return refused(6);
