@@ -1,6 +1,7 @@
 /*
  * An example of a kernel module that calls the routing functions of hcube.h; the calls are in stored.c. At load it
- * labels each stored cube, asks hop and walk for all pairs, compares with the stored answers and prints one line.
+ * labels each stored cube for both jobs in one buffer, asks hop and walk for all pairs of either, compares with the
+ * stored answers and prints one line.
  */
 #include <linux/init.h>
 #include <linux/kernel.h>
@@ -8,14 +9,28 @@
 #include <linux/slab.h>
 
 #include "hcube_hammer.h"
+#include "hcube_jobs.h"
 #include "stored.h"
 
-/* Labels the cube and compares; returns how many answers are wrong. */
+/* Labels one job; neither it nor the other one, which was labelled before, has a wrong label then. */
+static size_t __init wrong_labels(const struct hcube_cube *cube, uint32_t job, uint8_t *labels)
+{
+	const struct hcube_closing *closings = cube->closings;
+
+	return !hcube_labels_are_right(cube, job, &closings[job], labels) +
+	       !hcube_half_is_right(cube, !job, &closings[!job], labels);
+}
+
+/* Labels the cube for both jobs, one of them once more, and compares; returns how many answers are wrong. */
 static size_t __init wrong_answers(const struct hcube_cube *cube, uint8_t *labels)
 {
-	size_t wrong = !hcube_labels_are_right(cube, labels);
+	size_t wrong = !hcube_labels_are_right(cube, 0, &cube->closings[0], labels);
+	uint32_t job;
 
-	wrong += hcube_wrong_pairs(cube, labels);
+	wrong += wrong_labels(cube, 1, labels);
+	wrong += wrong_labels(cube, 0, labels);
+	for (job = 0; job < HCUBE_JOBS; job++)
+		wrong += hcube_wrong_pairs(cube, job, &cube->closings[job], labels);
 	if (wrong)
 		pr_err("hcube_example: %zu wrong answers in the cube %s\n", wrong, cube->name);
 	return wrong;
@@ -23,18 +38,21 @@ static size_t __init wrong_answers(const struct hcube_cube *cube, uint8_t *label
 
 static int __init hcube_example_init(void)
 {
-	uint8_t *labels = kmalloc(HCUBE_MOST_NODES, GFP_KERNEL); /* too much for the kernel's stack at n = 12 */
+	uint8_t *labels = kmalloc(HCUBE_LABEL_BYTES(12), GFP_KERNEL); /* too much for the kernel's stack */
 	size_t k, pairs = 0, wrong = 0;
+	int error;
 
 	if (!labels)
 		return -ENOMEM;
 	for (k = 0; k < hcube_stored_count; k++) {
 		wrong += wrong_answers(&hcube_stored[k], labels);
-		pairs += hcube_pairs(&hcube_stored[k]);
+		pairs += HCUBE_JOBS * hcube_pairs(&hcube_stored[k]);
 	}
 	kfree(labels);
-	pr_info("hcube_example: %zu cubes labelled, %zu pairs compared, %zu wrong\n", hcube_stored_count, pairs, wrong);
-	return wrong ? -EIO : hcube_hammer_start();
+	pr_info("hcube_example: %zu cubes labelled for two jobs, %zu pairs compared, %zu wrong\n", hcube_stored_count,
+		pairs, wrong);
+	error = wrong ? -EIO : hcube_jobs_compare();
+	return error ? error : hcube_hammer_start();
 }
 
 static void __exit hcube_example_exit(void)

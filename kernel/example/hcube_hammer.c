@@ -1,7 +1,8 @@
 /*
  * The load of kernel/test; a driver needs nothing of it. Whoever writes a number of milliseconds to
  * /proc/hcube_hammer has all stored answers compared again and again for that long, in his own process and
- * with interrupts on, while a timer interrupts every 100 microseconds and compares a pair itself, of each cube in turn.
+ * with interrupts on, while a timer interrupts every 100 microseconds and compares a pair itself, of each cube and of
+ * either job in turn.
  */
 #include <linux/atomic.h>
 #include <linux/hrtimer.h>
@@ -23,17 +24,18 @@ static atomic64_t pairs, interrupts, wrong;
 struct hammer {
 	struct hrtimer timer;
 	uint32_t turn;
-	uint8_t labels[HCUBE_MOST_NODES];
+	uint8_t labels[HCUBE_LABEL_BYTES(12)];
 };
 
 static enum hrtimer_restart interrupted(struct hrtimer *timer)
 {
 	struct hammer *hammer = container_of(timer, struct hammer, timer);
-	const struct hcube_cube *cube = &hcube_stored[hammer->turn % hcube_stored_count];
-	uint32_t nodes = hcube_nodes(cube), pair = hammer->turn / hcube_stored_count % (nodes * nodes);
+	uint32_t job = hammer->turn % HCUBE_JOBS, turn = hammer->turn / HCUBE_JOBS;
+	const struct hcube_cube *cube = &hcube_stored[turn % hcube_stored_count];
+	uint32_t nodes = HCUBE_NODES(cube->n), pair = turn / hcube_stored_count % (nodes * nodes);
 
 	hammer->turn++;
-	if (!hcube_pair_is_right(cube, cube->labels, pair / nodes, pair % nodes))
+	if (!hcube_pair_is_right(cube, job, &cube->closings[job], cube->labels, pair / nodes, pair % nodes))
 		atomic64_inc(&wrong);
 	atomic64_inc(&interrupts);
 	hrtimer_forward_now(timer, HAMMER_PERIOD);
@@ -51,14 +53,15 @@ static void set_up(struct hammer *hammer)
 }
 
 /* Labelling takes its turns too: about a tenth of the time. */
-static void compare(const struct hcube_cube *cube, uint8_t *labels)
+static void compare(const struct hcube_cube *cube, uint32_t job, uint8_t *labels)
 {
+	const struct hcube_closing *closing = &cube->closings[job];
 	int turn;
 
 	for (turn = 0; turn < 10; turn++)
-		if (!hcube_labels_are_right(cube, labels))
+		if (!hcube_labels_are_right(cube, job, closing, labels))
 			atomic64_inc(&wrong);
-	atomic64_add(hcube_wrong_pairs(cube, labels), &wrong);
+	atomic64_add(hcube_wrong_pairs(cube, job, closing, labels), &wrong);
 	atomic64_add(hcube_pairs(cube), &pairs);
 }
 
@@ -69,7 +72,8 @@ static void compare_for(unsigned int milliseconds, uint8_t *labels)
 
 	while (time_before(jiffies, end) && !fatal_signal_pending(current))
 		for (k = 0; k < hcube_stored_count; k++) {
-			compare(&hcube_stored[k], labels);
+			compare(&hcube_stored[k], 0, labels);
+			compare(&hcube_stored[k], 1, labels);
 			cond_resched();
 		}
 }

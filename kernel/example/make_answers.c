@@ -9,29 +9,40 @@
 
 enum { NODES = 64, UNTOUCHED = 0xaa };
 
+struct list {
+	int count;
+	uint8_t nodes[7];
+};
+
 struct cube {
 	const char *name;
 	uint32_t n, rule;
-	int count; /* of faulty nodes; below 0: the label bytes are given */
-	uint8_t given[NODES / 4];
-	int drained; /* how many nodes are draining */
-	uint8_t draining[NODES / 8];
+	struct list faults, draining, closed[2]; /* job 0 closes the first, job 1 the second */
+	const uint8_t *given; /* if not NULL, these are the labels of both jobs, and nothing is labelled */
 };
 
+static const uint8_t swinging[] = { 0, 3, 3, 0, 0, 3, 3, 0, 0, 0, 0, 3, 0, 9, 1, 2 };
+static const uint8_t byte_5[] = { 0, 4, 0, 3, 0, 5, 1, 4, 0, 3, 3, 4, 0, 4, 4, 0 };
+
 static const struct cube cubes[] = {
-	{ "k4", 4, 3, 4, { 2, 4, 8, 15 }, 0, { 0 } },
-	{ "k4_older_rule", 4, 2, 4, { 2, 4, 8, 15 }, 0, { 0 } },
-	{ "six", 6, 3, 7, { 0, 13, 23, 38, 47, 48, 58 }, 0, { 0 } }, /* every kind but draining, and 18 exchanges */
-	{ "six_older_rule", 6, 2, 4, { 4, 25, 44, 48 }, 0, { 0 } }, /* half of the nodes safe, and 9 exchanges */
-	{ "no_safe_node", 3, 3, 3, { 1, 2, 4 }, 0, { 0 } },
-	{ "swinging", 3, 3, -1, { 0, 3, 3, 0, 0, 3, 3, 0 }, 0, { 0 } },
-	{ "bad_byte", 3, 3, -1, { 0, 0, 0, 3, 0, 9, 1, 2 }, 0, { 0 } },
-	{ "k4_drained", 4, 3, 3, { 2, 4, 8 }, 1, { 15 } },
-	{ "k4_around", 4, 3, 4, { 2, 4, 8, 15 }, 1, { 9 } }, /* 13 to 0 goes around 9 */
-	{ "six_drained", 6, 3, 4, { 0, 13, 23, 47 }, 4, { 13, 38, 48, 58 } }, /* every kind of node; 13 is in both */
-	{ "no_safe_drained", 3, 2, 2, { 1, 4 }, 1, { 2 } },
-	{ "swinging_drained", 3, 3, -1, { 0, 3, 3, 4, 0, 4, 4, 0 }, 0, { 0 } },
-	{ "byte_5", 3, 3, -1, { 0, 4, 0, 3, 0, 5, 1, 4 }, 0, { 0 } },
+	{ "two", 1, 3, { 0 }, { 0 }, { { 0 }, { 1, { 0 } } } }, /* both halves in one word */
+	{ "two_drained", 1, 2, { 0 }, { 1, { 1 } }, { { 1, { 0 } }, { 1, { 1 } } } },
+	{ "four", 2, 3, { 0 }, { 1, { 3 } }, { { 2, { 1, 2 } }, { 1, { 3 } } } },
+	{ "k4", 4, 3, { 4, { 2, 4, 8, 15 } }, { 0 }, { { 0 }, { 1, { 3 } } } },
+	{ "k4_older_rule", 4, 2, { 4, { 2, 4, 8, 15 } }, { 0 }, { { 1, { 3 } }, { 0 } } },
+	{ "k4_by_closing", 4, 3, { 0 }, { 0 }, { { 4, { 2, 4, 8, 15 } }, { 1, { 5 } } } },
+	{ "k4_drained", 4, 3, { 3, { 2, 4, 8 } }, { 1, { 15 } }, { { 0 }, { 1, { 15 } } } },
+	{ "k4_around", 4, 3, { 4, { 2, 4, 8, 15 } }, { 1, { 9 } }, { { 0 }, { 2, { 9, 11 } } } }, /* 13 to 0 goes around 9 */
+	/* Every kind of node but draining; 18 exchanges of job 0. */
+	{ "six", 6, 3, { 7, { 0, 13, 23, 38, 47, 48, 58 } }, { 0 }, { { 0 }, { 1, { 28 } } } },
+	/* Half of the nodes safe; 9 exchanges of job 0. */
+	{ "six_older_rule", 6, 2, { 4, { 4, 25, 44, 48 } }, { 0 }, { { 0 }, { 1, { 1 } } } },
+	/* Every kind of node; 13 is faulty and draining, and job 0 closes a draining one. */
+	{ "six_drained", 6, 3, { 4, { 0, 13, 23, 47 } }, { 4, { 13, 38, 48, 58 } }, { { 2, { 12, 48 } }, { 0 } } },
+	{ "no_safe_node", 3, 3, { 3, { 1, 2, 4 } }, { 0 }, { { 0 }, { 1, { 7 } } } },
+	{ "no_safe_drained", 3, 2, { 2, { 1, 4 } }, { 1, { 2 } }, { { 1, { 2 } }, { 2, { 0, 7 } } } },
+	{ .name = "swinging", .n = 3, .rule = 3, .given = swinging }, /* a byte above 4 for job 1 alone */
+	{ .name = "byte_5", .n = 3, .rule = 3, .given = byte_5 }, /* and for job 0 alone */
 };
 
 enum { CUBES = sizeof cubes / sizeof cubes[0] };
@@ -53,65 +64,88 @@ static void print_table(const char *cube, const char *name, const uint8_t *bytes
 	printf(";\n");
 }
 
-static void put_nodes(const uint8_t *nodes, int count, uint8_t *table)
+static void put_nodes(const struct list *list, uint8_t *table)
 {
-	for (; count > 0; count--, nodes++)
-		table[*nodes / 8] |= 1 << *nodes % 8;
+	int k;
+
+	memset(table, 0, NODES / 8);
+	for (k = 0; k < list->count; k++)
+		table[list->nodes[k] / 8] |= 1 << list->nodes[k] % 8;
 }
 
-/* Prints the tables of the cube and leaves its labels; returns the answer of labelling. */
-static uint32_t print_labels(const struct cube *cube, uint8_t *labels)
+/* Prints the tables of the cube, and leaves its labels and the answers of labelling. */
+static void print_labels(const struct cube *cube, uint8_t *labels, uint32_t *answers)
 {
-	uint8_t faults[NODES / 8] = { 0 }, draining[NODES / 8] = { 0 };
-	size_t size = (size_t)1 << cube->n, len = ref_fault_bytes(cube->n);
-	uint32_t answer = 0;
+	uint8_t faults[NODES / 8], draining[NODES / 8], closed[2][NODES / 8];
+	size_t size = ref_label_bytes(cube->n), len = ref_fault_bytes(cube->n);
+	uint32_t job;
 
-	memcpy(labels, cube->given, size < sizeof cube->given ? size : sizeof cube->given);
-	if (cube->count >= 0) {
-		put_nodes(cube->given, cube->count, faults);
-		put_nodes(cube->draining, cube->drained, draining);
-		answer = ref_label(cube->n, cube->rule, faults, len, draining, len, labels, size);
+	put_nodes(&cube->faults, faults);
+	put_nodes(&cube->draining, draining);
+	for (job = 0; job < 2; job++) {
+		put_nodes(&cube->closed[job], closed[job]);
+		answers[job] = ref_label(cube->n, cube->rule, job, faults, len, draining, len, closed[job], len, labels,
+					 size);
 	}
+	if (cube->given)
+		memcpy(labels, cube->given, size);
 	print_table(cube->name, "faults", faults, len);
 	print_table(cube->name, "draining", draining, len);
+	print_table(cube->name, "closed_0", closed[0], len);
+	print_table(cube->name, "closed_1", closed[1], len);
 	print_table(cube->name, "labels", labels, size);
-	return answer;
 }
 
 /* All pairs, and those with an end that is one above the last node. */
-static void print_pairs(const struct cube *cube, const uint8_t *labels)
+static void print_pairs(const struct cube *cube, uint32_t job, const uint8_t *labels)
 {
-	uint32_t size = 1u << cube->n, s, d;
+	uint32_t nodes = 1u << cube->n, s, d;
+	size_t size = ref_label_bytes(cube->n);
 	uint8_t row[ROW_BYTES];
 
-	printf("static const struct hcube_answer %s_answers[] = {\n", cube->name);
-	for (s = 0; s <= size; s++)
-		for (d = 0; d <= size; d++) {
+	printf("static const struct hcube_answer %s_answers_%u[] = {\n", cube->name, job);
+	for (s = 0; s <= nodes; s++)
+		for (d = 0; d <= nodes; d++) {
 			memset(row, UNTOUCHED, sizeof row);
-			printf("{%u,", ref_hop(cube->n, s, d, labels, size));
-			printf("%u,", ref_walk(cube->n, s, d, labels, size, row, sizeof row));
+			printf("{%u,", ref_hop(cube->n, job, s, d, labels, size));
+			printf("%u,", ref_walk(cube->n, job, s, d, labels, size, row, sizeof row));
 			print_bytes(row, sizeof row);
 			printf("},\n");
 		}
 	printf("};\n");
 }
 
+static void print_closing(const struct cube *cube, uint32_t job, uint32_t answer)
+{
+	printf("{%s_closed_%u, %u, %s_labels + %u, %s_answers_%u}", cube->name, job, answer, cube->name, job << cube->n,
+	       cube->name, job);
+}
+
+static void print_cube(const struct cube *cube, const uint32_t *answers)
+{
+	printf("{\"%s\", %u, %u, %d, %s_faults, %s_draining, sizeof(%s_faults), %s_labels, {", cube->name, cube->n,
+	       cube->rule, !cube->given, cube->name, cube->name, cube->name, cube->name);
+	print_closing(cube, 0, answers[0]);
+	printf(", ");
+	print_closing(cube, 1, answers[1]);
+	printf("}},\n");
+}
+
 int main(void)
 {
-	static uint8_t labels[NODES];
-	uint32_t answers[CUBES];
+	static uint8_t labels[2 * NODES];
+	static uint32_t answers[CUBES][2];
 	int k;
 
 	printf("/* Written by make_answers. */\n");
 	for (k = 0; k < CUBES; k++) {
-		answers[k] = print_labels(&cubes[k], labels);
-		print_pairs(&cubes[k], labels);
+		print_labels(&cubes[k], labels, answers[k]);
+		print_pairs(&cubes[k], 0, labels);
+		print_pairs(&cubes[k], 1, labels);
 	}
 	printf("static const struct hcube_cube hcube_cubes[] = {\n");
 	for (k = 0; k < CUBES; k++)
-		printf("{\"%s\", %u, %u, %d, %u, %s_faults, %s_draining, sizeof(%s_faults), %s_labels, %s_answers},\n",
-		       cubes[k].name, cubes[k].n, cubes[k].rule, cubes[k].count >= 0, answers[k], cubes[k].name,
-		       cubes[k].name, cubes[k].name, cubes[k].name, cubes[k].name);
+		print_cube(&cubes[k], answers[k]);
 	printf("};\n");
 	return 0;
 }

@@ -12,39 +12,54 @@
 const struct hcube_cube *const hcube_stored = hcube_cubes;
 const size_t hcube_stored_count = ARRAY_SIZE(hcube_cubes);
 
-bool hcube_pair_is_right(const struct hcube_cube *cube, const uint8_t *labels, uint32_t s, uint32_t d)
+uint32_t hcube_label_stored(const struct hcube_cube *cube, uint32_t job, const struct hcube_closing *closing,
+			    uint8_t *labels)
 {
-	size_t nodes = hcube_nodes(cube);
-	const struct hcube_answer *stored = &cube->answers[s * (nodes + 1) + d];
+	return hcube_label(cube->n, cube->rule, job, cube->faults, cube->table_len, cube->draining, cube->table_len,
+			   closing->closed, cube->table_len, labels, HCUBE_LABEL_BYTES(cube->n));
+}
+
+bool hcube_half_is_right(const struct hcube_cube *cube, uint32_t job, const struct hcube_closing *closing,
+			 const uint8_t *labels)
+{
+	return memcmp(labels + HCUBE_HALF(cube->n, job), closing->half, HCUBE_NODES(cube->n)) == 0;
+}
+
+bool hcube_labels_are_right(const struct hcube_cube *cube, uint32_t job, const struct hcube_closing *closing,
+			    uint8_t *labels)
+{
+	uint8_t *half = labels + HCUBE_HALF(cube->n, job);
+
+	if (!cube->has_tables) {
+		memcpy(half, closing->half, HCUBE_NODES(cube->n));
+		return true;
+	}
+	memset(half, HCUBE_UNTOUCHED, HCUBE_NODES(cube->n));
+	return hcube_label_stored(cube, job, closing, labels) == closing->label &&
+	       hcube_half_is_right(cube, job, closing, labels);
+}
+
+bool hcube_pair_is_right(const struct hcube_cube *cube, uint32_t job, const struct hcube_closing *closing,
+			 const uint8_t *labels, uint32_t s, uint32_t d)
+{
+	const struct hcube_answer *stored = &closing->answers[s * (HCUBE_NODES(cube->n) + 1) + d];
+	size_t bytes = HCUBE_LABEL_BYTES(cube->n);
 	uint8_t row[HCUBE_ROW_BYTES];
 
 	memset(row, HCUBE_UNTOUCHED, sizeof(row));
-	return hcube_hop(cube->n, s, d, labels, nodes) == stored->hop &&
-	       hcube_walk(cube->n, s, d, labels, nodes, row, sizeof(row)) == stored->walk &&
+	return hcube_hop(cube->n, job, s, d, labels, bytes) == stored->hop &&
+	       hcube_walk(cube->n, job, s, d, labels, bytes, row, sizeof(row)) == stored->walk &&
 	       memcmp(row, stored->row, sizeof(row)) == 0;
 }
 
-size_t hcube_wrong_pairs(const struct hcube_cube *cube, const uint8_t *labels)
+size_t hcube_wrong_pairs(const struct hcube_cube *cube, uint32_t job, const struct hcube_closing *closing,
+			 const uint8_t *labels)
 {
 	size_t wrong = 0;
 	uint32_t s, d;
 
-	for (s = 0; s <= hcube_nodes(cube); s++)
-		for (d = 0; d <= hcube_nodes(cube); d++)
-			wrong += !hcube_pair_is_right(cube, labels, s, d);
+	for (s = 0; s <= HCUBE_NODES(cube->n); s++)
+		for (d = 0; d <= HCUBE_NODES(cube->n); d++)
+			wrong += !hcube_pair_is_right(cube, job, closing, labels, s, d);
 	return wrong;
-}
-
-bool hcube_labels_are_right(const struct hcube_cube *cube, uint8_t *labels)
-{
-	size_t nodes = hcube_nodes(cube);
-
-	if (!cube->has_tables) {
-		memcpy(labels, cube->labels, nodes);
-		return true;
-	}
-	memset(labels, HCUBE_UNTOUCHED, nodes);
-	return hcube_label(cube->n, cube->rule, cube->faults, cube->table_len, cube->draining, cube->table_len, labels,
-			   nodes) == cube->label &&
-	       memcmp(labels, cube->labels, nodes) == 0;
 }
