@@ -18,7 +18,7 @@
 #include "hcube_jobs.h"
 #include "stored.h"
 
-/* A trial ends when so many comparisons were made meanwhile: soon, where each side has a processor of the machine's. */
+/* A trial ends once so many comparisons were made meanwhile, or when its time is over. */
 enum { TRIAL_LEAST_MS = 50, TRIAL_MOST_MS = 500, TRIAL_MEANWHILE = 2000 };
 
 struct side {
@@ -41,7 +41,7 @@ struct trial {
 
 struct counts {
 	unsigned long labellings, questions, meanwhile, wrong;
-	unsigned long least; /* made meanwhile, of any side that should make some */
+	unsigned long least; /* made meanwhile in a trial */
 };
 
 static bool relabelling_is_right(struct side *side)
@@ -125,7 +125,7 @@ static int make_threads(struct side *sides)
 	return 0;
 }
 
-/* What was made meanwhile by the side that made least of it, of those whose other side is labelled. */
+/* The fewest that a side made meanwhile, of those whose other side is labelled. */
 static unsigned long least_meanwhile(const struct side *sides)
 {
 	unsigned long least = ULONG_MAX;
