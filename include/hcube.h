@@ -7,21 +7,41 @@
  * Fault table: one bit a node, node k in byte k / 8 at bit k % 8 (bit 0 is the
  * lowest), HCUBE_FAULT_BYTES(n) bytes; for n = 1 and 2 the unused high bits
  * are zero. Draining table: the same, for nodes under withdrawal, which still
- * take what is addressed to them and forward nothing. A node in both is faulty;
- * one in neither works. Label table: one byte a node, HCUBE_NODES(n) bytes.
+ * take what is addressed to them and forward nothing. Two jobs, 0 and 1, share
+ * these. Closed table: the same, for the nodes that one job closes for its own
+ * traffic. For a job a node is faulty if it is in the fault table or in the
+ * job's closed table, draining if it is in the draining table alone, and works
+ * if it is in none of the three.
+ *
+ * Label buffer: both jobs' label tables, HCUBE_LABEL_BYTES(n) bytes. The half
+ * of job 0 stands first, then that of job 1; each has one byte a node,
+ * HCUBE_NODES(n) bytes. A call names its job, and "the label of a node" is the
+ * one in that job's half.
  *
  * What holds for every call:
  * - A pointer is not null and its bytes may be read (where it is not const,
  *   also written) for the whole length given beside it, also when that length
  *   is a wrong one. Length 0 is allowed, with any pointer that is not null.
- * - A buffer that is not const shares no byte with another, and nobody else
- *   changes a lent buffer during the call. Nothing of it is kept after the call.
- * - A const buffer never changes, and no byte outside a buffer is written.
+ * - A buffer that is not const shares no byte with another of the same call.
+ *   Nobody else changes a lent buffer during the call, but for the other job's
+ *   half of a label buffer. Nothing of a buffer is kept after the call.
+ * - The call writes to no const buffer, to no byte outside its buffers, and to
+ *   no byte of the other job's half.
  * - Refusals are tested in the order in which they are listed; the first that
  *   applies is the answer, with zero in every other field; only a refused
- *   notice has a value, the place of the number concerned. On a refusal no
- *   byte of any buffer changes.
+ *   notice has a value, the place of the number concerned. On a refusal
+ *   the call changes no byte of any buffer.
  * - Every input has one answer. There is no state, no allocation, no lock.
+ *
+ * What may be done at the same time, on several processors:
+ * - A job's half is that job's alone. A call for the other job reads and writes
+ *   no byte of it, whatever it holds and whether or not it changes meanwhile.
+ *   So in one label buffer one job may be labelled while the other is labelled,
+ *   hops or walks.
+ * - Within one job, any number of hops and walks may go on at once. While the
+ *   job is labelled nobody else reads or changes its half.
+ * - The tables that are lent to labelling may be lent to both jobs at once.
+ *   Nobody changes them meanwhile.
  */
 #ifndef HCUBE_H
 #define HCUBE_H
@@ -37,16 +57,22 @@
 extern "C" {
 #endif
 
-/* Sizes in bytes: of a label table, a fault or draining table, a walk's row. */
+/* Sizes in bytes: of one job's labels, a label buffer with both jobs' halves, a
+ * fault, draining or closed table, a walk's row. */
 #define HCUBE_NODES(n) ((size_t)1 << (n))
+#define HCUBE_LABEL_BYTES(n) (2 * HCUBE_NODES(n))
 #define HCUBE_FAULT_BYTES(n) ((HCUBE_NODES(n) + 7) / 8)
 #define HCUBE_ROW_BYTES 34
+
+/* Where the half of job 0 or 1 begins in a label buffer, in bytes: the label of
+ * node k is labels[HCUBE_HALF(n, job) + k]. */
+#define HCUBE_HALF(n, job) ((size_t)(job) * HCUBE_NODES(n))
 
 /* Labels. */
 #define HCUBE_SAFE 0
 #define HCUBE_ORDINARY 1 /* ordinarily unsafe: some neighbour is safe */
 #define HCUBE_STRONG 2   /* strongly unsafe: no neighbour is safe */
-#define HCUBE_FAULTY 3
+#define HCUBE_FAULTY 3   /* or closed by the job */
 #define HCUBE_DRAINING 4 /* forwards nothing, but may be a destination */
 
 /* Rules by which nodes are labelled. The number says how many neighbours that
@@ -58,8 +84,8 @@ extern "C" {
 #define HCUBE_ACCEPTED 0
 #define HCUBE_BAD_DIMENSION 1    /* dimension not 1 to 12 */
 #define HCUBE_BAD_LENGTH 2       /* a lent buffer is not exactly its length */
-#define HCUBE_UNUSED_BIT 3       /* unused bit set: fault or draining table */
-#define HCUBE_BAD_LABEL 4        /* a label byte above 4 */
+#define HCUBE_UNUSED_BIT 3       /* unused bit set: one of the three tables */
+#define HCUBE_BAD_LABEL 4        /* a label byte above 4, in the job's half */
 #define HCUBE_BAD_NODE 5         /* a node number is 2^n or more */
 #define HCUBE_FAULTY_SOURCE 6    /* source or current node has label 3 or 4; a
                                   * hop at a draining destination delivers */
@@ -70,6 +96,7 @@ extern "C" {
 #define HCUBE_BAD_COUNT 11       /* count above 2^n */
 #define HCUBE_BAD_ADDRESS 12     /* an address is 2^n or more */
 #define HCUBE_BAD_RULE 18        /* the rule's number is not 2 or 3 */
+#define HCUBE_BAD_JOB 19         /* the job's number is not 0 or 1 */
 
 /* Kinds of a hop's answer. */
 #define HCUBE_DELIVER 0
@@ -92,9 +119,11 @@ extern "C" {
 #define HCUBE_NOTICE_COUNT(answer) (((answer) >> 32) & 0xffff)
 
 /*
- * Labels every node of the cube whose faulty nodes `faults` gives and whose
- * draining nodes `draining` gives. A node in `faults` gets label 3, in both
- * tables or not; a node in `draining` alone gets label 4. The others work.
+ * Labels every node of the cube for one job, into that job's half of `labels`.
+ * `faults` gives the faulty nodes of the cabinet, `draining` the draining ones,
+ * and `closed` those that this job closes. A node in `faults` or in `closed`
+ * counts as faulty and gets label 3, in `draining` or not; a node in `draining`
+ * alone gets label 4. The others work.
  *
  * A working node is unsafe if it has two or more faulty neighbours, or `rule`
  * or more that are faulty or unsafe, where a draining neighbour counts as
@@ -106,7 +135,10 @@ extern "C" {
  *
  * So the number of exchanges and the labels of working nodes are the same as if
  * the draining nodes were faulty. Where no bit of `draining` is set, answer and
- * labels are those of the faults alone, and no label is 4.
+ * labels are those of the faulty nodes alone, and no label is 4. Answer and
+ * labels are those of a cabinet of the job's own, with nothing closed, whose
+ * fault table has the bits of `faults` and those of `closed`. They are the same
+ * whatever the other job closes, and in whichever order the jobs are labelled.
  *
  * From HCUBE_RULE_LEE_HAYES to HCUBE_RULE_CHIU_WU a node that is safe stays
  * safe, no label grows, and a walk that was delivered still is. With
@@ -116,29 +148,33 @@ extern "C" {
  * Refusals, in order:
  *   1   n is not 1 to 12
  *   18  rule is not HCUBE_RULE_LEE_HAYES or HCUBE_RULE_CHIU_WU
- *   2   faults_len or draining_len is not HCUBE_FAULT_BYTES(n), or labels_len
- *       not HCUBE_NODES(n)
- *   3   n is 1 or 2 and a bit for a node of 2^n or more is set in `faults` or
- *       in `draining`
+ *   19  job is not 0 or 1
+ *   2   faults_len, draining_len or closed_len is not HCUBE_FAULT_BYTES(n), or
+ *       labels_len not HCUBE_LABEL_BYTES(n)
+ *   3   n is 1 or 2 and a bit for a node of 2^n or more is set in `faults`, in
+ *       `draining` or in `closed`
  * Accepted: kind 0, value the number of exchanges, the last of which brought
- * nothing new: 1 at least. All 2^n bytes of `labels` are written; what they held
- * before does not matter.
+ * nothing new: 1 at least. All 2^n bytes of the job's half are written; what
+ * they held before does not matter. No byte of the other half changes.
  */
-uint32_t hcube_label(uint32_t n, uint32_t rule,
+uint32_t hcube_label(uint32_t n, uint32_t rule, uint32_t job,
                      const uint8_t *faults, size_t faults_len,
                      const uint8_t *draining, size_t draining_len,
+                     const uint8_t *closed, size_t closed_len,
                      uint8_t *labels, size_t labels_len);
 
 /*
- * Decides one hop at node c of a message for node d. Of the bytes of `labels`
- * only those of c and of its n neighbours are read. Nothing is written.
+ * Decides one hop of a job at node c, for a message to node d. Of the bytes of
+ * `labels` only those of c and of its n neighbours in the job's half are read.
+ * Nothing is written.
  *
  * Refusals, in order:
- *   1  n is not 1 to 12
- *   2  labels_len is not HCUBE_NODES(n)
- *   5  c or d is 2^n or more
- *   4  the label of c or of a neighbour of c is above 4
- *   6  the label of c is 3, or it is 4 and c is not d
+ *   1   n is not 1 to 12
+ *   19  job is not 0 or 1
+ *   2   labels_len is not HCUBE_LABEL_BYTES(n)
+ *   5   c or d is 2^n or more
+ *   4   the label of c or of a neighbour of c is above 4
+ *   6   the label of c is 3, or it is 4 and c is not d
  * Accepted: kind HCUBE_DELIVER (c is d) with value 0; HCUBE_HOP with the
  * dimension to cross as value; or HCUBE_HALTED with value 0.
  *
@@ -152,27 +188,29 @@ uint32_t hcube_label(uint32_t n, uint32_t rule,
  *   4  spare, the neighbour is safe
  *   5  spare, the neighbour is safe or ordinarily unsafe
  */
-uint32_t hcube_hop(uint32_t n, uint32_t c, uint32_t d,
+uint32_t hcube_hop(uint32_t n, uint32_t job, uint32_t c, uint32_t d,
                    const uint8_t *labels, size_t labels_len);
 
 /*
- * Walks from node s to node d, one hcube_hop after the other, over any table
- * of label bytes 0 to 4. d may be draining. Whatever the table, every node of
- * the walk before its last works.
+ * Walks for a job from node s to node d, one hcube_hop after the other, over a
+ * half of any label bytes 0 to 4; the other half may hold any bytes at all. d
+ * may be draining. Whatever the half, every node of the walk before its last
+ * works.
  *
  * Refusals, in order:
- *   1  n is not 1 to 12
- *   2  labels_len is not HCUBE_NODES(n), or row_len not HCUBE_ROW_BYTES
- *   5  s or d is 2^n or more
- *   4  any byte of `labels` is above 4
- *   6  the label of s is 3 or 4, also where s is d
- *   7  the label of d is 3
- *   8  after n + 4 hops the decision is another hop
+ *   1   n is not 1 to 12
+ *   19  job is not 0 or 1
+ *   2   labels_len is not HCUBE_LABEL_BYTES(n), or row_len not HCUBE_ROW_BYTES
+ *   5   s or d is 2^n or more
+ *   4   any byte of the job's half is above 4
+ *   6   the label of s is 3 or 4, also where s is d
+ *   7   the label of d is 3
+ *   8   after n + 4 hops the decision is another hop
  * Accepted: kind HCUBE_WALK_DELIVERED or HCUBE_WALK_HALTED, value the number
  * of hops. All 34 bytes of `row` are written: the nodes visited, s first, two
  * bytes a node, low byte first, and zero in the places after the last.
  */
-uint32_t hcube_walk(uint32_t n, uint32_t s, uint32_t d,
+uint32_t hcube_walk(uint32_t n, uint32_t job, uint32_t s, uint32_t d,
                     const uint8_t *labels, size_t labels_len,
                     uint8_t *row, size_t row_len);
 

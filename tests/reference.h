@@ -1,8 +1,8 @@
 /*
  * reference.h: the rules of document 01, with the older one of document 02's
- * request A13 beside its own and the draining nodes of A4, once more, in plain
- * C, to hold the library and the listing program against. The first four
- * functions have the same interface as the library's.
+ * request A13 beside its own, the draining nodes of A4 and the two jobs of A10,
+ * once more, in plain C, to hold the library and the listing program against.
+ * The first four functions have the same interface as the library's.
  */
 #ifndef REFERENCE_H
 #define REFERENCE_H
@@ -12,6 +12,7 @@
 #include <stdio.h>
 
 #define MOST_NODES 4096
+#define MOST_LABEL_BYTES (2 * MOST_NODES)
 #define MOST_FAULT_BYTES 512
 #define ROW_PLACES 17
 #define ROW_BYTES (2 * ROW_PLACES)
@@ -20,13 +21,14 @@
 /* The largest byte that is a label. */
 #define LAST_LABEL 4
 
-uint32_t ref_label(uint32_t n, uint32_t rule,
+uint32_t ref_label(uint32_t n, uint32_t rule, uint32_t job,
                    const uint8_t *faults, size_t faults_len,
                    const uint8_t *draining, size_t draining_len,
+                   const uint8_t *closed, size_t closed_len,
                    uint8_t *labels, size_t labels_len);
-uint32_t ref_hop(uint32_t n, uint32_t c, uint32_t d,
+uint32_t ref_hop(uint32_t n, uint32_t job, uint32_t c, uint32_t d,
                  const uint8_t *labels, size_t labels_len);
-uint32_t ref_walk(uint32_t n, uint32_t s, uint32_t d,
+uint32_t ref_walk(uint32_t n, uint32_t job, uint32_t s, uint32_t d,
                   const uint8_t *labels, size_t labels_len,
                   uint8_t *row, size_t row_len);
 uint64_t ref_read_notice(const uint8_t *bytes, size_t len,
@@ -42,18 +44,22 @@ void ref_listing(const uint8_t *bytes, size_t len, FILE *out);
 
 /* The scan, 1 to 5, that decides at c for d; 0 for the hop to a draining d, which
  * is tried before them; NO_SCAN if none hits or c is d. The dimension goes to
- * *dimension. All inputs are in range. */
+ * *dimension. All inputs are in range; `half` is the job's own. */
 #define NO_SCAN 6
-unsigned ref_scan(uint32_t n, uint32_t c, uint32_t d, const uint8_t *labels,
+unsigned ref_scan(uint32_t n, uint32_t c, uint32_t d, const uint8_t *half,
                   uint32_t *dimension);
 
-/* Exchanges, the quiet one included, and final labels of a good fault table and
- * a good draining table, by rule 2 or 3. */
+/* Exchanges, the quiet one included, and final labels of one job, into its half,
+ * of three good tables, by rule 2 or 3. */
 unsigned ref_exchanges(uint32_t n, uint32_t rule, const uint8_t *faults,
-                       const uint8_t *draining, uint8_t *labels);
+                       const uint8_t *draining, const uint8_t *closed,
+                       uint8_t *half);
 
-/* Length of a fault table and of a draining table. */
+/* Length of a fault, draining or closed table. */
 size_t ref_fault_bytes(uint32_t n);
+
+/* Length of a label buffer: job 0's half, then job 1's. */
+size_t ref_label_bytes(uint32_t n);
 
 /* In how many dimensions c and d differ. */
 unsigned ref_distance(uint32_t n, uint32_t c, uint32_t d);

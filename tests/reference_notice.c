@@ -104,7 +104,8 @@ static void print_pair(uint32_t n, uint32_t s, uint32_t d, const uint8_t *labels
                        FILE *out)
 {
     uint8_t row[ROW_BYTES];
-    uint32_t answer = ref_walk(n, s, d, labels, (size_t)1 << n, row, sizeof row);
+    uint32_t answer =
+        ref_walk(n, 0, s, d, labels, ref_label_bytes(n), row, sizeof row);
     uint32_t refusal = answer >> 24, hops = answer & 0xffff;
     fprintf(out, "%u %u ", (unsigned)s, (unsigned)d);
     if (refusal) {
@@ -136,8 +137,8 @@ static void print_pairs(const uint8_t *bytes, size_t len, size_t place,
 
 void ref_listing(const uint8_t *bytes, size_t len, FILE *out)
 {
-    static const uint8_t none_draining[MOST_FAULT_BYTES];
-    uint8_t faults[MOST_FAULT_BYTES], labels[MOST_NODES];
+    static const uint8_t none[MOST_FAULT_BYTES];
+    uint8_t faults[MOST_FAULT_BYTES], labels[MOST_LABEL_BYTES];
     uint32_t n = 0;
     size_t place = 0;
     uint64_t notice;
@@ -156,7 +157,8 @@ void ref_listing(const uint8_t *bytes, size_t len, FILE *out)
         fprintf(out, "notice refused %u %u\n", refusal, (unsigned)place);
         return;
     }
-    print_first_line(n, labels,
-                     ref_exchanges(n, 3, faults, none_draining, labels), out);
+    /* job 0, whose half stands first; no node is draining or closed */
+    print_first_line(n, labels, ref_exchanges(n, 3, faults, none, none, labels),
+                     out);
     print_pairs(bytes, len, place, n, labels, out);
 }
