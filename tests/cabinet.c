@@ -5,21 +5,28 @@
 #include "check.h"
 
 uint8_t faults[MOST_FAULT_BYTES], draining[MOST_FAULT_BYTES];
+uint8_t closed[MOST_FAULT_BYTES];
 uint8_t labels[MOST_NODES];
 
 void random_cabinet(uint32_t n, unsigned per_mille)
 {
     random_faults(n, per_mille, faults);
     random_draining(n, faults, draining);
+    random_closed(n, faults, draining, closed);
 }
 
 uint32_t label_cabinet(uint32_t n, uint32_t rule)
 {
-    struct label_question asked = fit_label(n, faults, labels);
+    struct label_question asked;
+    uint32_t answer;
     random_bytes(labels, (size_t)1 << n);
+    asked = fit_label(n, faults, labels);
     asked.rule = rule;
     asked.draining = draining;
-    return check_label(asked);
+    asked.closed = closed;
+    answer = check_label(asked);
+    keep_half(asked, labels);
+    return answer;
 }
 
 uint32_t walk_by(const uint8_t *by, uint32_t n, uint32_t s, uint32_t d,

@@ -1,6 +1,7 @@
 /*
- * cabinet.h: the cabinet at hand, its two tables and its labels, and questions
- * about it, each held against the reference (check.h).
+ * cabinet.h: the cabinet at hand as one job sees it, its three tables and its
+ * labels, and questions about it, each held against the reference (check.h). Each
+ * is asked for either job, in turn (questions.h).
  */
 #ifndef CABINET_H
 #define CABINET_H
@@ -10,12 +11,13 @@
 #include "reference.h"
 
 extern uint8_t faults[MOST_FAULT_BYTES], draining[MOST_FAULT_BYTES];
+extern uint8_t closed[MOST_FAULT_BYTES];
 extern uint8_t labels[MOST_NODES];
 
-/* Random tables: faulty nodes, each with this chance, and draining ones. */
+/* Random tables: faulty nodes, each with this chance, draining and closed ones. */
 void random_cabinet(uint32_t n, unsigned per_mille);
 
-/* Labels the tables by the rule into a buffer that holds anything. */
+/* Labels the tables by the rule into a half that holds anything. */
 uint32_t label_cabinet(uint32_t n, uint32_t rule);
 
 /* Walks by these labels into a row that holds anything. */

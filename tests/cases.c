@@ -73,6 +73,23 @@ void random_draining(uint32_t n, uint8_t *faults, uint8_t *draining)
     }
 }
 
+void random_closed(uint32_t n, uint8_t *faults, uint8_t *draining,
+                   uint8_t *closed)
+{
+    memset(closed, 0, table_bytes(n));
+    switch (random_below(6)) {
+    case 0: random_faults(n, 1000 / (1u << n) + 1, closed); return;
+    case 1: random_faults(n, random_density(n), closed); return;
+    case 2: break;
+    default: return;
+    }
+    for (size_t k = 0; k < table_bytes(n); k++) {
+        closed[k] = (uint8_t)((faults[k] | draining[k]) & random_bits());
+        faults[k] &= (uint8_t)(~closed[k] | random_bits());
+        draining[k] &= (uint8_t)(~closed[k] | random_bits());
+    }
+}
+
 void random_labels(uint32_t n, unsigned most, uint8_t *labels)
 {
     for (uint32_t k = 0; k < 1u << n; k++)

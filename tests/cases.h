@@ -1,6 +1,6 @@
 /*
  * cases.h: what the tests' inputs are made of: random numbers with a fixed
- * seed, fault tables, draining tables, label tables, notices.
+ * seed, fault, draining and closed tables, label tables, notices.
  */
 #ifndef CASES_H
 #define CASES_H
@@ -18,13 +18,17 @@ void random_bytes(uint8_t *bytes, size_t len);
 /* A random number below `bound`, which is not 0. */
 uint32_t random_below(uint32_t bound);
 
-/* Whether the node is in the fault or draining table. */
+/* Whether the node is in the fault, draining or closed table. */
 int in_table(const uint8_t *table, uint32_t k);
 /* A good fault table in which each node is faulty with chance per_mille/1000. */
 void random_faults(uint32_t n, unsigned per_mille, uint8_t *faults);
 /* A draining table beside it: empty, one or two nodes, any, or half of the faulty
  * ones, of which half are taken out of the fault table. */
 void random_draining(uint32_t n, uint8_t *faults, uint8_t *draining);
+/* A closed table beside them: half of the time empty, else one or two nodes, any,
+ * or half of those in the other two, of which half are taken out there. */
+void random_closed(uint32_t n, uint8_t *faults, uint8_t *draining,
+                   uint8_t *closed);
 /* A chance per mille: none, few, some, many or all in turn. */
 unsigned random_density(uint32_t n);
 /* Label bytes, each one a random byte of 0 to `most`. */

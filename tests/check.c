@@ -1,4 +1,4 @@
-/* check.c: groups, comparison with the reference, coverage counts. */
+/* check.c: groups, and comparison with the reference. */
 #define _DEFAULT_SOURCE /* write */
 #include "check.h"
 
@@ -10,8 +10,6 @@
 
 #include "cases.h"
 #include "lent.h"
-
-struct seen seen;
 
 /* ---- groups */
 
@@ -71,35 +69,8 @@ void expect(int holds, const char *why, ...)
 
 /* ---- library against reference */
 
-static struct lent read_only, draining, writable;
+static struct lent read_only, draining, closed, writable;
 static uint8_t wanted[MOST_LENT];
-
-/* One more of this number, if there is room for it; if not, the case fails. */
-static void count_one(unsigned long *counts, size_t room, const char *what,
-                      uint64_t number)
-{
-    if (number < room)
-        counts[number]++;
-    else
-        expect(0, "%s: there is no room to count %llu", what,
-               (unsigned long long)number);
-}
-#define SEEN(counts, number)                                                   \
-    count_one(seen.counts, COUNT(seen.counts), #counts, number)
-
-static void count_labels(struct label_question asked, uint32_t answer,
-                         const uint8_t *labels)
-{
-    uint32_t exchanges = HCUBE_VALUE(answer);
-    SEEN(refusal[LABEL], HCUBE_REFUSAL(answer));
-    if (HCUBE_REFUSAL(answer))
-        return;
-    SEEN(cube[LABEL], asked.n);
-    SEEN(rule, asked.rule);
-    SEEN(exchanges, exchanges < 10 ? exchanges : 10);
-    for (uint32_t k = 0; k < 1u << asked.n; k++)
-        SEEN(label, labels[k]);
-}
 
 uint32_t check_label(struct label_question asked)
 {
@@ -108,38 +79,27 @@ uint32_t check_label(struct label_question asked)
     int same;
     lend(&read_only, asked.faults, asked.faults_len);
     lend(&draining, asked.draining, asked.draining_len);
+    lend(&closed, asked.closed, asked.closed_len);
     lend(&writable, asked.labels, asked.labels_len);
     lent.faults = read_only.bytes;
     lent.draining = draining.bytes;
+    lent.closed = closed.bytes;
     lent.labels = writable.bytes;
     memcpy(wanted, asked.labels, asked.labels_len);
-    want = ref_label(asked.n, asked.rule, asked.faults, asked.faults_len,
-                     asked.draining, asked.draining_len, wanted,
-                     asked.labels_len);
+    want = ref_label(asked.n, asked.rule, asked.job, asked.faults,
+                     asked.faults_len, asked.draining, asked.draining_len,
+                     asked.closed, asked.closed_len, wanted, asked.labels_len);
     answer = ask_label(lent);
-    expect(answer == want, "label n=%u by %u: %08x, not %08x", asked.n,
-           asked.rule, answer, want);
+    expect(answer == want, "label n=%u by %u, job %u: %08x, not %08x", asked.n,
+           asked.rule, asked.job, answer, want);
     same = lent_is(&read_only, asked.faults) &&
-           lent_is(&draining, asked.draining) && lent_is(&writable, wanted);
-    expect(same, "label n=%u by %u (%08x): wrong bytes", asked.n, asked.rule,
-           want);
-    count_labels(asked, want, wanted);
+           lent_is(&draining, asked.draining) &&
+           lent_is(&closed, asked.closed) && lent_is(&writable, wanted);
+    expect(same, "label n=%u by %u, job %u (%08x): wrong bytes", asked.n,
+           asked.rule, asked.job, want);
+    saw_label(asked, want, wanted);
     memcpy(asked.labels, writable.bytes, asked.labels_len);
     return answer;
-}
-
-static void count_hop(struct hop_question asked, uint32_t answer)
-{
-    uint32_t dimension = 0;
-    SEEN(refusal[HOP], HCUBE_REFUSAL(answer));
-    if (HCUBE_REFUSAL(answer))
-        return;
-    SEEN(cube[HOP], asked.n);
-    SEEN(hop_kind, HCUBE_KIND(answer));
-    SEEN(hop_at, asked.labels[asked.c]);
-    SEEN(scan, ref_scan(asked.n, asked.c, asked.d, asked.labels, &dimension));
-    if (HCUBE_KIND(answer) == HCUBE_HOP)
-        SEEN(dimension, dimension);
 }
 
 uint32_t check_hop(struct hop_question asked)
@@ -148,31 +108,15 @@ uint32_t check_hop(struct hop_question asked)
     uint32_t answer, want;
     lend(&read_only, asked.labels, asked.labels_len);
     lent.labels = read_only.bytes;
-    want = ref_hop(asked.n, asked.c, asked.d, asked.labels, asked.labels_len);
+    want = ref_hop(asked.n, asked.job, asked.c, asked.d, asked.labels,
+                   asked.labels_len);
     answer = ask_hop(lent);
-    expect(answer == want, "hop n=%u %u to %u: %08x, not %08x", asked.n, asked.c,
-           asked.d, answer, want);
-    expect(lent_is(&read_only, asked.labels), "hop n=%u: a byte changed",
-           asked.n);
-    count_hop(asked, want);
+    expect(answer == want, "hop n=%u, job %u, %u to %u: %08x, not %08x", asked.n,
+           asked.job, asked.c, asked.d, answer, want);
+    expect(lent_is(&read_only, asked.labels), "hop n=%u, job %u: a byte changed",
+           asked.n, asked.job);
+    saw_hop(asked, want);
     return answer;
-}
-
-static void count_walk(struct walk_question asked, uint32_t answer)
-{
-    uint32_t hops = HCUBE_VALUE(answer);
-    SEEN(refusal[WALK], HCUBE_REFUSAL(answer));
-    if (HCUBE_REFUSAL(answer))
-        return;
-    SEEN(cube[WALK], asked.n);
-    SEEN(walk_kind, HCUBE_KIND(answer));
-    if (HCUBE_KIND(answer) != HCUBE_WALK_DELIVERED)
-        return;
-    SEEN(walk_hops, hops);
-    if (asked.labels[asked.d] == HCUBE_DRAINING)
-        SEEN(drained_hops, hops);
-    if (hops == asked.n + 4)
-        SEEN(longest, asked.n);
 }
 
 /* Whatever the labels, and whatever the reference says: a walk goes from neighbour
@@ -180,14 +124,16 @@ static void count_walk(struct walk_question asked, uint32_t answer)
 static void check_way(struct walk_question asked, uint32_t answer)
 {
     uint32_t hops = HCUBE_VALUE(answer), here = asked.s;
+    const uint8_t *half;
     int passes = 1;
-    if (HCUBE_REFUSAL(answer) || hops >= ROW_PLACES)
+    if (HCUBE_REFUSAL(answer) || hops >= ROW_PLACES || asked.job >= NO_JOB)
         return;
+    half = asked.labels + HCUBE_HALF(asked.n, asked.job);
     for (uint32_t k = 0; k <= hops; k++) {
         uint32_t next = row_place(asked.row, k);
         passes &= next < 1u << asked.n &&
                   ref_distance(asked.n, here, next) == (k > 0) &&
-                  (k == hops || asked.labels[next] < HCUBE_FAULTY);
+                  (k == hops || half[next] < HCUBE_FAULTY);
         here = next;
     }
     expect(passes, "walk n=%u %u to %u: no way", asked.n, asked.s, asked.d);
@@ -203,15 +149,15 @@ uint32_t check_walk(struct walk_question asked)
     lent.labels = read_only.bytes;
     lent.row = writable.bytes;
     memcpy(wanted, asked.row, asked.row_len);
-    want = ref_walk(asked.n, asked.s, asked.d, asked.labels, asked.labels_len,
-                    wanted, asked.row_len);
+    want = ref_walk(asked.n, asked.job, asked.s, asked.d, asked.labels,
+                    asked.labels_len, wanted, asked.row_len);
     answer = ask_walk(lent);
-    expect(answer == want, "walk n=%u %u to %u: %08x, not %08x", asked.n, asked.s,
-           asked.d, answer, want);
+    expect(answer == want, "walk n=%u, job %u, %u to %u: %08x, not %08x",
+           asked.n, asked.job, asked.s, asked.d, answer, want);
     same = lent_is(&read_only, asked.labels) && lent_is(&writable, wanted);
-    expect(same, "walk n=%u %u to %u (%08x): wrong bytes", asked.n, asked.s,
-           asked.d, want);
-    count_walk(asked, want);
+    expect(same, "walk n=%u, job %u, %u to %u (%08x): wrong bytes", asked.n,
+           asked.job, asked.s, asked.d, want);
+    saw_walk(asked, want);
     memcpy(asked.row, writable.bytes, asked.row_len);
     check_way(asked, answer);
     return answer;
@@ -233,9 +179,7 @@ uint64_t check_notice(const uint8_t *bytes, size_t len,
     same = lent_is(&read_only, bytes) && lent_is(&writable, wanted);
     expect(same, "notice of %lu bytes (%016llx): wrong bytes",
            (unsigned long)len, (unsigned long long)want);
-    SEEN(refusal[NOTICE], HCUBE_REFUSAL(want));
-    if (HCUBE_REFUSAL(want) == 0)
-        SEEN(cube[NOTICE], HCUBE_NOTICE_DIMENSION(want));
+    saw_notice(want);
     memcpy(faults, writable.bytes, faults_len);
     return answer;
 }

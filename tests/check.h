@@ -1,6 +1,6 @@
 /*
  * check.h: lends guarded buffers to the library, holds each call against the
- * reference, and counts what was seen.
+ * reference, and counts what was seen (seen.h).
  */
 #ifndef CHECK_H
 #define CHECK_H
@@ -9,6 +9,7 @@
 #include <stdint.h>
 
 #include "questions.h"
+#include "seen.h"
 
 /* A named group of checks. end_group prints `ok NAME: N cases` or `FAIL ...`. */
 void begin_group(const char *name);
@@ -30,23 +31,5 @@ uint64_t check_notice(const uint8_t *bytes, size_t len,
 /* The same, over a fault table of random bytes that is not kept. */
 uint64_t check_notice_alone(const uint8_t *bytes, size_t len,
                             size_t faults_len);
-
-/* What the checks have seen so far. */
-struct seen {
-    unsigned long refusal[QUESTIONS][MOST_REFUSAL + 1];
-    unsigned long cube[QUESTIONS][13]; /* accepted calls, by n */
-    unsigned long hop_kind[3];         /* deliver, hop, halted */
-    unsigned long hop_at[MOST_LABEL + 1]; /* accepted hops, by c's label */
-    unsigned long dimension[12];       /* that a hop crossed */
-    unsigned long scan[NO_SCAN + 1];   /* that decided a hop; see ref_scan */
-    unsigned long walk_kind[2];        /* delivered, halted */
-    unsigned long walk_hops[17];       /* of delivered walks */
-    unsigned long drained_hops[17];    /* of those to a draining node */
-    unsigned long longest[13];         /* delivered in n + 4 hops, by n */
-    unsigned long rule[4];             /* by which labels were made */
-    unsigned long exchanges[11];       /* 10: ten or more */
-    unsigned long label[MOST_LABEL + 1]; /* bytes that labelling wrote */
-};
-extern struct seen seen;
 
 #endif

@@ -44,34 +44,36 @@ static void older_labels(uint32_t n, uint32_t rule, const uint8_t *table,
             older[k] = 1;
 }
 
-/* The tables at hand, and then one fault table with all that do not work. */
+/* The tables at hand, and then one fault table with all that do not work. A closed
+ * node counts as faulty too, and has the label of a faulty one. */
 static void counts_as_faulty(uint32_t n, uint32_t rule)
 {
     static uint8_t older[MOST_NODES], want[MOST_NODES], got[MOST_NODES];
     uint32_t answer = label_cabinet(n, rule);
     memcpy(got, labels, (size_t)1 << n);
     for (uint32_t k = 0; k < 1u << n; k++)
-        want[k] = in_table(faults, k)     ? HCUBE_FAULTY
-                  : in_table(draining, k) ? HCUBE_DRAINING
-                                          : HCUBE_SAFE;
+        want[k] = in_table(faults, k) || in_table(closed, k) ? HCUBE_FAULTY
+                  : in_table(draining, k)                    ? HCUBE_DRAINING
+                                                             : HCUBE_SAFE;
     for (size_t k = 0; k < HCUBE_FAULT_BYTES(n); k++) {
-        faults[k] |= draining[k];
-        draining[k] = 0;
+        faults[k] |= draining[k] | closed[k];
+        draining[k] = closed[k] = 0;
     }
     expect(label_cabinet(n, rule) == answer, "n = %u by %u: other exchanges", n,
            rule);
     older_labels(n, rule, faults, older);
     expect(!memcmp(labels, older, (size_t)1 << n),
-           "n = %u by %u, no draining node: not document 01's labels", n, rule);
+           "n = %u by %u, faulty nodes alone: not document 01's labels", n, rule);
     for (uint32_t k = 0; k < 1u << n; k++)
         want[k] = want[k] ? want[k] : older[k];
     expect(!memcmp(got, want, (size_t)1 << n),
-           "n = %u by %u: a draining node is not as a faulty one", n, rule);
+           "n = %u by %u: a draining or closed node is not as a faulty one", n,
+           rule);
 }
 
 void check_draining(void)
 {
-    begin_group("draining nodes count as faulty, both rules");
+    begin_group("draining and closed nodes count as faulty, both rules");
     for (unsigned k = 0; k < 1200; k++) {
         uint32_t n = 1 + k % 12;
         random_cabinet(n, random_density(n));

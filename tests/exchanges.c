@@ -62,15 +62,16 @@ static uint32_t most_of_all_tables(uint32_t n, uint32_t rule)
     return found;
 }
 
-/* Where a faulty node is draining instead there are as many exchanges. */
-static void most_with_draining(uint32_t n, uint32_t rule, const struct most *most)
+/* Where a faulty node is draining or closed instead there are as many exchanges. */
+static void most_with_others(uint32_t n, uint32_t rule, const struct most *most)
 {
     for (size_t k = 0; k < sizeof most->table; k++) {
         draining[k] = (uint8_t)(most->table[k] & random_bits());
-        faults[k] = most->table[k] ^ draining[k];
+        closed[k] = (uint8_t)(most->table[k] & random_bits());
+        faults[k] = (uint8_t)(most->table[k] & ~(draining[k] | closed[k]));
     }
     expect(label_cabinet(n, rule) == most->exchanges,
-           "n = %u by %u, some draining: not %u exchanges", n, rule,
+           "n = %u by %u, some draining or closed: not %u exchanges", n, rule,
            most->exchanges);
 }
 
@@ -78,6 +79,7 @@ static void most_exchanges_by(uint32_t rule, const struct most *most)
 {
     for (uint32_t n = 1; n <= 8; n++) {
         memset(draining, 0, sizeof draining);
+        memset(closed, 0, sizeof closed);
         memcpy(faults, most[n].table, sizeof most[n].table);
         expect(label_cabinet(n, rule) == most[n].exchanges,
                "n = %u by %u: not %u exchanges", n, rule, most[n].exchanges);
@@ -86,7 +88,7 @@ static void most_exchanges_by(uint32_t rule, const struct most *most)
                    "n = %u by %u: %u is not the most", n, rule,
                    most[n].exchanges);
         for (unsigned k = 0; k < 10; k++)
-            most_with_draining(n, rule, &most[n]);
+            most_with_others(n, rule, &most[n]);
     }
 }
 
@@ -98,16 +100,17 @@ void check_most_exchanges(void)
     end_group();
 }
 
-/* Each byte of the two tables; for n = 1 and 2 its bits for nodes alone. */
+/* Each byte of the three tables; for n = 1 and 2 its bits for nodes alone. */
 static void one_exchange(uint32_t n, uint32_t rule, unsigned faulty,
-                         unsigned drained)
+                         unsigned drained, unsigned shut)
 {
     unsigned used = n < 3 ? (1u << (1u << n)) - 1 : 255;
     memset(faults, (int)(faulty & used), sizeof faults);
     memset(draining, (int)(drained & used), sizeof draining);
+    memset(closed, (int)(shut & used), sizeof closed);
     expect(label_cabinet(n, rule) == 1,
-           "n = %u by %u, faulty %02x, draining %02x: not 1 exchange", n, rule,
-           faulty, drained);
+           "n = %u by %u, faulty %02x, draining %02x, closed %02x: not 1 exchange",
+           n, rule, faulty, drained, shut);
 }
 
 /* The quiet exchange alone: every node works, or none does. */
@@ -116,12 +119,16 @@ void check_one_exchange(void)
     begin_group("one exchange: all nodes work, and none does");
     for (unsigned k = 0; k < 24; k++) {
         uint32_t n = 1 + k % 12, rule = 2 + k / 12;
-        one_exchange(n, rule, 0, 0);
-        one_exchange(n, rule, 255, 0);
-        one_exchange(n, rule, 0, 255);
-        one_exchange(n, rule, 255, 255);
-        one_exchange(n, rule, 0x5a, 0xa5);
-        one_exchange(n, rule, 0xf1, 0x9e);
+        one_exchange(n, rule, 0, 0, 0);
+        one_exchange(n, rule, 255, 0, 0);
+        one_exchange(n, rule, 0, 255, 0);
+        one_exchange(n, rule, 0, 0, 255);
+        one_exchange(n, rule, 255, 255, 0);
+        one_exchange(n, rule, 0, 255, 255);
+        one_exchange(n, rule, 255, 255, 255);
+        one_exchange(n, rule, 0x5a, 0xa5, 0);
+        one_exchange(n, rule, 0x5a, 0x21, 0x84);
+        one_exchange(n, rule, 0xf1, 0x9e, 0x0c);
     }
     end_group();
 }

@@ -15,10 +15,13 @@ void check_draining(void);        /* draining.c */
 void check_draining_ends(void);
 void check_bounds(void);          /* bounds.c */
 void check_long_walks(void);      /* long_walks.c */
+void check_jobs(void);            /* jobs.c */
+void check_halves(void);          /* halves.c */
+void check_closed(void);          /* closed.c */
 void check_lengths(void);         /* lengths.c */
 void check_damaged(void);         /* refusals.c */
-void check_combinations(void);
 void check_plain_numbers(void);
+void check_combinations(void);    /* combinations.c */
 void check_orders(void);          /* orders.c */
 void check_notices(void);         /* notices.c */
 void check_notice_orders(void);

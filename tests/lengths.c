@@ -12,10 +12,11 @@
 #include "lent.h"
 #include "reference.h"
 
-static uint8_t faults[MOST_LENT], draining[MOST_LENT];
+static uint8_t tables[3][MOST_LENT]; /* faults, draining, closed */
 static uint8_t labels[MOST_LENT], row[MOST_LENT];
 
-/* Lengths around the exact one; the last is far too long. */
+/* Lengths around the exact one; half of a label buffer's is that of one job. The
+ * last is far too long. */
 static size_t length_number(unsigned k, size_t exact)
 {
     const size_t lengths[] = {0, 1, exact / 2, exact - 1, exact, exact + 1,
@@ -24,14 +25,15 @@ static size_t length_number(unsigned k, size_t exact)
 }
 #define LENGTHS 10u
 
-static void lengths_of(uint32_t n)
+static void lengths_of(uint32_t n, uint32_t job)
 {
     struct hop_question hop = fit_hop(n, 0, 1, labels);
     struct walk_question walk = fit_walk(n, 0, 1, labels, row);
-    size_t nodes = hop.labels_len;
-    memset(labels, 0, sizeof labels);
+    size_t exact = hop.labels_len;
+    hop.job = walk.job = job;
+    hop.labels = walk.labels = labels;
     for (unsigned a = 0; a < LENGTHS; a++) {
-        walk.labels_len = hop.labels_len = length_number(a, nodes);
+        walk.labels_len = hop.labels_len = length_number(a, exact);
         check_hop(hop);
         for (unsigned b = 0; b < LENGTHS; b++) {
             walk.row_len = length_number(b, ROW_BYTES);
@@ -40,48 +42,63 @@ static void lengths_of(uint32_t n)
     }
 }
 
-/* Every length of two buffers at once, while the third has the right one: the
- * fault table, the draining table and the label table in turn. */
-static void lengths_of_label(uint32_t n)
+/* Every length of two of the four buffers at once, while the others have the right
+ * one: the three tables and the label buffer. */
+static void lengths_of_label(uint32_t n, unsigned first, unsigned second)
 {
-    struct label_question asked = fit_label(n, faults, row);
-    size_t nodes = asked.labels_len, bytes = asked.faults_len;
-    asked.draining = draining;
-    for (unsigned k = 0; k < 3 * LENGTHS * LENGTHS; k++) {
-        unsigned right = k % 3, a = k / 3 % LENGTHS, b = k / 3 / LENGTHS;
-        random_faults(n, 200, faults);
-        random_faults(n, 200, draining);
-        asked.faults_len = right == 0 ? bytes : length_number(a, bytes);
-        asked.draining_len =
-            right == 1 ? bytes : length_number(right == 0 ? a : b, bytes);
-        asked.labels_len = right == 2 ? nodes : length_number(b, nodes);
+    struct label_question asked = fit_label(n, tables[0], labels);
+    size_t *lengths[] = {&asked.faults_len, &asked.draining_len,
+                         &asked.closed_len, &asked.labels_len};
+    size_t exact_first = *lengths[first], exact_second = *lengths[second];
+    asked.draining = tables[1];
+    asked.closed = tables[2];
+    asked.labels = row;
+    for (unsigned k = 0; k < LENGTHS * LENGTHS; k++) {
+        random_faults(n, 200, tables[k % 3]);
+        asked.job = random_below(2);
+        *lengths[first] = length_number(k % LENGTHS, exact_first);
+        *lengths[second] = length_number(k / LENGTHS, exact_second);
         check_label(asked);
     }
 }
 
-/* Each buffer of n = 3 in turn is `big` and too long: right in the low 32 bits
- * of its length alone. */
+/* Each buffer of labelling in turn is `big` and too long: n = 3, right in the low
+ * 32 bits of its length alone. */
+static void label_with(uint8_t *big, size_t beyond)
+{
+    uint8_t small[HCUBE_LABEL_BYTES(3)] = {0};
+    struct label_question label = fit_label(3, small, small), asked = label;
+    asked.faults = big;
+    asked.faults_len += beyond;
+    expect(ask_label(asked) == REFUSED(2), "fault table");
+    asked = label;
+    asked.draining = big;
+    asked.draining_len += beyond;
+    expect(ask_label(asked) == REFUSED(2), "draining table");
+    asked = label;
+    asked.closed = big;
+    asked.closed_len += beyond;
+    expect(ask_label(asked) == REFUSED(2), "closed table");
+    asked = label;
+    asked.labels = big;
+    asked.labels_len += beyond;
+    expect(ask_label(asked) == REFUSED(2), "label buffer");
+}
+
+/* The same for the others. */
 static void lengths_with(uint8_t *big, size_t beyond)
 {
     uint8_t small[ROW_BYTES] = {0};
-    struct label_question label = fit_label(3, big, small);
-    struct hop_question hop = fit_hop(3, 0, 1, big);
-    struct walk_question walk = fit_walk(3, 0, 1, big, small);
-    label.faults_len += beyond;
+    struct hop_question hop = fit_hop(3, 0, 1, small);
+    struct walk_question walk = fit_walk(3, 0, 1, small, small);
+    hop.labels = big;
     hop.labels_len += beyond;
-    walk.labels_len += beyond;
-    expect(ask_label(label) == REFUSED(2), "fault table");
-    label = fit_label(3, small + 8, small);
-    label.draining = big;
-    label.draining_len += beyond;
-    expect(ask_label(label) == REFUSED(2), "draining table");
     expect(ask_hop(hop) == REFUSED(2), "hop");
+    walk.labels = big;
+    walk.labels_len += beyond;
     expect(ask_walk(walk) == REFUSED(2), "walk");
-    label = fit_label(3, small, big);
     walk = fit_walk(3, 0, 1, small, big);
-    label.labels_len += beyond;
     walk.row_len += beyond;
-    expect(ask_label(label) == REFUSED(2), "label table");
     expect(ask_walk(walk) == REFUSED(2), "row");
     big[0] = 3;
     expect(hcube_read_notice(big, beyond, small, 1) == NOTICE_READ(3, 0, 2),
@@ -99,7 +116,11 @@ static void lengths_beyond_32_bits(void)
     expect(big != MAP_FAILED, "no address space of 4 GiB");
     if (big == MAP_FAILED)
         return;
-    lengths_with(big, beyond);
+    for (unsigned k = 0; k < 8; k++) { /* either job, more than once */
+        memset(big, 0, 4096);
+        label_with(big, beyond);
+        lengths_with(big, beyond);
+    }
     munmap(big, beyond + 4096);
 }
 
@@ -107,9 +128,15 @@ void check_lengths(void)
 {
     begin_group("lengths from 0 to far too long");
     random_bytes(row, sizeof row);
+    memset(labels, 0, sizeof labels);
     for (uint32_t n = 1; n <= 12; n++) {
-        lengths_of(n);
-        lengths_of_label(n);
+        for (unsigned k = 0; k < 3; k++)
+            random_faults(n, 200, tables[k]);
+        lengths_of(n, 0);
+        lengths_of(n, 1);
+        for (unsigned k = 0; k < 16; k++)
+            if (k % 4 < k / 4)
+                lengths_of_label(n, k % 4, k / 4);
     }
     lengths_beyond_32_bits();
     end_group();

@@ -14,6 +14,8 @@
 /* Which side a buffer stands at changes from call to call, in no short row. */
 static uint32_t turn;
 
+static uint8_t guard[GUARD];
+
 static void open_memory(struct lent *lent)
 {
     uint8_t *all = mmap(NULL, ROOM + 2 * PAGE, PROT_NONE,
@@ -24,11 +26,8 @@ static void open_memory(struct lent *lent)
         exit(2);
     }
     lent->memory = all + PAGE;
-}
-
-static uint8_t guard_byte(size_t k)
-{
-    return (uint8_t)(0xa5 ^ k * 29);
+    for (size_t k = 0; k < GUARD; k++)
+        guard[k] = (uint8_t)(0xa5 ^ k * 29);
 }
 
 static uint8_t *guard_of(const struct lent *lent)
@@ -44,19 +43,11 @@ void lend(struct lent *lent, const uint8_t *content, size_t len)
     lent->len = len;
     lent->bytes = lent->high ? lent->memory + ROOM - len : lent->memory;
     memcpy(lent->bytes, content, len);
-    for (size_t k = 0; k < GUARD; k++)
-        guard_of(lent)[k] = guard_byte(k);
-}
-
-static int guard_kept(const struct lent *lent)
-{
-    for (size_t k = 0; k < GUARD; k++)
-        if (guard_of(lent)[k] != guard_byte(k))
-            return 0;
-    return 1;
+    memcpy(guard_of(lent), guard, GUARD);
 }
 
 int lent_is(const struct lent *lent, const uint8_t *content)
 {
-    return guard_kept(lent) && !memcmp(lent->bytes, content, lent->len);
+    return !memcmp(guard_of(lent), guard, GUARD) &&
+           !memcmp(lent->bytes, content, lent->len);
 }

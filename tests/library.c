@@ -20,15 +20,17 @@ static void came_up(const char *what, const unsigned long *counts, size_t room,
     expect(count >= LEAST, "%s %u came up %lu times", what, number, count);
 }
 
-/* The question was accepted, and refused with each of its refusals. */
-static void refusals_came_up(unsigned question)
+/* The question was accepted, and refused with each of its refusals, for either
+ * job; 19 is for what is no job. */
+static void refusals_came_up(unsigned question, unsigned whose)
 {
     const char *name = questions[question].name;
     const unsigned *refusal = questions[question].refusals;
-    printf("  refusals of %s:", name);
+    printf("  refusals of %s, job %u:", name, whose);
     do
-        came_up(name, seen.refusal[question], COUNT(seen.refusal[question]),
-                *refusal);
+        if (*refusal != 19)
+            came_up(name, seen.refusal[question][whose],
+                    COUNT(seen.refusal[question][whose]), *refusal);
     while (*refusal++);
     printf("\n");
 }
@@ -48,7 +50,11 @@ static void check_coverage(void)
 {
     begin_group("coverage of refusals");
     for (unsigned question = 0; question < QUESTIONS; question++)
-        refusals_came_up(question);
+        for (unsigned job = 0; job < (question == NOTICE ? 1 : NO_JOB); job++)
+            refusals_came_up(question, job);
+    CAME_UP("refusal of label, no job", refusal[LABEL][NO_JOB], 18, 19);
+    CAME_UP("refusal of hop, no job", refusal[HOP][NO_JOB], 19, 19);
+    CAME_UP("refusal of walk, no job", refusal[WALK][NO_JOB], 19, 19);
     end_group();
     begin_group("coverage of endings, scans and exchanges");
     CAME_UP("kind of hop", hop_kind, 0, 2);
@@ -63,10 +69,13 @@ static void check_coverage(void)
     CAME_UP("rule", rule, 2, 3);
     CAME_UP("exchanges", exchanges, 1, 10);
     CAME_UP("label", label, 0, LAST_LABEL);
-    CAME_UP("labelled n", cube[LABEL], 1, 12);
-    CAME_UP("hop at n", cube[HOP], 1, 12);
-    CAME_UP("walk at n", cube[WALK], 1, 12);
-    CAME_UP("notice of n", cube[NOTICE], 1, 12);
+    CAME_UP("tables of a node", tables, 0, 7);
+    for (unsigned job = 0; job < NO_JOB; job++) {
+        CAME_UP("labelled n", cube[LABEL][job], 1, 12);
+        CAME_UP("hop at n", cube[HOP][job], 1, 12);
+        CAME_UP("walk at n", cube[WALK][job], 1, 12);
+    }
+    CAME_UP("notice of n", cube[NOTICE][0], 1, 12);
     end_group();
 }
 
@@ -86,6 +95,9 @@ int main(void)
     check_draining();
     check_draining_ends();
     check_bounds();
+    check_closed();
+    check_jobs();
+    check_halves();
     check_random_tables();
     check_random_labels();
     check_long_walks();

@@ -1,71 +1,112 @@
 /* questions.c: what may be asked of the library, and asking it. */
 #include "questions.h"
 
+#include <string.h>
+
+#include "cases.h"
 #include "lent.h"
 
-static const uint8_t none_draining[MOST_LENT];
-
 const struct question questions[QUESTIONS] = {
-    [LABEL] = {"label", {1, 18, 2, 3}},
-    [HOP] = {"hop", {1, 2, 5, 4, 6}},
-    [WALK] = {"walk", {1, 2, 5, 4, 6, 7, 8}},
+    [LABEL] = {"label", {1, 18, 19, 2, 3}},
+    [HOP] = {"hop", {1, 19, 2, 5, 4, 6}},
+    [WALK] = {"walk", {1, 19, 2, 5, 4, 6, 7, 8}},
     [NOTICE] = {"notice", {9, 10, 1, 2, 11, 12}},
 };
 
+static const uint8_t none[MOST_LENT];
+static uint8_t buffers[NOTICE][MOST_LENT]; /* one for each kind of question */
+
+/* From a random place in a row of which the first half is any bytes and the
+ * second half labels. */
+void put_anything(uint8_t *bytes, size_t len)
+{
+    static uint8_t row[1u << 16];
+    if (row[0] == 0) {
+        random_bytes(row, sizeof row / 2);
+        random_labels(15, LAST_LABEL, row + sizeof row / 2);
+        row[0] = 255; /* it is made */
+    }
+    memcpy(bytes, row + random_below((uint32_t)(sizeof row - len)), len);
+}
+
+/* Puts the half into the buffer of this kind as that of either job, in no short
+ * row; the job. */
+static uint32_t put_half(unsigned question, uint32_t n, const uint8_t *half)
+{
+    static uint32_t turn;
+    uint32_t job = ++turn * 2654435769u >> 31;
+    put_anything(buffers[question], HCUBE_LABEL_BYTES(n));
+    memcpy(buffers[question] + HCUBE_HALF(n, job), half, HCUBE_NODES(n));
+    return job;
+}
+
 struct label_question fit_label(uint32_t n, const uint8_t *faults,
-                                uint8_t *labels)
+                                const uint8_t *half)
 {
     struct label_question asked = {.n = n,
                                    .rule = HCUBE_RULE_CHIU_WU,
+                                   .job = put_half(LABEL, n, half),
                                    .faults = faults,
                                    .faults_len = ref_fault_bytes(n),
-                                   .draining = none_draining,
+                                   .draining = none,
                                    .draining_len = ref_fault_bytes(n),
-                                   .labels = labels,
-                                   .labels_len = (size_t)1 << n};
+                                   .closed = none,
+                                   .closed_len = ref_fault_bytes(n),
+                                   .labels = buffers[LABEL],
+                                   .labels_len = ref_label_bytes(n)};
     return asked;
 }
 
 struct hop_question fit_hop(uint32_t n, uint32_t c, uint32_t d,
-                            const uint8_t *labels)
+                            const uint8_t *half)
 {
     struct hop_question asked = {.n = n,
+                                 .job = put_half(HOP, n, half),
                                  .c = c,
                                  .d = d,
-                                 .labels = labels,
-                                 .labels_len = (size_t)1 << n};
+                                 .labels = buffers[HOP],
+                                 .labels_len = ref_label_bytes(n)};
     return asked;
 }
 
 struct walk_question fit_walk(uint32_t n, uint32_t s, uint32_t d,
-                              const uint8_t *labels, uint8_t *row)
+                              const uint8_t *half, uint8_t *row)
 {
     struct walk_question asked = {.n = n,
+                                  .job = put_half(WALK, n, half),
                                   .s = s,
                                   .d = d,
-                                  .labels = labels,
-                                  .labels_len = (size_t)1 << n,
+                                  .labels = buffers[WALK],
+                                  .labels_len = ref_label_bytes(n),
                                   .row = row,
                                   .row_len = ROW_BYTES};
     return asked;
 }
 
+void keep_half(struct label_question asked, uint8_t *half)
+{
+    memcpy(half, asked.labels + HCUBE_HALF(asked.n, asked.job),
+           HCUBE_NODES(asked.n));
+}
+
 uint32_t ask_label(struct label_question asked)
 {
-    return hcube_label(asked.n, asked.rule, asked.faults, asked.faults_len,
-                       asked.draining, asked.draining_len, asked.labels,
+    return hcube_label(asked.n, asked.rule, asked.job, asked.faults,
+                       asked.faults_len, asked.draining, asked.draining_len,
+                       asked.closed, asked.closed_len, asked.labels,
                        asked.labels_len);
 }
 
 uint32_t ask_hop(struct hop_question asked)
 {
-    return hcube_hop(asked.n, asked.c, asked.d, asked.labels, asked.labels_len);
+    return hcube_hop(asked.n, asked.job, asked.c, asked.d, asked.labels,
+                     asked.labels_len);
 }
 
 uint32_t ask_walk(struct walk_question asked)
 {
-    return hcube_walk(asked.n, asked.s, asked.d, asked.labels, asked.labels_len,
-                      asked.row, asked.row_len);
+    return hcube_walk(asked.n, asked.job, asked.s, asked.d, asked.labels,
+                      asked.labels_len, asked.row, asked.row_len);
 }
 
 uint32_t row_place(const uint8_t *row, uint32_t k)

@@ -28,37 +28,48 @@ extern const struct question {
 
 /* What a question is handed. */
 struct label_question {
-    uint32_t n, rule;
+    uint32_t n, rule, job;
     const uint8_t *faults;
     size_t faults_len;
     const uint8_t *draining;
     size_t draining_len;
+    const uint8_t *closed;
+    size_t closed_len;
     uint8_t *labels;
     size_t labels_len;
 };
 
 struct hop_question {
-    uint32_t n, c, d;
+    uint32_t n, job, c, d;
     const uint8_t *labels;
     size_t labels_len;
 };
 
 struct walk_question {
-    uint32_t n, s, d;
+    uint32_t n, job, s, d;
     const uint8_t *labels;
     size_t labels_len;
     uint8_t *row;
     size_t row_len;
 };
 
-/* Questions in which each length is the one that n asks for, the rule is 3 and no
- * node is draining. A test of refusals then changes what is to be refused. */
+/* Questions in which each length is the one that n asks for, the rule is 3, no
+ * node is draining or closed, and the job is either one, in turn. `half` has that
+ * job's labels. They are put into a label buffer with any bytes in its other half,
+ * which stands until the next question of the same kind is made. A test of
+ * refusals then changes what is to be refused. */
 struct label_question fit_label(uint32_t n, const uint8_t *faults,
-                                uint8_t *labels);
+                                const uint8_t *half);
 struct hop_question fit_hop(uint32_t n, uint32_t c, uint32_t d,
-                            const uint8_t *labels);
+                            const uint8_t *half);
 struct walk_question fit_walk(uint32_t n, uint32_t s, uint32_t d,
-                              const uint8_t *labels, uint8_t *row);
+                              const uint8_t *half, uint8_t *row);
+
+/* Copies the job's half out of the question's label buffer; n and job are good. */
+void keep_half(struct label_question asked, uint8_t *half);
+
+/* Any bytes: labels, others, or both. */
+void put_anything(uint8_t *bytes, size_t len);
 
 /* Each asks the library alone, with the buffers themselves. */
 uint32_t ask_label(struct label_question asked);

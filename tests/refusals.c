@@ -1,6 +1,6 @@
 /*
  * refusals.c: labelling, hop and walk on inputs that are refused: random damage,
- * all that labelling refuses at once, and numbers that would fit once narrowed.
+ * and numbers that would fit once narrowed.
  */
 #include <string.h>
 
@@ -10,7 +10,7 @@
 #include "lent.h"
 #include "reference.h"
 
-static uint8_t faults[MOST_LENT], draining[MOST_LENT];
+static uint8_t faults[MOST_LENT], draining[MOST_LENT], closed[MOST_LENT];
 static uint8_t labels[MOST_LENT], row[MOST_LENT];
 
 /* ---- random damage */
@@ -31,6 +31,13 @@ static uint32_t any_rule(void)
                             : bad[random_below(COUNT(bad))];
 }
 
+static uint32_t any_job(void)
+{
+    static const uint32_t bad[] = {2, 3, 255, 256, 257, 65536, 65537,
+                                   0x80000000u, 0x80000001u, 0xffffffffu};
+    return random_below(12) ? random_below(2) : bad[random_below(COUNT(bad))];
+}
+
 static uint32_t any_node(uint32_t n)
 {
     uint32_t nodes = 1u << (n - 1) % 12 << 1, k = random_below(nodes);
@@ -47,13 +54,14 @@ static uint32_t any_node(uint32_t n)
 
 static size_t any_length(size_t exact)
 {
-    switch (random_below(40)) {
+    switch (random_below(50)) {
     case 0: return 0;
     case 1: return 1;
     case 2: return exact - 1;
     case 3: return exact + 1;
     case 4: return exact * 2;
     case 5: return exact + 65536;
+    case 6: return exact / 2;
     default: return exact;
     }
 }
@@ -89,25 +97,34 @@ static void damaged_label(uint32_t n, uint32_t fitting)
     struct label_question asked = fit_label(fitting, faults, labels);
     random_faults(fitting, random_density(fitting), faults);
     random_draining(fitting, faults, draining);
+    random_closed(fitting, faults, draining, closed);
     damage_table(faults);
     damage_table(draining);
+    damage_table(closed);
     asked.n = n;
     asked.rule = any_rule();
+    asked.job = any_job();
     asked.faults_len = any_length(asked.faults_len);
     asked.draining = draining;
     asked.draining_len = any_length(asked.draining_len);
+    asked.closed = closed;
+    asked.closed_len = any_length(asked.closed_len);
     asked.labels_len = any_length(asked.labels_len);
     check_label(asked);
 }
 
 static void damaged_hop_and_walk(uint32_t n, uint32_t fitting)
 {
-    uint32_t s = any_node(fitting), d = any_node(fitting);
-    struct hop_question hop = fit_hop(fitting, s, d, labels);
-    struct walk_question walk = fit_walk(fitting, s, d, labels, row);
+    uint32_t s = any_node(fitting), d = any_node(fitting), job = any_job();
+    struct hop_question hop;
+    struct walk_question walk;
     random_labels(fitting, LAST_LABEL, labels);
     damage_labels(fitting, s);
+    hop = fit_hop(fitting, s, d, labels);
+    walk = fit_walk(fitting, s, d, labels, row);
     hop.n = walk.n = n;
+    if (job > 1)
+        hop.job = walk.job = job;
     hop.labels_len = any_length(hop.labels_len);
     check_hop(hop);
     walk.labels_len = any_length(walk.labels_len);
@@ -126,63 +143,15 @@ void check_damaged(void)
     end_group();
 }
 
-/* ---- labelling, with all that can be wrong in every combination */
-
-/* 16 is a bit of no node where n is 1 or 2. */
-static int has_unused_bit(struct label_question asked)
-{
-    return asked.n < 3 && (asked.faults[0] | asked.draining[0]) & 16;
-}
-
-/* The refusal that is due, by document 02's order; 0 if none is. */
-static unsigned label_refusal(struct label_question asked, int wrong_length)
-{
-    if (asked.n < 1 || asked.n > 12)
-        return 1;
-    if (asked.rule < 2 || asked.rule > 3)
-        return 18;
-    return wrong_length ? 2 : has_unused_bit(asked) ? 3 : 0;
-}
-
-/* The parts of the number choose what is wrong; lengths are one too short, right
- * or one too long for n, or for what it is once narrowed to a byte. */
-static void combination(unsigned number)
-{
-    static const uint32_t dimensions[] = {0, 1, 2, 3, 13, 257, 258};
-    static const uint8_t bytes[] = {0, 3, 16};
-    uint32_t n = dimensions[number % 7], answer;
-    struct label_question asked = fit_label(n & 255, faults, labels);
-    unsigned lengths = number / 28 % 27, due;
-    asked.n = n;
-    asked.rule = 1 + number / 7 % 4;
-    asked.faults_len += lengths % 3 - (size_t)1;
-    asked.draining = draining;
-    asked.draining_len += lengths / 3 % 3 - (size_t)1;
-    asked.labels_len += lengths / 9 - (size_t)1;
-    faults[0] = bytes[number / 756 % 3];
-    draining[0] = bytes[number / 2268];
-    due = label_refusal(asked, lengths != 13);
-    answer = check_label(asked);
-    expect(due ? answer == REFUSED(due) : answer >> 16 == 0,
-           "combination %u: %08x, where %u is due", number, answer, due);
-}
-
-void check_combinations(void)
-{
-    begin_group("labelling, all that is refused in every combination");
-    for (unsigned number = 0; number < 3 * 2268; number++)
-        combination(number);
-    end_group();
-}
-
 /* ---- numbers that would be good once narrowed to 8 or 16 bits */
 
 /* Asked with the tables of n = 4, whatever n is given: nobody is faulty. */
-static uint32_t label_at_4(uint32_t n, uint32_t rule)
+static uint32_t label_at_4(uint32_t n, uint32_t rule, uint32_t job)
 {
     struct label_question asked = fit_label(4, faults, row);
     asked.n = n;
     asked.rule = rule;
+    asked.job = job;
     return check_label(asked);
 }
 
@@ -191,6 +160,18 @@ static uint32_t hop_at_4(uint32_t n, uint32_t c, uint32_t d)
     struct hop_question asked = fit_hop(4, c, d, labels);
     asked.n = n;
     return check_hop(asked);
+}
+
+/* For this job, which is none: all labels of the buffer are safe. */
+static void no_job(uint32_t job)
+{
+    struct hop_question hop = fit_hop(4, 0, 1, labels);
+    struct walk_question walk = fit_walk(4, 0, 1, labels, row);
+    hop.job = walk.job = job;
+    hop.labels = walk.labels = labels;
+    expect(label_at_4(4, 3, job) == REFUSED(19), "label for job %u", job);
+    expect(check_hop(hop) == REFUSED(19), "hop for job %u", job);
+    expect(check_walk(walk) == REFUSED(19), "walk for job %u", job);
 }
 
 static uint32_t walk_at_4(uint32_t n, uint32_t s, uint32_t d)
@@ -208,9 +189,11 @@ void check_plain_numbers(void)
     memset(faults, 0, sizeof faults);
     memset(labels, 0, sizeof labels);
     for (unsigned k = 0; k < COUNT(more); k++) {
-        expect(label_at_4(4 + more[k], 3) == REFUSED(1), "label");
-        expect(label_at_4(4, 2 + more[k]) == REFUSED(18), "rule 2");
-        expect(label_at_4(4, 3 + more[k]) == REFUSED(18), "rule 3");
+        expect(label_at_4(4 + more[k], 3, 0) == REFUSED(1), "label");
+        expect(label_at_4(4, 2 + more[k], 1) == REFUSED(18), "rule 2");
+        expect(label_at_4(4, 3 + more[k], 0) == REFUSED(18), "rule 3");
+        no_job(more[k]);
+        no_job(more[k] + 1);
         expect(hop_at_4(4 + more[k], 0, 1) == REFUSED(1), "hop");
         expect(walk_at_4(4 + more[k], 0, 1) == REFUSED(1), "walk");
         expect(hop_at_4(4, more[k], 1) == REFUSED(5), "c");
@@ -218,6 +201,14 @@ void check_plain_numbers(void)
         expect(walk_at_4(4, more[k] + 3, 1) == REFUSED(5), "source");
         expect(walk_at_4(4, 1, more[k]) == REFUSED(5), "destination");
     }
+    for (uint32_t job = 2; job < 600; job++)
+        no_job(job);
+    for (unsigned i = 1; i < 32; i++) {
+        no_job(1u << i);
+        no_job((1u << i) + 1);
+        no_job(0u - (1u << i));
+    }
+    no_job(0xffffffffu);
     expect(hop_at_4(0xffffffffu, 0, 0) == REFUSED(1), "n");
     expect(hop_at_4(4, 0xffffffffu, 0) == REFUSED(5), "c");
     expect(walk_at_4(4, 0, 0xffffffffu) == REFUSED(5), "d");

@@ -1,6 +1,7 @@
 /*
  * tables.c: library against reference over fault and draining tables and over
- * label tables, all of them in small cubes and random ones up to dimension 12.
+ * label tables, all of them in small cubes and random ones up to dimension 12,
+ * which have closed nodes too. All closed tables of small cubes are in jobs.c.
  */
 #include <string.h>
 
@@ -44,6 +45,7 @@ static void small_cabinet(uint32_t n, unsigned pair)
  * n = 2 with every pair. */
 void check_small_cubes(void)
 {
+    memset(closed, 0, sizeof closed);
     begin_group("all pairs of tables to n = 3, both rules, all pairs");
     for (uint32_t n = 1; n <= 3; n++)
         for (unsigned pair = 0; pair < 65536; pair++)
@@ -96,7 +98,7 @@ static void moved(uint32_t n)
 
 void check_moved(void)
 {
-    begin_group("3,600 pairs of tables labelled by rule 2 and by rule 3");
+    begin_group("3,600 cabinets labelled by rule 2 and by rule 3");
     for (unsigned k = 0; k < 3600; k++) {
         uint32_t n = 1 + k % 12;
         random_cabinet(n, random_density(n) / (1 + k / 12 % 3));
@@ -107,7 +109,7 @@ void check_moved(void)
 
 void check_random_tables(void)
 {
-    begin_group("24,000 random pairs of tables to n = 12, by rules 2 and 3");
+    begin_group("24,000 random cabinets to n = 12, by rules 2 and 3");
     for (unsigned k = 0; k < RANDOM_TABLES; k++) {
         uint32_t n = 1 + k % 12;
         random_cabinet(n, random_density(n));
@@ -158,24 +160,26 @@ void check_hop_reads(void)
     end_group();
 }
 
-/* What the label buffer held before does not show. */
+/* What the job's half held before does not show. */
 void check_label_buffer(void)
 {
     static uint8_t first[MOST_NODES];
-    begin_group("labels whatever the buffer held");
+    begin_group("labels whatever the half held");
     for (unsigned k = 0; k < 600; k++) {
-        uint32_t n = 1 + k % 12, answer;
-        struct label_question asked = fit_label(n, faults, first);
-        asked.rule = 2 + k / 12 % 2;
-        asked.draining = draining;
+        uint32_t n = 1 + k % 12, rule = 2 + k / 12 % 2, answer;
         random_cabinet(n, random_density(n));
-        memset(first, 0, sizeof first);
-        answer = check_label(asked);
-        asked.labels = labels;
-        for (unsigned fill = 1; fill <= 6; fill++) {
+        answer = label_cabinet(n, rule);
+        memcpy(first, labels, (size_t)1 << n);
+        for (unsigned fill = 0; fill <= 6; fill++) {
+            struct label_question asked;
             memset(labels, fill < 6 ? (int)fill : 255, sizeof labels);
+            asked = fit_label(n, faults, labels);
+            asked.rule = rule;
+            asked.draining = draining;
+            asked.closed = closed;
             expect(check_label(asked) == answer,
                    "n = %u: another answer over %u", n, fill);
+            keep_half(asked, labels);
             expect(!memcmp(labels, first, (size_t)1 << n),
                    "n = %u: other labels over %u", n, fill);
         }

@@ -21,13 +21,15 @@ static void label_with(uint32_t rule, uint32_t dimension, unsigned faults,
 {
     uint8_t table[2] = {(uint8_t)faults, (uint8_t)(faults >> 8)};
     uint8_t drained[2] = {(uint8_t)draining, (uint8_t)(draining >> 8)};
-    struct label_question asked = fit_label(dimension, table, labels);
+    struct label_question asked;
     uint32_t answer;
     n = dimension;
+    memset(labels, 0xee, sizeof labels);
+    asked = fit_label(dimension, table, labels);
     asked.rule = rule;
     asked.draining = drained;
-    memset(labels, 0xee, sizeof labels);
     answer = check_label(asked);
+    keep_half(asked, labels);
     expect(answer == exchanges, "labels of %04x, draining %04x: answer %08x",
            faults, draining, answer);
 }

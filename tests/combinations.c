@@ -1,0 +1,259 @@
+/*
+ * combinations.c: labelling, hop and walk with all that they refuse, in every
+ * combination. Which refusal is due stands here once more, in document 02's order,
+ * and is not asked of the reference. That nothing is written then is checked by
+ * check.c.
+ */
+#include <string.h>
+
+#include "cases.h"
+#include "check.h"
+#include "groups.h"
+#include "lent.h"
+
+/* Good dimensions, and others, of which two would be good once narrowed; and those
+ * of small buffers alone, for what has the most combinations. */
+static const uint32_t dimensions[] = {0, 1, 2, 3, 13, 257, 258};
+static const uint32_t small_ones[] = {0, 1, 2, 3, 257, 258};
+/* The two jobs, and what is none. */
+static const uint32_t jobs[] = {0,     1,     2,        3,         255, 256, 257,
+                                65536, 65537, 1u << 31, 0xffffffff};
+
+/* Splits a part off the number of a combination. */
+static unsigned number;
+static unsigned part(size_t count)
+{
+    unsigned k = number % (unsigned)count;
+    number /= (unsigned)count;
+    return k;
+}
+#define ANY_OF(array) (array)[part(COUNT(array))]
+
+static int bad_dimension(uint32_t n)
+{
+    return n < 1 || n > 12;
+}
+
+/* Lengths; half of a label buffer's is what one job alone would take. */
+enum { RIGHT, SHORT, LONG, HALVED, EMPTY, DOUBLED, LENGTHS };
+static size_t length_of(unsigned kind, size_t exact)
+{
+    const size_t lengths[LENGTHS] = {exact, exact - 1, exact + 1,
+                                     exact / 2, 0, 2 * exact};
+    return lengths[kind];
+}
+
+static void is_due(const char *what, unsigned from, uint32_t answer,
+                   unsigned due)
+{
+    expect(due ? answer == REFUSED(due) : HCUBE_REFUSAL(answer) == 0,
+           "%s, combination %u: %08x, where %u is due", what, from, answer, due);
+}
+
+/* ---- labelling */
+
+static uint8_t faults[MOST_LENT], draining[MOST_LENT], closed[MOST_LENT];
+static uint8_t labels[MOST_LENT], row[MOST_LENT];
+
+/* 16 is a bit of no node where n is 1 or 2. */
+static const uint8_t bytes[] = {0, 3, 16};
+
+static unsigned label_due(struct label_question asked, int wrong_length)
+{
+    if (bad_dimension(asked.n))
+        return 1;
+    if (asked.rule < 2 || asked.rule > 3)
+        return 18;
+    if (asked.job > 1)
+        return 19;
+    if (wrong_length)
+        return 2;
+    return asked.n < 3 && (faults[0] | draining[0] | closed[0]) & 16 ? 3 : 0;
+}
+
+static void label_combination(uint32_t n, uint32_t rule, uint32_t job,
+                              const unsigned *lengths, unsigned from)
+{
+    struct label_question asked = fit_label(n & 255, faults, labels);
+    int wrong_length =
+        lengths[0] || lengths[1] || lengths[2] || lengths[3] != RIGHT;
+    asked.n = n;
+    asked.rule = rule;
+    asked.job = job;
+    asked.faults_len = length_of(lengths[0], asked.faults_len);
+    asked.draining = draining;
+    asked.draining_len = length_of(lengths[1], asked.draining_len);
+    asked.closed = closed;
+    asked.closed_len = length_of(lengths[2], asked.closed_len);
+    asked.labels_len = length_of(lengths[3], asked.labels_len);
+    is_due("label", from, check_label(asked), label_due(asked, wrong_length));
+}
+
+/* Lengths of all four buffers at once, and bytes of all three tables. */
+static unsigned all_labels(unsigned from)
+{
+    static const uint32_t some_jobs[] = {0, 1, 2, 257};
+    uint32_t n, rule, job;
+    unsigned lengths[4];
+    number = from;
+    n = ANY_OF(small_ones);
+    rule = 1 + part(4);
+    job = ANY_OF(some_jobs);
+    for (unsigned k = 0; k < 4; k++)
+        lengths[k] = part(k < 3 ? LONG + 1 : HALVED + 1);
+    faults[0] = ANY_OF(bytes);
+    draining[0] = ANY_OF(bytes);
+    closed[0] = ANY_OF(bytes);
+    if (number == 0)
+        label_combination(n, rule, job, lengths, from);
+    return number;
+}
+
+/* Every job, and every length of one buffer, and an unused bit of one table. */
+static unsigned all_jobs(unsigned from)
+{
+    uint8_t *tables[] = {faults, draining, closed, row};
+    uint32_t n, rule, job;
+    unsigned lengths[4] = {RIGHT, RIGHT, RIGHT, RIGHT}, which;
+    number = from;
+    n = ANY_OF(dimensions);
+    rule = 1 + part(4);
+    job = ANY_OF(jobs);
+    which = part(4);
+    lengths[which] = part(LENGTHS);
+    faults[0] = draining[0] = closed[0] = 0;
+    *ANY_OF(tables) = 16;
+    if (number == 0)
+        label_combination(n, rule, job, lengths, from);
+    return number;
+}
+
+/* ---- hop and walk */
+
+/* The labels at hand as the half of this job, and of both where it is none; any
+ * bytes in the rest. */
+static const uint8_t *buffer_for(uint32_t n, uint32_t job)
+{
+    static uint8_t buffer[MOST_LENT];
+    put_anything(buffer, HCUBE_LABEL_BYTES(n));
+    if (job != 1)
+        memcpy(buffer, labels, HCUBE_NODES(n));
+    if (job != 0)
+        memcpy(buffer + HCUBE_NODES(n), labels, HCUBE_NODES(n));
+    return buffer;
+}
+
+/* At 0, by the labels at hand, or at a number that is no node. */
+static unsigned hop_due(struct hop_question asked, int wrong_length)
+{
+    if (bad_dimension(asked.n))
+        return 1;
+    if (asked.job > 1)
+        return 19;
+    if (wrong_length)
+        return 2;
+    if (asked.c != 0 || asked.d >> asked.n)
+        return 5;
+    if (labels[0] > LAST_LABEL || labels[1u << (asked.n - 1)] > LAST_LABEL)
+        return 4;
+    return labels[0] == 3 || (labels[0] == 4 && asked.d != 0) ? 6 : 0;
+}
+
+/* From 0, or from 2^n, which is no node, to 0, 1 or 2^n. The label of 0 varies, and
+ * it or its last neighbour may have none. */
+static unsigned all_hops(unsigned from)
+{
+    static const uint8_t own[] = {0, 3, 4, LAST_LABEL + 1};
+    struct hop_question asked;
+    unsigned length;
+    uint32_t n, fitting, job, c, d;
+    number = from;
+    n = ANY_OF(dimensions);
+    fitting = n & 255;
+    job = ANY_OF(jobs);
+    length = part(LENGTHS);
+    c = part(2) << fitting;
+    d = part(3);
+    d = d < 2 ? d : 1u << fitting;
+    memset(labels, 0, HCUBE_NODES(fitting));
+    if (part(2))
+        labels[HCUBE_NODES(fitting) / 2] = 0xff;
+    labels[0] = ANY_OF(own);
+    asked = fit_hop(fitting, c, d, labels);
+    asked.n = n;
+    asked.job = job;
+    asked.labels = buffer_for(fitting, job);
+    asked.labels_len = length_of(length, asked.labels_len);
+    if (number == 0)
+        is_due("hop", from, check_hop(asked), hop_due(asked, length != RIGHT));
+    return number;
+}
+
+/* From 0 by the labels at hand, of which the last may be none. */
+static unsigned walk_due(struct walk_question asked, int wrong_length)
+{
+    if (bad_dimension(asked.n))
+        return 1;
+    if (asked.job > 1)
+        return 19;
+    if (wrong_length)
+        return 2;
+    if (asked.s != 0 || asked.d >> asked.n)
+        return 5;
+    if (labels[HCUBE_NODES(asked.n) - 1] > LAST_LABEL)
+        return 4;
+    return labels[0] >= 3 ? 6 : labels[asked.d] == 3 ? 7 : 0;
+}
+
+/* The same ends; both their labels vary, and the last byte may be no label. */
+static unsigned all_walks(unsigned from)
+{
+    static const uint8_t of_end[] = {0, 3, 4};
+    struct walk_question asked;
+    unsigned length, row_length;
+    uint32_t n, fitting, job, s, d, last;
+    number = from;
+    n = ANY_OF(small_ones);
+    fitting = n & 255;
+    job = ANY_OF(jobs);
+    length = part(LENGTHS);
+    row_length = part(LONG + 1);
+    s = part(2) << fitting;
+    d = part(3);
+    d = d < 2 ? d : 1u << fitting;
+    last = (1u << fitting) - 1;
+    memset(labels, 0, HCUBE_NODES(fitting));
+    labels[d & last] = ANY_OF(of_end);
+    labels[0] = ANY_OF(of_end);
+    if (part(2))
+        labels[last] = LAST_LABEL + 1;
+    asked = fit_walk(fitting, s, d, labels, row);
+    asked.n = n;
+    asked.job = job;
+    asked.labels = buffer_for(fitting, job);
+    asked.labels_len = length_of(length, asked.labels_len);
+    asked.row_len = length_of(row_length, asked.row_len);
+    if (number == 0)
+        is_due("walk", from, check_walk(asked),
+               walk_due(asked, length != RIGHT || row_length != RIGHT));
+    return number;
+}
+
+/* Asks the combinations from 0 on, up to the one that has a part too many. */
+static void check_all(const char *group, unsigned (*ask)(unsigned from))
+{
+    unsigned from = 0;
+    begin_group(group);
+    while (ask(from) == 0)
+        from++;
+    end_group();
+}
+
+void check_combinations(void)
+{
+    random_bytes(row, sizeof row);
+    check_all("labelling, all that is refused in every combination", all_labels);
+    check_all("labelling, every job and length with what is refused", all_jobs);
+    check_all("hop, all that is refused in every combination", all_hops);
+    check_all("walk, all that is refused in every combination", all_walks);
+}

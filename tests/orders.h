@@ -1,0 +1,34 @@
+/*
+ * orders.h: inputs to which two refusals apply at once. The one that document 01
+ * and the requests of document 02 name first is given.
+ */
+#ifndef ORDERS_H
+#define ORDERS_H
+
+#include <stddef.h>
+#include <stdint.h>
+
+/* An input with both refusals, the first to be tested first. What a row does not
+ * name is zero; lengths then fit n, or what n is once narrowed to a byte. Job 0
+ * stands for either job: both are asked. */
+struct order {
+    unsigned first, second;
+    uint32_t n, job, s, d; /* s: the walk's source, or the hop's current node */
+    int rule_more;         /* for labelling: beyond rule 3 */
+    uint8_t fault_byte, draining_byte, closed_byte; /* each byte of the table */
+    const char *labels; /* for hop and walk: the job's half, a digit a byte, x for
+                         * no label */
+    int faults_more, draining_more, closed_more; /* beyond what fits */
+    int labels_more, row_more;
+};
+
+/* Asks all, and expects that each pair of the refusals of this question, LABEL,
+ * HOP or WALK, is among them. */
+void check_order(unsigned question,
+                 uint32_t (*answer_to)(const struct order *, uint32_t job),
+                 const struct order *orders, size_t count);
+
+/* Labelling, in orders_label.c. */
+void check_label_orders(void);
+
+#endif

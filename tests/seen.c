@@ -1,0 +1,90 @@
+/* seen.c: counts of what the checks have seen. */
+#include "seen.h"
+
+#include "cases.h"
+#include "check.h"
+
+struct seen seen;
+
+/* One more of this number, if there is room for it; if not, the case fails. */
+static void count_one(unsigned long *counts, size_t room, const char *what,
+                      uint64_t number)
+{
+    if (number < room)
+        counts[number]++;
+    else
+        expect(0, "%s: there is no room to count %llu", what,
+               (unsigned long long)number);
+}
+#define SEEN(counts, number)                                                   \
+    count_one(seen.counts, COUNT(seen.counts), #counts, number)
+
+static unsigned whose(uint32_t job)
+{
+    return job < NO_JOB ? job : NO_JOB;
+}
+
+/* In small cubes alone: they have enough of each. */
+static void count_tables(struct label_question asked)
+{
+    for (uint32_t k = 0; asked.n <= 5 && k < HCUBE_NODES(asked.n); k++)
+        SEEN(tables, in_table(asked.faults, k) +
+                         2u * in_table(asked.draining, k) +
+                         4u * in_table(asked.closed, k));
+}
+
+void saw_label(struct label_question asked, uint32_t answer,
+               const uint8_t *labels)
+{
+    uint32_t exchanges = HCUBE_VALUE(answer);
+    SEEN(refusal[LABEL][whose(asked.job)], HCUBE_REFUSAL(answer));
+    if (HCUBE_REFUSAL(answer))
+        return;
+    SEEN(cube[LABEL][whose(asked.job)], asked.n);
+    SEEN(rule, asked.rule);
+    SEEN(exchanges, exchanges < 10 ? exchanges : 10);
+    labels += HCUBE_HALF(asked.n, asked.job);
+    for (uint32_t k = 0; k < HCUBE_NODES(asked.n); k++)
+        SEEN(label, labels[k]);
+    count_tables(asked);
+}
+
+void saw_hop(struct hop_question asked, uint32_t answer)
+{
+    const uint8_t *half;
+    uint32_t dimension = 0;
+    SEEN(refusal[HOP][whose(asked.job)], HCUBE_REFUSAL(answer));
+    if (HCUBE_REFUSAL(answer))
+        return;
+    half = asked.labels + HCUBE_HALF(asked.n, asked.job);
+    SEEN(cube[HOP][whose(asked.job)], asked.n);
+    SEEN(hop_kind, HCUBE_KIND(answer));
+    SEEN(hop_at, half[asked.c]);
+    SEEN(scan, ref_scan(asked.n, asked.c, asked.d, half, &dimension));
+    if (HCUBE_KIND(answer) == HCUBE_HOP)
+        SEEN(dimension, dimension);
+}
+
+void saw_walk(struct walk_question asked, uint32_t answer)
+{
+    uint32_t hops = HCUBE_VALUE(answer);
+    SEEN(refusal[WALK][whose(asked.job)], HCUBE_REFUSAL(answer));
+    if (HCUBE_REFUSAL(answer))
+        return;
+    SEEN(cube[WALK][whose(asked.job)], asked.n);
+    SEEN(walk_kind, HCUBE_KIND(answer));
+    if (HCUBE_KIND(answer) != HCUBE_WALK_DELIVERED)
+        return;
+    SEEN(walk_hops, hops);
+    if (asked.labels[HCUBE_HALF(asked.n, asked.job) + asked.d] == HCUBE_DRAINING)
+        SEEN(drained_hops, hops);
+    if (hops == asked.n + 4)
+        SEEN(longest, asked.n);
+}
+
+void saw_notice(uint64_t answer)
+{
+    SEEN(refusal[NOTICE][0], HCUBE_REFUSAL(answer));
+    if (HCUBE_REFUSAL(answer) == 0)
+        SEEN(cube[NOTICE][0], HCUBE_NOTICE_DIMENSION(answer));
+}

@@ -1,0 +1,41 @@
+/*
+ * seen.h: what the checks have seen so far, by the reference's answers.
+ */
+#ifndef SEEN_H
+#define SEEN_H
+
+#include <stdint.h>
+
+#include "questions.h"
+
+/* By whose call it is: job 0, job 1, or a number that is no job. A notice has no
+ * job and counts as job 0. */
+enum { NO_JOB = 2, WHOSE };
+
+struct seen {
+    unsigned long refusal[QUESTIONS][WHOSE][MOST_REFUSAL + 1];
+    unsigned long cube[QUESTIONS][WHOSE][13]; /* accepted calls, by n */
+    unsigned long hop_kind[3];         /* deliver, hop, halted */
+    unsigned long hop_at[MOST_LABEL + 1]; /* accepted hops, by c's label */
+    unsigned long dimension[12];       /* that a hop crossed */
+    unsigned long scan[NO_SCAN + 1];   /* that decided a hop; see ref_scan */
+    unsigned long walk_kind[2];        /* delivered, halted */
+    unsigned long walk_hops[17];       /* of delivered walks */
+    unsigned long drained_hops[17];    /* of those to a draining node */
+    unsigned long longest[13];         /* delivered in n + 4 hops, by n */
+    unsigned long rule[4];             /* by which labels were made */
+    unsigned long exchanges[11];       /* 10: ten or more */
+    unsigned long label[MOST_LABEL + 1]; /* bytes that labelling wrote */
+    unsigned long tables[8]; /* nodes labelled to n = 5, by the tables that they
+                              * are in: 1 faults, 2 draining, 4 closed */
+};
+extern struct seen seen;
+
+/* Each counts a question with this answer; `labels` is what labelling left. */
+void saw_label(struct label_question asked, uint32_t answer,
+               const uint8_t *labels);
+void saw_hop(struct hop_question asked, uint32_t answer);
+void saw_walk(struct walk_question asked, uint32_t answer);
+void saw_notice(uint64_t answer);
+
+#endif
