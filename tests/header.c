@@ -43,6 +43,13 @@ HOLDS(table_bytes_1, HCUBE_NODES(1) == 2 && HCUBE_FAULT_BYTES(1) == 1);
 HOLDS(table_bytes_3, HCUBE_NODES(3) == 8 && HCUBE_FAULT_BYTES(3) == 1);
 HOLDS(table_bytes_4, HCUBE_NODES(4) == 16 && HCUBE_FAULT_BYTES(4) == 2);
 HOLDS(table_bytes_12, HCUBE_NODES(12) == 4096 && HCUBE_FAULT_BYTES(12) == 512);
+HOLDS(label_bytes, HCUBE_LABEL_BYTES(1) == 4 && HCUBE_LABEL_BYTES(4) == 32 &&
+                       HCUBE_LABEL_BYTES(12) == 8192);
+HOLDS(halves_1, HCUBE_HALF(1, 0) == 0 && HCUBE_HALF(1, 1) == 2);
+HOLDS(halves_4, HCUBE_HALF(4, 0) == 0 && HCUBE_HALF(2 + 2, 1 - 0) == 16);
+HOLDS(halves_12, HCUBE_HALF(12, 0) == 0 && HCUBE_HALF(12, 1) == 4096);
+HOLDS(sizes, sizeof HCUBE_LABEL_BYTES(1) == sizeof(size_t) &&
+                 sizeof HCUBE_HALF(1, 1) == sizeof(size_t));
 HOLDS(rules, HCUBE_RULE_LEE_HAYES == 2 && HCUBE_RULE_CHIU_WU == 3 &&
                  HCUBE_BAD_RULE == 18);
 HOLDS(labels, HCUBE_SAFE == 0 && HCUBE_ORDINARY == 1 && HCUBE_STRONG == 2 &&
@@ -55,21 +62,24 @@ HOLDS(refusals_1, HCUBE_ACCEPTED == 0 && HCUBE_BAD_DIMENSION == 1 &&
 HOLDS(refusals_6, HCUBE_FAULTY_SOURCE == 6 && HCUBE_FAULTY_TARGET == 7 &&
                       HCUBE_TOO_MANY_HOPS == 8 && HCUBE_CUT_SHORT == 9);
 HOLDS(refusals_10, HCUBE_BAD_GROUP == 10 && HCUBE_BAD_COUNT == 11 &&
-                       HCUBE_BAD_ADDRESS == 12);
+                       HCUBE_BAD_ADDRESS == 12 && HCUBE_BAD_JOB == 19);
 
 uint64_t use_all(const uint8_t *bytes, uint8_t *faults, const uint8_t *draining,
-                 uint8_t *labels, uint8_t *row);
+                 const uint8_t *closed, uint8_t *labels, uint8_t *row);
 
 uint64_t use_all(const uint8_t *bytes, uint8_t *faults, const uint8_t *draining,
-                 uint8_t *labels, uint8_t *row)
+                 const uint8_t *closed, uint8_t *labels, uint8_t *row)
 {
     uint64_t notice = hcube_read_notice(bytes, 12, faults, HCUBE_FAULT_BYTES(4));
-    uint32_t n = (uint32_t)HCUBE_NOTICE_DIMENSION(notice);
-    uint32_t all = hcube_label(n, HCUBE_RULE_CHIU_WU, faults,
+    uint32_t n = (uint32_t)HCUBE_NOTICE_DIMENSION(notice), job = bytes[12];
+    uint32_t all = hcube_label(n, HCUBE_RULE_CHIU_WU, job, faults,
                                HCUBE_FAULT_BYTES(n), draining,
-                               HCUBE_FAULT_BYTES(n), labels, HCUBE_NODES(n));
-    all += hcube_hop(n, 0, 1, labels, HCUBE_NODES(n));
-    all += hcube_walk(n, 0, 1, labels, HCUBE_NODES(n), row, HCUBE_ROW_BYTES);
+                               HCUBE_FAULT_BYTES(n), closed,
+                               HCUBE_FAULT_BYTES(n), labels,
+                               HCUBE_LABEL_BYTES(n));
+    all += hcube_hop(n, job, 0, 1, labels, HCUBE_LABEL_BYTES(n));
+    all += hcube_walk(n, job, 0, 1, labels, HCUBE_LABEL_BYTES(n), row,
+                      HCUBE_ROW_BYTES);
     return all + HCUBE_REFUSAL(notice) + HCUBE_NOTICE_COUNT(notice) +
-           HCUBE_VALUE(notice);
+           HCUBE_VALUE(notice) + labels[HCUBE_HALF(n, job)];
 }

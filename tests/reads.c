@@ -1,8 +1,9 @@
 /*
  * reads.c: which labels the archive reads, watched while its machine code runs,
  * against document 02's request A6: the test of a node reads its neighbours'
- * labels one by one, lowest dimension first, and no more of them than settle it.
- * Here all that is expected is worked out anew from the two tables.
+ * labels one by one, lowest dimension first, and no more of them than settle it;
+ * and against A10: a call for one job reads and writes no byte of the other's half.
+ * Here all that is expected is worked out anew from the three tables.
  *
  *   reads           checks; prints `ok ..` and `FAIL ..`
  *   reads table     how many labels were read, for docs/PERFORMANCE.md
@@ -12,10 +13,13 @@
 
 #include "../include/hcube.h"
 #include "cases.h"
+#include "noted.h"
+#include "reads.h"
 #include "watch.h"
 
-static uint32_t n, rule;
-static uint8_t faults[512], draining[512];
+uint32_t n, job;
+static uint32_t rule;
+static uint8_t faults[512], draining[512], closed[512];
 
 /* ---- the rounds, by the tables: 1 where a node does not work, has a mark */
 
@@ -62,32 +66,10 @@ static uint32_t read_before(uint32_t x)
 
 /* ---- what was noted, held against it */
 
-static size_t at;        /* the notes before this one were as expected */
-static char wrong[160];  /* what was not */
 static unsigned exchanges;
 /* tests of the rule in the sweeps, and the reads that were noted in them, that
  * the definition gives, and that were made before A6 */
 static unsigned long tests, reads, defined, reads_before;
-
-static void expect_access(int write, uint32_t place, const char *what)
-{
-    if (*wrong)
-        return;
-    if (at == noted)
-        snprintf(wrong, sizeof wrong, "%s: no more accesses", what);
-    else if (notes[at].is_write != write || notes[at].place != place)
-        snprintf(wrong, sizeof wrong, "%s: %s at %u and not %s at %u", what,
-                 notes[at].is_write ? "write" : "read", notes[at].place,
-                 write ? "write" : "read", place);
-    else
-        at++;
-}
-
-static void expect_neighbours(uint32_t x, uint32_t so_many, const char *what)
-{
-    for (uint32_t i = 0; i < so_many; i++)
-        expect_access(0, x ^ 1u << i, what);
-}
 
 /* One sweep: each node's own label, and where it is plain the test of the rule.
  * Whether it marked something. */
@@ -116,16 +98,6 @@ static int expect_sweep(void)
     return something_new;
 }
 
-/* The pass that ends a round goes once through the table, in whatever steps. */
-static void expect_pass(void)
-{
-    int last[2] = {-1, -1};
-    while (at < noted && notes[at].place > last[notes[at].is_write]) {
-        last[notes[at].is_write] = notes[at].place;
-        at++;
-    }
-}
-
 /* The last pass: each node's own label, of an unsafe one the neighbours up to the
  * first safe one, and the label of each that is unsafe or does not work. */
 static void expect_finish(void)
@@ -142,45 +114,28 @@ static void expect_finish(void)
     }
 }
 
-static void expect_end(void)
-{
-    if (!*wrong && at < noted)
-        snprintf(wrong, sizeof wrong, "%u accesses too many", (unsigned)(noted - at));
-}
-
-/* Labels the tables at hand under watch. */
+/* Labels the tables at hand under watch, for the job, into a half and beside one
+ * that hold anything. */
 static void expect_labelling(void)
 {
-    uint8_t *labels = watched_table();
-    at = 0;
-    *wrong = 0;
+    uint8_t *labels = watched_buffer(HCUBE_NODES(n));
+    size_t bytes = HCUBE_FAULT_BYTES(n);
     exchanges = 0;
     tests = reads = defined = reads_before = 0;
     for (uint32_t x = 0; x < HCUBE_NODES(n); x++)
-        out[x] = in_table(faults, x) || in_table(draining, x);
+        out[x] = in_table(faults, x) || in_table(draining, x) ||
+                 in_table(closed, x);
     memset(marked, 0, sizeof marked);
+    random_bytes(labels, HCUBE_LABEL_BYTES(n));
     watch_begin();
-    hcube_label(n, rule, faults, HCUBE_FAULT_BYTES(n), draining,
-                HCUBE_FAULT_BYTES(n), labels, HCUBE_NODES(n));
+    hcube_label(n, rule, job, faults, bytes, draining, bytes, closed, bytes,
+                labels, HCUBE_LABEL_BYTES(n));
     watch_end();
-    while (at < noted && notes[at].is_write) /* the table before the first round */
-        at++;
+    expect_from_start(n, job);
+    expect_writes(); /* the table before the first round */
     while (expect_sweep())
-        expect_pass();
+        expect_pass(); /* which ends the round */
     expect_finish();
-    expect_end();
-}
-
-/* A hop at c under watch: its own label, then each neighbour's, and no more. */
-static void expect_hop(uint32_t c, uint32_t d)
-{
-    at = 0;
-    *wrong = 0;
-    watch_begin();
-    hcube_hop(n, c, d, watched_table(), HCUBE_NODES(n));
-    watch_end();
-    expect_access(0, c, "a hop's own label");
-    expect_neighbours(c, n, "a hop's neighbours");
     expect_end();
 }
 
@@ -190,12 +145,12 @@ static const unsigned densities[] = {0, 3, 10, 62, 250, 500, 1000};
 static const unsigned printed[] = {0, 10, 62, 250, 500};
 static int failed;
 
-static void result(const char *what, unsigned cases)
+void result(const char *what, unsigned cases)
 {
     if (*wrong)
-        printf("FAIL reads of %s, n = %u: %s\n", what, n, wrong);
+        printf("FAIL reads of %s, n = %u, job %u: %s\n", what, n, job, wrong);
     else
-        printf("ok reads of %s, n = %u: %u cases\n", what, n, cases);
+        printf("ok reads of %s, n = %u, job %u: %u cases\n", what, n, job, cases);
     failed |= *wrong != 0;
 }
 
@@ -207,23 +162,12 @@ static void check_labelling(void)
     for (unsigned k = 0; k < tables * COUNT(densities) && !*wrong; k++) {
         random_faults(n, densities[k % COUNT(densities)], faults);
         random_draining(n, faults, draining);
-        rule = 2 + (k + n) % 2;
+        random_closed(n, faults, draining, closed);
+        rule = 2 + (k + n + job) % 2;
         expect_labelling();
         cases++;
     }
     result("labelling", cases);
-}
-
-static void check_hops(void)
-{
-    unsigned cases = 0;
-    random_labels(n, HCUBE_DRAINING, watched_table());
-    *wrong = 0;
-    for (unsigned k = 0; k < 200 && !*wrong; k++) {
-        expect_hop(random_below(HCUBE_NODES(n)), random_below(HCUBE_NODES(n)));
-        cases++;
-    }
-    result("hops", cases);
 }
 
 static void print_row(unsigned per_mille)
@@ -248,9 +192,13 @@ int main(int count, char **words)
 {
     random_seed(6);
     if (count == 1 || strcmp(words[1], "table") != 0) {
-        for (n = 1; n <= 12; n++) {
+        for (unsigned k = 0; k < 24; k++) {
+            n = 1 + k / 2;
+            job = k % 2;
             check_labelling();
             check_hops();
+            check_walks();
+            check_refused();
         }
         return failed;
     }

@@ -1,7 +1,7 @@
 /*
  * watch.c: an access to the shut pages raises SIGSEGV. Its handler notes it,
- * opens the pages and sets the processor's trap flag; so SIGTRAP comes after
- * that one instruction, and its handler shuts the pages again.
+ * opens the pages of that half and sets the processor's trap flag; so SIGTRAP
+ * comes after that one instruction, and its handler shuts all pages again.
  */
 #define _GNU_SOURCE
 #include "watch.h"
@@ -18,25 +18,28 @@
 
 struct note notes[MOST_NOTES];
 size_t noted;
-static uint8_t *table;
+static uint8_t *pages;  /* of the first half, and then of the second */
+static uint8_t *buffer; /* its second half begins where the second pages do */
 
-static void protect(int how)
+static void protect(uint8_t *from, size_t len, int how)
 {
-    if (mprotect(table, WATCHED_BYTES, how) != 0)
+    if (mprotect(from, len, how) != 0)
         abort();
 }
 
 static void reached(int number, siginfo_t *info, void *context)
 {
     greg_t *registers = ((ucontext_t *)context)->uc_mcontext.gregs;
-    size_t place = (size_t)((uint8_t *)info->si_addr - table);
+    uint8_t *reached_for = info->si_addr;
+    size_t at = (size_t)(reached_for - pages);
     (void)number;
-    if (place >= WATCHED_BYTES || noted == MOST_NOTES)
+    if (at >= 2 * WATCHED_HALF || noted == MOST_NOTES)
         abort(); /* another bad access, or too many */
-    notes[noted].place = (uint16_t)place;
+    notes[noted].place = (int32_t)(reached_for - buffer);
     notes[noted].is_write = (registers[REG_ERR] & WRITE_FAULT) != 0;
     noted++;
-    protect(PROT_READ | PROT_WRITE);
+    protect(pages + at / WATCHED_HALF * WATCHED_HALF, WATCHED_HALF,
+            PROT_READ | PROT_WRITE);
     registers[REG_EFL] |= TRAP_FLAG;
 }
 
@@ -46,7 +49,7 @@ static void stepped(int number, siginfo_t *info, void *context)
     (void)number;
     (void)info;
     registers[REG_EFL] &= ~(greg_t)TRAP_FLAG;
-    protect(PROT_NONE);
+    protect(pages, 2 * WATCHED_HALF, PROT_NONE);
 }
 
 static void handle(int number, void (*handler)(int, siginfo_t *, void *))
@@ -58,27 +61,31 @@ static void handle(int number, void (*handler)(int, siginfo_t *, void *))
     sigaction(number, &action, NULL);
 }
 
-uint8_t *watched_table(void)
+static void open_pages(void)
 {
-    void *pages;
-    if (table)
-        return table;
-    pages = mmap(NULL, WATCHED_BYTES, PROT_READ | PROT_WRITE,
-                 MAP_PRIVATE | MAP_ANONYMOUS, -1, 0);
-    if (pages == MAP_FAILED)
+    void *all = mmap(NULL, 2 * WATCHED_HALF, PROT_READ | PROT_WRITE,
+                     MAP_PRIVATE | MAP_ANONYMOUS, -1, 0);
+    if (all == MAP_FAILED)
         abort();
     handle(SIGSEGV, reached);
     handle(SIGTRAP, stepped);
-    return table = pages;
+    pages = all;
+}
+
+uint8_t *watched_buffer(size_t half_bytes)
+{
+    if (!pages)
+        open_pages();
+    return buffer = pages + WATCHED_HALF - half_bytes;
 }
 
 void watch_begin(void)
 {
     noted = 0;
-    protect(PROT_NONE);
+    protect(pages, 2 * WATCHED_HALF, PROT_NONE);
 }
 
 void watch_end(void)
 {
-    protect(PROT_READ | PROT_WRITE);
+    protect(pages, 2 * WATCHED_HALF, PROT_READ | PROT_WRITE);
 }
