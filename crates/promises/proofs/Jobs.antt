@@ -1,17 +1,19 @@
 -- Two jobs, of any library that is faithful to the definitions. Each question is defined on the half of its job and the buffer's length, so buffers that agree in
 -- these are answered alike; and what labelling leaves is the buffer with another half of its own job.
+use mathlib.Core.Bool.{Bool, cond, _||_}
 use mathlib.Core.List.{List}
 use mathlib.Core.Logic.{_≢_}
-use mathlib.Core.Path.{_≡_, refl, sym, ap, ap₂, subst, _∙_}
+use mathlib.Core.Path.{_≡_, refl, sym, ap, ap₂, fun-ext, subst, _∙_}
 use Prim.Native.Nat.{ℕ, _*_, _^_, _<_}
 use native.Mathlib.Decide.{ℕ-discrete}
 use native.Mathlib.Omega.{arith}
 use lib.ListN.{length}
-use Rattle.cube.specs.Tables.{labelIn}
-use Rattle.jobs.specs.Jobs.{half, labelFor}
+use Rattle.cube.specs.Tables.{labelIn, nodeBit, tab}
+use Rattle.jobs.specs.Jobs.{half, labelFor, withHalf}
 use Rattle.jobs.proofs.Halves.{is-job}
 use Rattle.jobs.proofs.Laws.{halves-alike}
-use Rattle.rule.specs.Cabinet.{Cabinet, labelsOf}
+use Rattle.rule.specs.Cabinet.{Cabinet, exchangesOf, faulty, labelsOf, out, outByte}
+use Rattle.rule.specs.Rule.{exchanges, label}
 use Rattle.labels.specs.Labelling.{labelRefusal, labelled, labelsAfter}
 use Rattle.labels.specs.declared.Labelled.{Labelled}
 use Rattle.labels.specs.declared.Labelled.the-variants.{Exchanges}
@@ -34,6 +36,10 @@ use Rattle.promises.proofs.Library.{Faithful, rattle-faithful, c-faithf
 -- ---- what labelling leaves
 
 module _ (K : Cabinet) (j : ℕ) where
+  written : (l : List ℕ) → labelRefusal K j (length l) ≡ 0 → labelsAfter K j l ≡ withHalf j (2 ^ K .n) (labelsOf K) l
+  unfolding labelsAfter
+  written l z = rw z
+
   kept : (l : List ℕ) → labelRefusal K j (length l) ≢ 0 → labelsAfter K j l ≡ l
   kept l z = sym (says-refused K j l _ refl z .1)
 
@@ -52,6 +58,27 @@ module _ (K : Cabinet) (j : ℕ) where
   -- to another job the buffer is the same
   other-same : (i : ℕ) → i < 2 → i ≢ j → (l : List ℕ) → SameTo (K .n) i l (labelsAfter K j l)
   other-same i h d l = record { long = sym (length-kept K j l); own = sym (others-kept K j l i h d) }
+
+-- ---- the labels go by which nodes do not work, and by which of these drain
+
+module _
+    (K K′ : Cabinet) (en : K .n ≡ K′ .n) (er : K .rule ≡ K′ .rule) (ed : K .draining ≡ K′ .draining) (same : (x : ℕ) → faulty K x ≡ faulty K′ x)
+  where
+    out-same : out K ≡ out K′
+    out-same = fun-ext (λ x. ap₂ (λ (a b : Bool). a || b) (same x) (ap (λ (t : List ℕ). nodeBit t x) ed))
+
+    byte-same : outByte K ≡ outByte K′
+    byte-same = fun-ext (λ x. ap (λ (a : Bool). cond a 3 4) (same x))
+
+    exchanges-same : exchangesOf K ≡ exchangesOf K′
+    unfolding exchangesOf
+    exchanges-same = ap₂ (λ (n k : ℕ). exchanges n k (out K)) en er ∙ ap (exchanges (K′ .n) (K′ .rule)) out-same
+
+    labels-same : labelsOf K ≡ labelsOf K′
+    unfolding labelsOf
+    labels-same =
+        ap₂ (λ (n k : ℕ). tab (2 ^ n) (label n k (out K) (outByte K))) en er
+        ∙ ap₂ (λ (F : ℕ → Bool) (b : ℕ → ℕ). tab (2 ^ K′ .n) (label (K′ .n) (K′ .rule) F b)) out-same byte-same
 
 -- ---- one job after the other
 
@@ -140,6 +167,18 @@ module _ (lib : Library) (F : Faithful lib) (A : Answers lib) (D : Demands lib) 
   walk-own {n} {j} {s} {d} {room} v v′ e =
       F .walks v ∙ ap₂ (λ (k : ℕ) (t : List ℕ). walked n j s d k room (labelIn t)) (e .long) (e .own) ∙ sym (F .walks v′)
 
+  closed-as-faulty : {K K′ : Cabinet} {j e e′ : ℕ} {l after after′ : List ℕ} → K .n ≡ K′ .n → K .rule ≡ K′ .rule → K .draining ≡ K′ .draining
+      → ((x : ℕ) → faulty K x ≡ faulty K′ x) → lib .labels K j l (Exchanges e) after → lib .labels K′ j l (Exchanges e′) after′ → (e ≡ e′) × (after ≡ after′)
+  closed-as-faulty {K} {K′} {j} {e} {e′} {l} en er ed same m m′ =
+      let f = F .labels m in
+      let f′ = F .labels m′ in
+      let o = of-exchanges K j (length l) e (sym (f .0)) in
+      let o′ = of-exchanges K′ j (length l) e′ (sym (f′ .0)) in
+      let labels = labels-same K K′ en er ed same in (
+        sym (o .1) ∙ exchanges-same K K′ en er ed same ∙ o′ .1,
+        f .1 ∙ written K j l (o .0) ∙ ap₂ (λ (n : ℕ) (h : List ℕ). withHalf j (2 ^ n) h l) en labels ∙ sym (f′ .1 ∙ written K′ j l (o′ .0)),
+      )
+
   -- one labelling of another, and any number of them
   unmoved-by : {K : Cabinet} {i j : ℕ} {l l′ : List ℕ} {x : Labelled} → j < 2 → i ≢ j → lib .labels K i l x l′ → SameTo (K .n) j l l′
   unmoved-by {K} {i} {j} {l} h d m = rw (F .labels m .1) (other-same K i j h (λ q. d (sym q)) l)
@@ -186,6 +225,7 @@ module _ (lib : Library) (F : Faithful lib) (A : Answers lib) (D : Demands lib) 
         labels-own = λ m m′ s. labels-own m m′ s;
         hop-own = λ m m′ s. hop-own m m′ s;
         walk-own = λ v v′ e. walk-own v v′ e;
+        closed-as-faulty = λ en er ed same m m′. closed-as-faulty en er ed same m m′;
         unmoved = λ job m. unmoved (job-below job) m;
         still-walks = λ m meanwhile hs hd v. still-walks m meanwhile hs hd v;
         both = λ e m₀ m₁. both e m₀ m₁;

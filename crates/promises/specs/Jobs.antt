@@ -8,7 +8,7 @@ use mathlib.Core.Path.{_≡_}
 use Prim.Native.Nat.{ℕ, _^_}
 use lib.ListN.{length}
 use Rattle.jobs.specs.Jobs.{half, labelFor}
-use Rattle.rule.specs.Cabinet.{Cabinet, labelsOf}
+use Rattle.rule.specs.Cabinet.{Cabinet, faulty, labelsOf}
 use Rattle.labels.specs.declared.Labelled.{Labelled}
 use Rattle.labels.specs.declared.Labelled.the-variants.{Exchanges}
 use Rattle.hop.specs.declared.Hopped.{Hopped}
@@ -46,6 +46,11 @@ pub record Jobs (lib : Library) : Type 0 where
       {n j c d : ℕ} {l l′ : List ℕ} {x x′ : Hopped} → lib .hops n j c d l x → lib .hops n j c d l′ x′ → SameTo n j l l′ → x ≡ x′
   pub walk-own :
       {n j s d room : ℕ} {l l′ : List ℕ} {w w′ : Walked} → lib .walks n j s d l room w → lib .walks n j s d l′ room w′ → SameTo n j l l′ → w ≡ w′
+  -- "closed counts as faulty": which of the two it is makes no difference. So a job has the labels and the count of a cabinet of its own in which the nodes that
+  -- it closes are in the fault table
+  pub closed-as-faulty :
+      {K K′ : Cabinet} {j e e′ : ℕ} {l after after′ : List ℕ} → K .n ≡ K′ .n → K .rule ≡ K′ .rule → K .draining ≡ K′ .draining
+      → ((x : ℕ) → faulty K x ≡ faulty K′ x) → lib .labels K j l (Exchanges e) after → lib .labels K′ j l (Exchanges e′) after′ → (e ≡ e′) × (after ≡ after′)
   -- ---- labelling the other
 
   -- "relabelling the other alters nothing it sees and no byte of its half": whoever else was labelled meanwhile, the buffer is the same to the job,
