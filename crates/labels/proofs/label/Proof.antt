@@ -49,7 +49,7 @@ label-nodes-requires c κs =
     let k = c .before in
     let f = fit (k .before) in
     let sized = ap length (part-is-half _ _ _ (k .nodes .ensures) _) ∙ halved-long _ _ _ (f .halved) in
-    (f .rule, (f .faults, (f .draining, (f .closed, record { small = f .halved .small; sized = sized }))))
+    (omega (arith, f .rule), (f .faults, (f .draining, (f .closed, record { small = f .halved .small; sized = sized }))))
 
 same-length : tie.Need-same-length
 same-length c = search needs
