@@ -72,6 +72,63 @@ static void all_small_tables(void)
     }
 }
 
+/* ---- one node x and its neighbours, in cubes of every dimension */
+
+static void clear_tables(void)
+{
+    memset(faults, 0, sizeof faults);
+    memset(draining, 0, sizeof draining);
+    memset(closed, 0, sizeof closed);
+}
+
+/* The node does not work, by any one of the three tables. */
+static void put_out(uint32_t k)
+{
+    uint8_t *tables[] = {faults, draining, closed};
+    tables[random_below(3)][k / 8] |= (uint8_t)(1u << k % 8);
+}
+
+static void label_is(uint32_t n, uint32_t job, uint32_t x, uint8_t label,
+                     const char *why)
+{
+    label_for(n, 2 + random_below(2), job);
+    expect(labels[x] == label, "n = %u, job %u, %u with %s: label %u", n, job, x,
+           why, labels[x]);
+}
+
+/* Across i alone works a neighbour, which is safe; then that one is out too. */
+static void all_but_one_out(uint32_t n, uint32_t job, uint32_t x, uint32_t i)
+{
+    clear_tables();
+    for (uint32_t j = 0; j < n; j++)
+        if (j != i)
+            put_out(x ^ 1u << j);
+    label_is(n, job, x, HCUBE_ORDINARY, "one safe neighbour");
+    expect(labels[x ^ 1u << i] == HCUBE_SAFE, "n = %u: %u's neighbour", n, x);
+    put_out(x ^ 1u << i);
+    label_is(n, job, x, HCUBE_STRONG, "no safe neighbour");
+}
+
+/* Across i a neighbour is out, and then across j another. */
+static void two_out(uint32_t n, uint32_t job, uint32_t x, uint32_t i, uint32_t j)
+{
+    clear_tables();
+    put_out(x ^ 1u << i);
+    label_is(n, job, x, HCUBE_SAFE, "one that is out");
+    put_out(x ^ 1u << j);
+    label_is(n, job, x, n == 2 ? HCUBE_STRONG : HCUBE_ORDINARY, "two out");
+}
+
+static void one_node(uint32_t n, uint32_t job)
+{
+    for (uint32_t i = 0; i < n; i++) {
+        if (n >= 3)
+            all_but_one_out(n, job, random_below(1u << n), i);
+        for (uint32_t j = 0; j < i; j++)
+            two_out(n, job, random_below(1u << n), j, i);
+    }
+}
+
 /* ---- figure 1 of document 001, n = 4 with 2, 4, 8 and 15 faulty, for two jobs */
 
 static uint8_t both[32];
@@ -162,6 +219,12 @@ void check_closed(void)
 {
     begin_group("closed nodes, all tables of n = 1 and 2, all closed of n = 3");
     all_small_tables();
+    end_group();
+    begin_group("a node's neighbours out, across each two dimensions");
+    for (uint32_t n = 1; n <= 12; n++) {
+        one_node(n, 0);
+        one_node(n, 1);
+    }
     end_group();
     begin_group("worked numbers of two jobs");
     worked_jobs();
