@@ -29,11 +29,6 @@ static unsigned part(size_t count)
 }
 #define ANY_OF(array) (array)[part(COUNT(array))]
 
-static int bad_dimension(uint32_t n)
-{
-    return n < 1 || n > 12;
-}
-
 /* Lengths; half of a label buffer's is what one job alone would take. */
 enum { RIGHT, SHORT, LONG, HALVED, EMPTY, DOUBLED, LENGTHS };
 static size_t length_of(unsigned kind, size_t exact)
@@ -60,7 +55,7 @@ static const uint8_t bytes[] = {0, 3, 16};
 
 static unsigned label_due(struct label_question asked, int wrong_length)
 {
-    if (bad_dimension(asked.n))
+    if (asked.n < 1 || asked.n > 12)
         return 1;
     if (asked.rule < 2 || asked.rule > 3)
         return 18;
@@ -75,8 +70,7 @@ static void label_combination(uint32_t n, uint32_t rule, uint32_t job,
                               const unsigned *lengths, unsigned from)
 {
     struct label_question asked = fit_label(n & 255, faults, labels);
-    int wrong_length =
-        lengths[0] || lengths[1] || lengths[2] || lengths[3] != RIGHT;
+    int wrong_length = lengths[0] || lengths[1] || lengths[2] || lengths[3];
     asked.n = n;
     asked.rule = rule;
     asked.job = job;
@@ -130,23 +124,17 @@ static unsigned all_jobs(unsigned from)
 
 /* ---- hop and walk */
 
-/* The labels at hand as the half of this job, and of both where it is none; any
- * bytes in the rest. */
-static const uint8_t *buffer_for(uint32_t n, uint32_t job)
+/* One of 0, 1 and the last, which is 2^n and no node; of two, 0 or the last. */
+static uint32_t any_end(uint32_t n, unsigned count)
 {
-    static uint8_t buffer[MOST_LENT];
-    put_anything(buffer, HCUBE_LABEL_BYTES(n));
-    if (job != 1)
-        memcpy(buffer, labels, HCUBE_NODES(n));
-    if (job != 0)
-        memcpy(buffer + HCUBE_NODES(n), labels, HCUBE_NODES(n));
-    return buffer;
+    unsigned k = part(count);
+    return k < count - 1 ? k : 1u << n;
 }
 
 /* At 0, by the labels at hand, or at a number that is no node. */
 static unsigned hop_due(struct hop_question asked, int wrong_length)
 {
-    if (bad_dimension(asked.n))
+    if (asked.n < 1 || asked.n > 12)
         return 1;
     if (asked.job > 1)
         return 19;
@@ -172,9 +160,8 @@ static unsigned all_hops(unsigned from)
     fitting = n & 255;
     job = ANY_OF(jobs);
     length = part(LENGTHS);
-    c = part(2) << fitting;
-    d = part(3);
-    d = d < 2 ? d : 1u << fitting;
+    c = any_end(fitting, 2);
+    d = any_end(fitting, 3);
     memset(labels, 0, HCUBE_NODES(fitting));
     if (part(2))
         labels[HCUBE_NODES(fitting) / 2] = 0xff;
@@ -182,7 +169,7 @@ static unsigned all_hops(unsigned from)
     asked = fit_hop(fitting, c, d, labels);
     asked.n = n;
     asked.job = job;
-    asked.labels = buffer_for(fitting, job);
+    asked.labels = buffer_of(fitting, job, labels);
     asked.labels_len = length_of(length, asked.labels_len);
     if (number == 0)
         is_due("hop", from, check_hop(asked), hop_due(asked, length != RIGHT));
@@ -192,7 +179,7 @@ static unsigned all_hops(unsigned from)
 /* From 0 by the labels at hand, of which the last may be none. */
 static unsigned walk_due(struct walk_question asked, int wrong_length)
 {
-    if (bad_dimension(asked.n))
+    if (asked.n < 1 || asked.n > 12)
         return 1;
     if (asked.job > 1)
         return 19;
@@ -218,9 +205,8 @@ static unsigned all_walks(unsigned from)
     job = ANY_OF(jobs);
     length = part(LENGTHS);
     row_length = part(LONG + 1);
-    s = part(2) << fitting;
-    d = part(3);
-    d = d < 2 ? d : 1u << fitting;
+    s = any_end(fitting, 2);
+    d = any_end(fitting, 3);
     last = (1u << fitting) - 1;
     memset(labels, 0, HCUBE_NODES(fitting));
     labels[d & last] = ANY_OF(of_end);
@@ -230,7 +216,7 @@ static unsigned all_walks(unsigned from)
     asked = fit_walk(fitting, s, d, labels, row);
     asked.n = n;
     asked.job = job;
-    asked.labels = buffer_for(fitting, job);
+    asked.labels = buffer_of(fitting, job, labels);
     asked.labels_len = length_of(length, asked.labels_len);
     asked.row_len = length_of(row_length, asked.row_len);
     if (number == 0)

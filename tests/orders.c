@@ -67,26 +67,14 @@ static void put_labels(const char *digits)
                                                : digits[k] - '0');
 }
 
-/* For what is no job, the labels stand in both halves. */
-static void put_job(uint32_t n, uint32_t job, uint8_t *buffer)
-{
-    if (job != 1)
-        memcpy(buffer, labels, HCUBE_NODES(n));
-    if (job != 0)
-        memcpy(buffer + HCUBE_NODES(n), labels, HCUBE_NODES(n));
-}
-
 static uint32_t hop_answer(const struct order *order, uint32_t job)
 {
-    static uint8_t buffer[MOST_LENT];
     uint32_t fitting = order->n & 255;
     struct hop_question asked = fit_hop(fitting, order->s, order->d, labels);
     put_labels(order->labels);
-    put_anything(buffer, HCUBE_LABEL_BYTES(fitting));
-    put_job(fitting, job, buffer);
     asked.n = order->n;
     asked.job = job;
-    asked.labels = buffer;
+    asked.labels = buffer_of(fitting, job, labels);
     asked.labels_len += (size_t)order->labels_more;
     return check_hop(asked);
 }
@@ -158,16 +146,13 @@ static const struct order walk_orders[] = {
 
 static uint32_t walk_answer(const struct order *order, uint32_t job)
 {
-    static uint8_t buffer[MOST_LENT];
     uint32_t fitting = order->n & 255;
     struct walk_question asked =
         fit_walk(fitting, order->s, order->d, labels, row);
     put_labels(order->labels);
-    put_anything(buffer, HCUBE_LABEL_BYTES(fitting));
-    put_job(fitting, job, buffer);
     asked.n = order->n;
     asked.job = job;
-    asked.labels = buffer;
+    asked.labels = buffer_of(fitting, job, labels);
     asked.labels_len += (size_t)order->labels_more;
     asked.row_len += (size_t)order->row_more;
     return check_walk(asked);

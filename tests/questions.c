@@ -29,14 +29,30 @@ void put_anything(uint8_t *bytes, size_t len)
     memcpy(bytes, row + random_below((uint32_t)(sizeof row - len)), len);
 }
 
+static void put_job(uint32_t n, uint32_t job, const uint8_t *half,
+                    uint8_t *buffer)
+{
+    put_anything(buffer, HCUBE_LABEL_BYTES(n));
+    if (job != 1)
+        memcpy(buffer, half, HCUBE_NODES(n));
+    if (job != 0)
+        memcpy(buffer + HCUBE_NODES(n), half, HCUBE_NODES(n));
+}
+
+const uint8_t *buffer_of(uint32_t n, uint32_t job, const uint8_t *half)
+{
+    static uint8_t buffer[MOST_LENT];
+    put_job(n, job, half, buffer);
+    return buffer;
+}
+
 /* Puts the half into the buffer of this kind as that of either job, in no short
  * row; the job. */
 static uint32_t put_half(unsigned question, uint32_t n, const uint8_t *half)
 {
     static uint32_t turn;
     uint32_t job = ++turn * 2654435769u >> 31;
-    put_anything(buffers[question], HCUBE_LABEL_BYTES(n));
-    memcpy(buffers[question] + HCUBE_HALF(n, job), half, HCUBE_NODES(n));
+    put_job(n, job, half, buffers[question]);
     return job;
 }
 

@@ -68,6 +68,10 @@ struct walk_question fit_walk(uint32_t n, uint32_t s, uint32_t d,
 /* Copies the job's half out of the question's label buffer; n and job are good. */
 void keep_half(struct label_question asked, uint8_t *half);
 
+/* A label buffer with these labels as the half of the job, and as both halves for
+ * what is no job; any bytes in the rest. It stands until the next is made. */
+const uint8_t *buffer_of(uint32_t n, uint32_t job, const uint8_t *half);
+
 /* Any bytes: labels, others, or both. */
 void put_anything(uint8_t *bytes, size_t len);
 
