@@ -229,8 +229,8 @@ module _ (lib : Library) (F : Faithful lib) where
         none-strong = none-strong;
         two-more = two-more;
         label-before = label-before;
-        no-four = λ {n} {rule} {j} {e} {faults} m x.
-            subst (λ (t : List ℕ). labelIn t x ≢ 4) (left m .bytes) (as-before 0 (omega arith) .no-four n rule faults x);
+        no-four = λ {n} {rule} {j} {e} {faults} {closed} m x.
+            subst (λ (t : List ℕ). labelIn t x ≢ 4) (left m .bytes) (as-before 0 (omega arith) .no-four n rule faults closed x);
         hop-before = λ {n} {j} {c} {d} {buffer} v job m long none.
             F .hops v ∙ ap (λ (k : ℕ). H.hopped n j c d k (labelFor n j buffer)) long
             ∙ as-before j (job-below job) .hop n c d m (labelFor n j buffer) none;

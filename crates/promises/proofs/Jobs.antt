@@ -168,7 +168,8 @@ module _ (lib : Library) (F : Faithful lib) (A : Answers lib) (D : Demands lib) 
       F .walks v ∙ ap₂ (λ (k : ℕ) (t : List ℕ). walked n j s d k room (labelIn t)) (e .long) (e .own) ∙ sym (F .walks v′)
 
   closed-as-faulty : {K K′ : Cabinet} {j e e′ : ℕ} {l after after′ : List ℕ} → K .n ≡ K′ .n → K .rule ≡ K′ .rule → K .draining ≡ K′ .draining
-      → ((x : ℕ) → faulty K x ≡ faulty K′ x) → lib .labels K j l (Exchanges e) after → lib .labels K′ j l (Exchanges e′) after′ → (e ≡ e′) × (after ≡ after′)
+      → ((x : ℕ) → (nodeBit (K .faults) x || nodeBit (K .closed) x) ≡ (nodeBit (K′ .faults) x || nodeBit (K′ .closed) x))
+      → lib .labels K j l (Exchanges e) after → lib .labels K′ j l (Exchanges e′) after′ → (e ≡ e′) × (after ≡ after′)
   closed-as-faulty {K} {K′} {j} {e} {e′} {l} en er ed same m m′ =
       let f = F .labels m in
       let f′ = F .labels m′ in
@@ -226,6 +227,7 @@ module _ (lib : Library) (F : Faithful lib) (A : Answers lib) (D : Demands lib) 
         hop-own = λ m m′ s. hop-own m m′ s;
         walk-own = λ v v′ e. walk-own v v′ e;
         closed-as-faulty = λ en er ed same m m′. closed-as-faulty en er ed same m m′;
+        other-labelled = λ job d m. unmoved-by (job-below job) d m;
         unmoved = λ job m. unmoved (job-below job) m;
         still-walks = λ m meanwhile hs hd v. still-walks m meanwhile hs hd v;
         both = λ e m₀ m₁. both e m₀ m₁;

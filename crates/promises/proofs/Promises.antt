@@ -7,6 +7,7 @@ use Rattle.reader.proofs.Laws.{reader-laws}
 use Rattle.rule.proofs.Exchanges.{exchanged}
 use Rattle.rule.proofs.Good.{labels-good}
 use Rattle.rule.proofs.Largest.{safe-largest}
+use Rattle.rule.proofs.Nodes.{nodes}
 use Rattle.rule.proofs.Rounds.{marks, rested}
 use Rattle.rule.proofs.Rules.{rules}
 use Rattle.scans.proofs.Hit.{table-hits}
@@ -59,6 +60,7 @@ promises =
       as-before = as-before;
       progress = scans-progress;
       refusals = refusals;
+      nodes = nodes;
       marks = marks;
       hits = table-hits;
       picked = hop-picked;

@@ -6,6 +6,7 @@ use mathlib.Core.Path.{_≡_}
 use Prim.Native.Nat.{ℕ, _+_, _*_, _^_, _≤_, _<_}
 use lib.ListN.{length, replicate}
 use Rattle.cube.specs.Cube.{dist, flip}
+use Rattle.cube.specs.Tables.{emptyTable}
 use Rattle.jobs.specs.Jobs.{half, labelFor}
 use Rattle.rule.specs.Cabinet.{Cabinet, byRule, cabinet, labelsOf}
 use Rattle.notice.specs.Laws.{ReadNotice, TableOf}
@@ -143,9 +144,9 @@ pub record Demands (lib : Library) : Type 0 where
   pub label-before :
       {n rule j : ℕ} {faults before after : List ℕ} {x : Labelled} → Job j → (m : ℕ) → length before ≡ 2 * m → lib .labels (plain n rule faults) j before x after
       → (x ≡ labelledThen n rule faults m) × (half j m after ≡ labelsAfterThen n rule faults (half j m before))
-  -- no label is 4 then,
+  -- no label is 4 where no node drains, whatever the job closes,
   pub no-four :
-      {n rule j e : ℕ} {faults before buffer : List ℕ} → lib .labels (plain n rule faults) j before (labelled.Exchanges e) buffer
+      {n rule j e : ℕ} {faults closed before buffer : List ℕ} → lib .labels (cabinet n rule faults (emptyTable n) closed) j before (labelled.Exchanges e) buffer
       → (x : ℕ) → labelFor n j buffer x ≢ 4
   -- and on labels without a 4 a hop and a walk are answered as they were
   pub hop-before :

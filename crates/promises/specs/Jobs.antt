@@ -2,13 +2,15 @@
 -- tables, the bytes of its own half, the label buffer's length, its own closed table and its own questions": two situations that agree in these give the same
 -- answers. And labelling one job leaves the other's half as it was, so nothing that the other asks changes, however often it is done. lib is the library, as
 -- Rattle or as C calls it. Proved in proofs/Jobs.antt.
+use mathlib.Core.Bool.{_||_}
 use mathlib.Core.List.{List}
 use mathlib.Core.Logic.{_≢_}
 use mathlib.Core.Path.{_≡_}
 use Prim.Native.Nat.{ℕ, _^_}
 use lib.ListN.{length}
+use Rattle.cube.specs.Tables.{nodeBit}
 use Rattle.jobs.specs.Jobs.{half, labelFor}
-use Rattle.rule.specs.Cabinet.{Cabinet, faulty, labelsOf}
+use Rattle.rule.specs.Cabinet.{Cabinet, labelsOf}
 use Rattle.labels.specs.declared.Labelled.{Labelled}
 use Rattle.labels.specs.declared.Labelled.the-variants.{Exchanges}
 use Rattle.hop.specs.declared.Hopped.{Hopped}
@@ -46,14 +48,19 @@ pub record Jobs (lib : Library) : Type 0 where
       {n j c d : ℕ} {l l′ : List ℕ} {x x′ : Hopped} → lib .hops n j c d l x → lib .hops n j c d l′ x′ → SameTo n j l l′ → x ≡ x′
   pub walk-own :
       {n j s d room : ℕ} {l l′ : List ℕ} {w w′ : Walked} → lib .walks n j s d l room w → lib .walks n j s d l′ room w′ → SameTo n j l l′ → w ≡ w′
-  -- "closed counts as faulty": which of the two it is makes no difference. So a job has the labels and the count of a cabinet of its own in which the nodes that
-  -- it closes are in the fault table
+  -- "closed counts as faulty": in which of the two tables a node stands makes no difference. So a job has the labels and the count of a cabinet of its own in
+  -- which the nodes that it closes are in the fault table
   pub closed-as-faulty :
       {K K′ : Cabinet} {j e e′ : ℕ} {l after after′ : List ℕ} → K .n ≡ K′ .n → K .rule ≡ K′ .rule → K .draining ≡ K′ .draining
-      → ((x : ℕ) → faulty K x ≡ faulty K′ x) → lib .labels K j l (Exchanges e) after → lib .labels K′ j l (Exchanges e′) after′ → (e ≡ e′) × (after ≡ after′)
+      → ((x : ℕ) → (nodeBit (K .faults) x || nodeBit (K .closed) x) ≡ (nodeBit (K′ .faults) x || nodeBit (K′ .closed) x))
+      → lib .labels K j l (Exchanges e) after → lib .labels K′ j l (Exchanges e′) after′ → (e ≡ e′) × (after ≡ after′)
   -- ---- labelling the other
 
-  -- "relabelling the other alters nothing it sees and no byte of its half": whoever else was labelled meanwhile, the buffer is the same to the job,
+  -- "relabelling the other alters nothing it sees and no byte of its half": whatever it holds, the buffer is the same to the job, whether the other's labelling
+  -- was accepted or refused,
+  pub other-labelled :
+      {K : Cabinet} {i j : ℕ} {l after : List ℕ} {x : Labelled} → Job j → i ≢ j → lib .labels K i l x after → SameTo (K .n) j l after
+  -- and however often it was labelled meanwhile,
   pub unmoved : {n j : ℕ} {l l′ : List ℕ} → Job j → Meanwhile lib n j l l′ → SameTo n j l l′
   -- and the walks that its labelling promised arrive as promised
   pub still-walks :

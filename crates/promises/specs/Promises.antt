@@ -10,6 +10,7 @@ use Rattle.rule.specs.Cabinet.{Cabinet, exchangesOf}
 use Rattle.rule.specs.Closed.{Largest}
 use Rattle.rule.specs.Exchanges.{Exchanges}
 use Rattle.rule.specs.Good.{LabelsGood}
+use Rattle.rule.specs.Nodes.{Nodes}
 use Rattle.rule.specs.Rounds.{Marks, Rested}
 use Rattle.rule.specs.Rules.{Rules}
 use Rattle.scans.specs.Hit.{TableHits}
@@ -67,6 +68,7 @@ pub record Promises : Type 2 where
   pub progress : ScansProgress
   -- document 01's words
   pub refusals : Refusals
+  pub nodes : (K : Cabinet) → Nodes K
   pub marks : (n k : ℕ) (F : ℕ → Bool) → Marks n k F
   pub hits : TableHits
   pub picked : (n : ℕ) (lab : ℕ → ℕ) (c d : ℕ) → HopPicked n lab c d

@@ -6,3 +6,4 @@ pub mod Bytes
 pub mod Good
 pub mod Rules
 pub mod Cabinet
+pub mod Nodes

@@ -6,4 +6,5 @@ pub mod FewReads
 pub mod Demand2
 pub mod Demand3
 pub mod TwoRules
+pub mod BeforeLabels
 pub mod Before

@@ -1,6 +1,6 @@
 -- What the library answered before there were draining nodes and jobs (document 02, A4 and A10), by the definitions that stood then: labelling was lent the
 -- fault table alone and one label table, 3 was the highest label, and nothing came before scan 1. A board on which no node drains and the job closes none
--- is answered, in the half of its job, as before. Proved in proofs/Before.antt.
+-- is answered, in the half of its job, as before. Proved in proofs/Before.antt and proofs/BeforeLabels.antt.
 use mathlib.Core.Bool.{Bool, true, false, Bool·beq, cond, not, _&&_, _||_}
 use mathlib.Core.List.{List, [], _∷_, _++_}
 use mathlib.Core.Logic.{_≢_}
@@ -131,8 +131,8 @@ pub record AsBefore (j : ℕ) : Type 0 where
   pub labels :
       (n rule m : ℕ) (faults before : List ℕ) → length before ≡ 2 * m
       → half j m (labelsAfter (plain n rule faults) j before) ≡ labelsAfterThen n rule faults (half j m before)
-  -- and no label is 4;
-  pub no-four : (n rule : ℕ) (faults : List ℕ) (x : ℕ) → labelAt (plain n rule faults) x ≢ 4
+  -- and no label is 4, whatever the job closes;
+  pub no-four : (n rule : ℕ) (faults closed : List ℕ) (x : ℕ) → labelAt (cabinet n rule faults (emptyTable n) closed) x ≢ 4
   -- and with labels among which there is no 4, right or wrong, a hop and a walk are answered as they were
   pub hop : (n c d m : ℕ) (lab : ℕ → ℕ) → ((x : ℕ) → lab x ≢ 4) → hopped n j c d (2 * m) lab ≡ hoppedThen n c d m lab
   pub walk : (n s d m room : ℕ) (lab : ℕ → ℕ) → ((x : ℕ) → lab x ≢ 4) → walked n j s d (2 * m) room lab ≡ walkedThen n s d m room lab
