@@ -131,7 +131,7 @@ extern "C" {
  * after the other, until one brings nothing new. An unsafe node is strongly
  * unsafe if none of its neighbours is safe, otherwise ordinarily unsafe. Hop
  * and walk go by the labels, whichever rule made them; all cards of a cabinet
- * are labelled by one rule.
+ * label one job by one rule.
  *
  * So the number of exchanges and the labels of working nodes are the same as if
  * the draining nodes were faulty. Where no bit of `draining` is set, answer and
@@ -232,14 +232,14 @@ uint32_t hcube_walk(uint32_t n, uint32_t job, uint32_t s, uint32_t d,
  *   11  the count is above 2^dimension
  *   12  an address is 2^dimension or more
  * The value of a refusal is the place where the number concerned begins, in
- * bytes from the first of `bytes`: for 9 and 10 that of the number itself (len,
- * if nothing of it is there), for 1 and 2 that of the dimension, which is 0,
- * for 11 that of the count, for 12 that of the address. The bytes 04 02 81 00
- * and a fault table of 2 bytes give refusal 10 and value 2.
+ * bytes from the first of `bytes`: for 9 and 10 that of the number itself
+ * (bytes_len, if nothing of it is there), for 1 and 2 that of the dimension,
+ * which is 0, for 11 that of the count, for 12 that of the address. The bytes
+ * 04 02 81 00 and a fault table of 2 bytes give refusal 10 and value 2.
  * Accepted: dimension and count, kind 0, and as value how many bytes the notice
  * took. All of `faults` is overwritten.
  */
-uint64_t hcube_read_notice(const uint8_t *bytes, size_t len,
+uint64_t hcube_read_notice(const uint8_t *bytes, size_t bytes_len,
                            uint8_t *faults, size_t faults_len);
 
 #ifdef __cplusplus
