@@ -5,10 +5,11 @@
  * and against A10: a call for one job reads and writes no byte of the other's half.
  * Here all that is expected is worked out anew from the three tables.
  *
- *   reads           checks; prints `ok ..` and `FAIL ..`
+ *   reads [MOST]    checks up to dimension MOST, or 12; prints `ok ..` and `FAIL ..`
  *   reads table     how many labels were read, for docs/PERFORMANCE.md
  */
 #include <stdio.h>
+#include <stdlib.h>
 #include <string.h>
 
 #include "../include/hcube.h"
@@ -192,7 +193,8 @@ int main(int count, char **words)
 {
     random_seed(6);
     if (count == 1 || strcmp(words[1], "table") != 0) {
-        for (unsigned k = 0; k < 24; k++) {
+        unsigned most = count == 1 ? 12 : (unsigned)atoi(words[1]);
+        for (unsigned k = 0; k < 2 * most; k++) {
             n = 1 + k / 2;
             job = k % 2;
             check_labelling();

@@ -12,7 +12,7 @@
 #include "hcube_jobs.h"
 #include "stored.h"
 
-/* Labels one job; neither it nor the other one, which was labelled before, has a wrong label then. */
+/* Labels one job, the other one having been labelled before; returns how many of the two halves are wrong then. */
 static size_t __init wrong_labels(const struct hcube_cube *cube, uint32_t job, uint8_t *labels)
 {
 	const struct hcube_closing *closings = cube->closings;

@@ -1,4 +1,4 @@
-// Labelling: which working nodes are safe, ordinarily unsafe or strongly unsafe. The rounds are kept in the lent label table itself, by the
+// Labelling: which working nodes are safe, ordinarily unsafe or strongly unsafe. The rounds are kept in the job's half of the lent label buffer itself, by the
 // bytes PLAIN, MARKED, OUT and NEW. A byte is what its node weighs in the test of a neighbour: 0, 2 or 3, and NEW weighs nothing in the low seven
 // bits, where the test looks. The last pass tells ORDINARY from MARKED and DRAINING from OUT; PLAIN, MARKED and OUT stay as safe, strongly unsafe and
 // faulty. A node that the job closes is faulty here. Only `label` knows that there are two jobs: the other functions are handed the half of one.

@@ -42,7 +42,7 @@ drains K x = not (faulty K x) && nodeBit (K .draining) x
 abbrev pub out : Cabinet → ℕ → Bool
 out K x = faulty K x || nodeBit (K .draining) x
 
--- the label byte of a node that does not work: 3 faulty, 4 draining
+-- the label byte of a node that does not work: 3 faulty or closed, 4 draining
 abbrev pub outByte : Cabinet → ℕ → ℕ
 outByte K x = cond (faulty K x) 3 4
 

@@ -15,7 +15,7 @@ use Rattle.rule.specs.Rule.{marked, working}
 
 pub record Demand2 (K : Cabinet) (lab : ℕ → ℕ) (exchanges : ℕ) : Type 0 where
   -- of all sets of working nodes in which each has at most one neighbour that does not work and fewer neighbours outside the set than the rule's number
-  -- (with rule 3: at most two), the safe nodes form the largest
+  -- (with rule 3: at most two), the safe nodes form the largest. (Such a set is called closed, which has nothing to do with the nodes that a job closes)
   pub closed : Closed (K .n) (K .rule) (out K) (λ x. eqb (lab x) 0)
   pub largest : (H : ℕ → Bool) → Closed (K .n) (K .rule) (out K) H → (x : ℕ) → x < 2 ^ K .n → H x ≡ true → lab x ≡ 0
   -- a node that is faulty or closed has label 3, one that drains 4 ("a node in both is faulty"), and a working one a lower label;

@@ -1,5 +1,5 @@
 -- Demand 3: walks arrive. K is a cabinet as one job has it, which labelling accepts, and lab the labels that it then has; s, the source, is a working node and
--- d, the destination, one that works or drains (the last lines); w is the walk's answer with those labels.
+-- d, the destination, one that works or drains (`Takes`); w is the walk's answer with those labels.
 use mathlib.Core.Bool.{true}
 use mathlib.Core.Logic.{_⊎_}
 use mathlib.Core.Path.{_≡_}
