@@ -2,7 +2,7 @@
  * The load of kernel/test; a driver needs nothing of it. Whoever writes a number of milliseconds to
  * /proc/hcube_hammer has all stored answers compared again and again for that long, in his own process and
  * with interrupts on, while a timer interrupts every 100 microseconds and compares a pair itself, of each cube and of
- * either job in turn.
+ * either job in turn, and one of the job that the process is not at work for, in the very buffer that it is at work in.
  */
 #include <linux/atomic.h>
 #include <linux/hrtimer.h>
@@ -11,6 +11,7 @@
 #include <linux/proc_fs.h>
 #include <linux/sched/signal.h>
 #include <linux/slab.h>
+#include <linux/spinlock.h>
 #include <linux/version.h>
 
 #include "hcube_hammer.h"
@@ -19,13 +20,43 @@
 #define HAMMER_FILE "hcube_hammer"
 #define HAMMER_PERIOD ns_to_ktime(100 * 1000)
 
-static atomic64_t pairs, interrupts, wrong;
+static atomic64_t pairs, interrupts, beside, wrong;
 
 struct hammer {
 	struct hrtimer timer;
 	uint32_t turn;
 	uint8_t labels[HCUBE_LABEL_BYTES(12)];
+	/* The half of the job `still` in `labels` is that of the cube, and stays so, while there is one. */
+	spinlock_t lock;
+	const struct hcube_cube *cube;
+	uint32_t still;
 };
+
+/* Says which half stays as it is from now on; the other one may change. */
+static void keep_still(struct hammer *hammer, const struct hcube_cube *cube, uint32_t job)
+{
+	spin_lock_irq(&hammer->lock);
+	hammer->cube = cube;
+	hammer->still = job;
+	spin_unlock_irq(&hammer->lock);
+}
+
+/* A pair of that half, while the process labels the other one or asks. */
+static void compare_beside(struct hammer *hammer)
+{
+	const struct hcube_cube *cube;
+
+	spin_lock(&hammer->lock);
+	cube = hammer->cube;
+	if (cube) {
+		uint32_t job = hammer->still, nodes = HCUBE_NODES(cube->n), pair = hammer->turn % (nodes * nodes);
+
+		if (!hcube_pair_is_right(cube, job, &cube->closings[job], hammer->labels, pair / nodes, pair % nodes))
+			atomic64_inc(&wrong);
+		atomic64_inc(&beside);
+	}
+	spin_unlock(&hammer->lock);
+}
 
 static enum hrtimer_restart interrupted(struct hrtimer *timer)
 {
@@ -38,12 +69,14 @@ static enum hrtimer_restart interrupted(struct hrtimer *timer)
 	if (!hcube_pair_is_right(cube, job, &cube->closings[job], cube->labels, pair / nodes, pair % nodes))
 		atomic64_inc(&wrong);
 	atomic64_inc(&interrupts);
+	compare_beside(hammer);
 	hrtimer_forward_now(timer, HAMMER_PERIOD);
 	return HRTIMER_RESTART;
 }
 
 static void set_up(struct hammer *hammer)
 {
+	spin_lock_init(&hammer->lock);
 #if LINUX_VERSION_CODE >= KERNEL_VERSION(6, 13, 0)
 	hrtimer_setup(&hammer->timer, interrupted, CLOCK_MONOTONIC, HRTIMER_MODE_REL_PINNED);
 #else
@@ -65,15 +98,26 @@ static void compare(const struct hcube_cube *cube, uint32_t job, uint8_t *labels
 	atomic64_add(hcube_pairs(cube), &pairs);
 }
 
-static void compare_for(unsigned int milliseconds, uint8_t *labels)
+/* Each job in turn, while the timer asks the other one. */
+static void compare_both(struct hammer *hammer, const struct hcube_cube *cube)
+{
+	if (!hcube_labels_are_right(cube, 1, &cube->closings[1], hammer->labels))
+		atomic64_inc(&wrong);
+	keep_still(hammer, cube, 1);
+	compare(cube, 0, hammer->labels);
+	keep_still(hammer, cube, 0);
+	compare(cube, 1, hammer->labels);
+	keep_still(hammer, NULL, 0);
+}
+
+static void compare_for(unsigned int milliseconds, struct hammer *hammer)
 {
 	unsigned long end = jiffies + msecs_to_jiffies(milliseconds);
 	size_t k;
 
 	while (time_before(jiffies, end) && !fatal_signal_pending(current))
 		for (k = 0; k < hcube_stored_count; k++) {
-			compare(&hcube_stored[k], 0, labels);
-			compare(&hcube_stored[k], 1, labels);
+			compare_both(hammer, &hcube_stored[k]);
 			cond_resched();
 		}
 }
@@ -91,7 +135,7 @@ static ssize_t hammer_write(struct file *file, const char __user *text, size_t c
 		return -ENOMEM;
 	set_up(hammer);
 	hrtimer_start(&hammer->timer, HAMMER_PERIOD, HRTIMER_MODE_REL_PINNED);
-	compare_for(milliseconds, hammer->labels);
+	compare_for(milliseconds, hammer);
 	hrtimer_cancel(&hammer->timer);
 	kfree(hammer);
 	return count;
@@ -109,7 +153,7 @@ int hcube_hammer_start(void)
 void hcube_hammer_stop(void)
 {
 	remove_proc_entry(HAMMER_FILE, NULL);
-	pr_info("hcube_hammer: %lld pairs compared, %lld in interrupts, %lld wrong\n",
-		(long long)(atomic64_read(&pairs) + atomic64_read(&interrupts)), (long long)atomic64_read(&interrupts),
-		(long long)atomic64_read(&wrong));
+	pr_info("hcube_hammer: %lld pairs compared, %lld in interrupts, %lld beside the other job at work, %lld wrong\n",
+		(long long)(atomic64_read(&pairs) + atomic64_read(&interrupts) + atomic64_read(&beside)),
+		(long long)atomic64_read(&interrupts), (long long)atomic64_read(&beside), (long long)atomic64_read(&wrong));
 }
