@@ -15,18 +15,34 @@ void random_cabinet(uint32_t n, unsigned per_mille)
     random_closed(n, faults, draining, closed);
 }
 
-uint32_t label_cabinet(uint32_t n, uint32_t rule)
+static struct label_question fit_cabinet(uint32_t n, uint32_t rule)
 {
     struct label_question asked;
-    uint32_t answer;
     random_bytes(labels, (size_t)1 << n);
     asked = fit_label(n, faults, labels);
     asked.rule = rule;
     asked.draining = draining;
     asked.closed = closed;
-    answer = check_label(asked);
+    return asked;
+}
+
+static uint32_t check_cabinet(struct label_question asked)
+{
+    uint32_t answer = check_label(asked);
     keep_half(asked, labels);
     return answer;
+}
+
+uint32_t label_cabinet(uint32_t n, uint32_t rule)
+{
+    return check_cabinet(fit_cabinet(n, rule));
+}
+
+uint32_t label_for(uint32_t n, uint32_t rule, uint32_t job)
+{
+    struct label_question asked = fit_cabinet(n, rule);
+    asked.job = job;
+    return check_cabinet(asked);
 }
 
 uint32_t walk_by(const uint8_t *by, uint32_t n, uint32_t s, uint32_t d,

@@ -17,8 +17,10 @@ extern uint8_t labels[MOST_NODES];
 /* Random tables: faulty nodes, each with this chance, draining and closed ones. */
 void random_cabinet(uint32_t n, unsigned per_mille);
 
-/* Labels the tables by the rule into a half that holds anything. */
+/* Labels the tables by the rule into a half that holds anything: either job's, or
+ * that of this one. */
 uint32_t label_cabinet(uint32_t n, uint32_t rule);
+uint32_t label_for(uint32_t n, uint32_t rule, uint32_t job);
 
 /* Walks by these labels into a row that holds anything. */
 uint32_t walk_by(const uint8_t *by, uint32_t n, uint32_t s, uint32_t d,

@@ -12,20 +12,6 @@
 
 /* ---- all tables of small cubes */
 
-/* Labels the tables at hand, of one byte, for this job; its half to `labels`. */
-static uint32_t label_for(uint32_t n, uint32_t rule, uint32_t job)
-{
-    struct label_question asked = fit_label(n, faults, labels);
-    uint32_t answer;
-    asked.rule = rule;
-    asked.job = job;
-    asked.draining = draining;
-    asked.closed = closed;
-    answer = check_label(asked);
-    keep_half(asked, labels);
-    return answer;
-}
-
 /* Closed or faulty is 3, then draining 4, and the others work; and it is as if the
  * closed nodes were in the fault table. */
 static void small_tables(uint32_t n, unsigned faulty, unsigned drained,

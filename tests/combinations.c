@@ -131,17 +131,26 @@ static uint32_t any_end(uint32_t n, unsigned count)
     return k < count - 1 ? k : 1u << n;
 }
 
-/* At 0, by the labels at hand, or at a number that is no node. */
-static unsigned hop_due(struct hop_question asked, int wrong_length)
+/* What is due before a label is looked at, from 0 or a number that is no node. */
+static unsigned place_due(uint32_t n, uint32_t job, int wrong_length, uint32_t s,
+                          uint32_t d)
 {
-    if (asked.n < 1 || asked.n > 12)
+    if (n < 1 || n > 12)
         return 1;
-    if (asked.job > 1)
+    if (job > 1)
         return 19;
     if (wrong_length)
         return 2;
-    if (asked.c != 0 || asked.d >> asked.n)
-        return 5;
+    return s != 0 || d >> n ? 5 : 0;
+}
+
+/* At 0, by the labels at hand. */
+static unsigned hop_due(struct hop_question asked, int wrong_length)
+{
+    unsigned due =
+        place_due(asked.n, asked.job, wrong_length, asked.c, asked.d);
+    if (due != 0)
+        return due;
     if (labels[0] > LAST_LABEL || labels[1u << (asked.n - 1)] > LAST_LABEL)
         return 4;
     return labels[0] == 3 || (labels[0] == 4 && asked.d != 0) ? 6 : 0;
@@ -179,14 +188,10 @@ static unsigned all_hops(unsigned from)
 /* From 0 by the labels at hand, of which the last may be none. */
 static unsigned walk_due(struct walk_question asked, int wrong_length)
 {
-    if (asked.n < 1 || asked.n > 12)
-        return 1;
-    if (asked.job > 1)
-        return 19;
-    if (wrong_length)
-        return 2;
-    if (asked.s != 0 || asked.d >> asked.n)
-        return 5;
+    unsigned due =
+        place_due(asked.n, asked.job, wrong_length, asked.s, asked.d);
+    if (due != 0)
+        return due;
     if (labels[HCUBE_NODES(asked.n) - 1] > LAST_LABEL)
         return 4;
     return labels[0] >= 3 ? 6 : labels[asked.d] == 3 ? 7 : 0;

@@ -1,6 +1,6 @@
--- How labelling keeps its rounds in the lent label table l, the job's half of the buffer. Until the labels are final, 3 is a node that does not work, 2 one that an earlier round
--- marked, 128 one that this round marked, and 0 one that has no mark: so the nodes that the rule counts are those of 3 and of 2. Each definition below
--- the line is what one pass over the table leaves at x.
+-- How labelling keeps its rounds in the lent label table l, the job's half of the buffer. Until the labels are final, 3 is a node that does not work, 2 one
+-- that an earlier round marked, 128 one that this round marked, and 0 one that has no mark: so the nodes that the rule counts are those of 3 and of 2. Each
+-- definition below the line is what one pass over the table leaves at x.
 use mathlib.Core.Bool.{Bool, cond, _&&_}
 use mathlib.Core.List.{List}
 use mathlib.Core.Path.{_≡_}

@@ -92,7 +92,8 @@ fn notice_line(bytes: &[u8], faults: &mut [u8], labels: &mut [u8], out: &mut [u8
     }
 }
 
-// The line of the notice at the front of the bytes: the first line, or the refusal. The label buffer is made at the front of `labels`, which is handed over empty.
+// The line of the notice at the front of the bytes: the first line, or the refusal. The label buffer is made at the front of `labels`, which is handed over
+// empty.
 pub fn head_line(bytes: &[u8], faults: &mut [u8], labels: &mut [u8], out: &mut [u8]) -> Head
     requires { ⌜ length (now faults) ≡ 512 ⌝ }
     requires { ⌜ (now labels ≡ replicate 8192 0) × (length (now out) ≡ room) ⌝ }

@@ -179,7 +179,8 @@ module _ (lib : Library) (F : Faithful lib) where
   -- ---- as before
 
   label-before :
-      {n rule j : ℕ} {faults before after : List ℕ} {x : Labelled} → Job j → (m : ℕ) → length before ≡ 2 * m → lib .labels (plain n rule faults) j before x after
+      {n rule j : ℕ} {faults before after : List ℕ} {x : Labelled} → Job j → (m : ℕ) → length before ≡ 2 * m
+      → lib .labels (plain n rule faults) j before x after
       → (x ≡ labelledThen n rule faults m) × (half j m after ≡ labelsAfterThen n rule faults (half j m before))
   label-before {n} {rule} {j} {faults} {before} job m long l =
       let f = F .labels l in

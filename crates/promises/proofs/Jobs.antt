@@ -1,5 +1,5 @@
--- Two jobs, of any library that is faithful to the definitions. Each question is defined on the half of its job and the buffer's length, so buffers that agree in
--- these are answered alike; and what labelling leaves is the buffer with another half of its own job.
+-- Two jobs, of any library that is faithful to the definitions. Each question is defined on the half of its job and the buffer's length, so buffers that
+-- agree in these are answered alike; and what labelling leaves is the buffer with another half of its own job.
 use mathlib.Core.Bool.{Bool, cond, _||_}
 use mathlib.Core.List.{List}
 use mathlib.Core.Logic.{_≢_}

@@ -41,7 +41,8 @@ pub record Demands (lib : Library) : Type 0 where
   -- ---- 1. No input makes it misbehave
 
   -- each entry point gives the refusal that the tables name, then and not otherwise
-  pub label-refusal : {K : Cabinet} {j : ℕ} {before after : List ℕ} {x : Labelled} → lib .labels K j before x after → LabelGiven K j (length before) (L.refusalOf x)
+  pub label-refusal :
+      {K : Cabinet} {j : ℕ} {before after : List ℕ} {x : Labelled} → lib .labels K j before x after → LabelGiven K j (length before) (L.refusalOf x)
   pub hop-refusal :
       {n j c d : ℕ} {buffer : List ℕ} {x : Hopped} → lib .hops n j c d buffer x → HopGiven n j c d (length buffer) (labelFor n j buffer) (H.refusalOf x)
   pub walk-refusal :
@@ -65,7 +66,8 @@ pub record Demands (lib : Library) : Type 0 where
 
   -- all 2^n label bytes of the job's half are written
   pub labels-written :
-      {K : Cabinet} {j : ℕ} {before after : List ℕ} {exchanges : ℕ} → lib .labels K j before (labelled.Exchanges exchanges) after → half j (2 ^ K .n) after ≡ labelsOf K
+      {K : Cabinet} {j : ℕ} {before after : List ℕ} {exchanges : ℕ} → lib .labels K j before (labelled.Exchanges exchanges) after
+      → half j (2 ^ K .n) after ≡ labelsOf K
   pub labels :
       {K : Cabinet} {j : ℕ} {before after : List ℕ} {exchanges : ℕ} → lib .labels K j before (labelled.Exchanges exchanges) after
       → Demand2 K (labelFor (K .n) j after) exchanges
@@ -85,8 +87,8 @@ pub record Demands (lib : Library) : Type 0 where
       → lib .labels (cabinet n rule faults draining closed) j before x after → (exchanges : ℕ) × (x ≡ labelled.Exchanges exchanges)
   -- with the labels that labelling left in the job's half, from a working node to one that works or drains
   pub walks :
-      {K : Cabinet} {j exchanges s d : ℕ} {before buffer : List ℕ} {w : Walked} → lib .labels K j before (labelled.Exchanges exchanges) buffer → Works K s → Takes K d
-      → lib .walks (K .n) j s d buffer W.rowBytes w → Walks K (labelFor (K .n) j buffer) s d w
+      {K : Cabinet} {j exchanges s d : ℕ} {before buffer : List ℕ} {w : Walked} → lib .labels K j before (labelled.Exchanges exchanges) buffer
+      → Works K s → Takes K d → lib .walks (K .n) j s d buffer W.rowBytes w → Walks K (labelFor (K .n) j buffer) s d w
   -- on every table that the walk accepts it starts at the source and repeats the hop question: at each place but the last the answer is a hop, and the next
   -- place is across it;
   pub walk-starts :
@@ -142,7 +144,8 @@ pub record Demands (lib : Library) : Type 0 where
 
   -- labelling that is lent two empty tables answers what it did, and leaves in that half what it left,
   pub label-before :
-      {n rule j : ℕ} {faults before after : List ℕ} {x : Labelled} → Job j → (m : ℕ) → length before ≡ 2 * m → lib .labels (plain n rule faults) j before x after
+      {n rule j : ℕ} {faults before after : List ℕ} {x : Labelled} → Job j → (m : ℕ) → length before ≡ 2 * m
+      → lib .labels (plain n rule faults) j before x after
       → (x ≡ labelledThen n rule faults m) × (half j m after ≡ labelsAfterThen n rule faults (half j m before))
   -- no label is 4 where no node drains, whatever the job closes,
   pub no-four :
@@ -150,8 +153,8 @@ pub record Demands (lib : Library) : Type 0 where
       → (x : ℕ) → labelFor n j buffer x ≢ 4
   -- and on labels without a 4 a hop and a walk are answered as they were
   pub hop-before :
-      {n j c d : ℕ} {buffer : List ℕ} {x : Hopped} → lib .hops n j c d buffer x → Job j → (m : ℕ) → length buffer ≡ 2 * m → ((k : ℕ) → labelFor n j buffer k ≢ 4)
-      → x ≡ hoppedThen n c d m (labelFor n j buffer)
+      {n j c d : ℕ} {buffer : List ℕ} {x : Hopped} → lib .hops n j c d buffer x → Job j → (m : ℕ) → length buffer ≡ 2 * m
+      → ((k : ℕ) → labelFor n j buffer k ≢ 4) → x ≡ hoppedThen n c d m (labelFor n j buffer)
   pub walk-before :
       {n j s d room : ℕ} {buffer : List ℕ} {w : Walked} → lib .walks n j s d buffer room w → Job j → (m : ℕ) → length buffer ≡ 2 * m
       → ((k : ℕ) → labelFor n j buffer k ≢ 4) → w ≡ walkedThen n s d m room (labelFor n j buffer)

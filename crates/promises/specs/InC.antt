@@ -29,10 +29,13 @@ pub record InC : Type 0 where
       {n rule j r k : ℕ} {faults draining closed before after after′ : List ℕ} → May hcube.label (n, rule, j, faults, draining, closed, before) r after
       → May labels.label (n, rule, j, faults, draining, closed, before) (labelled.Refused k) after′ → r ≡ k * 16777216
   -- "Hop: kind 0 deliver, 1 hop (value is the dimension), 2 halted"
-  pub hop-delivers : {n j c d r : ℕ} {buffer : List ℕ} → May hcube.hop (n, j, c, d, buffer) r tt → May hop.hop (n, j, c, d, buffer) (hopped.Decided Deliver) tt → r ≡ 0
+  pub hop-delivers :
+      {n j c d r : ℕ} {buffer : List ℕ} → May hcube.hop (n, j, c, d, buffer) r tt → May hop.hop (n, j, c, d, buffer) (hopped.Decided Deliver) tt → r ≡ 0
   pub hop-hops :
-      {n j c d r i : ℕ} {buffer : List ℕ} → May hcube.hop (n, j, c, d, buffer) r tt → May hop.hop (n, j, c, d, buffer) (hopped.Decided (Hop i)) tt → r ≡ 65536 + i
-  pub hop-halts : {n j c d r : ℕ} {buffer : List ℕ} → May hcube.hop (n, j, c, d, buffer) r tt → May hop.hop (n, j, c, d, buffer) (hopped.Decided Halted) tt → r ≡ 131072
+      {n j c d r i : ℕ} {buffer : List ℕ} → May hcube.hop (n, j, c, d, buffer) r tt → May hop.hop (n, j, c, d, buffer) (hopped.Decided (Hop i)) tt
+      → r ≡ 65536 + i
+  pub hop-halts :
+      {n j c d r : ℕ} {buffer : List ℕ} → May hcube.hop (n, j, c, d, buffer) r tt → May hop.hop (n, j, c, d, buffer) (hopped.Decided Halted) tt → r ≡ 131072
   pub hop-refuses :
       {n j c d r k : ℕ} {buffer : List ℕ} → May hcube.hop (n, j, c, d, buffer) r tt → May hop.hop (n, j, c, d, buffer) (hopped.Refused k) tt → r ≡ k * 16777216
   -- "Walk: kind 0 delivered, 1 halted, value is the hop count"

@@ -1,6 +1,6 @@
 -- Refusals in words. Document 01 says for each number when it is given, and for each question in which order the numbers are looked at: "each is given then
--- and not otherwise". Here the cases stand in its words, with those of document 02's requests A4 on draining nodes and A10 on two jobs, apart from the tables of
--- tests by which the definitions answer. Proved in proofs/Refusals.antt.
+-- and not otherwise". Here the cases stand in its words, with those of document 02's requests A4 on draining nodes and A10 on two jobs, apart from the
+-- tables of tests by which the definitions answer. Proved in proofs/Refusals.antt.
 use mathlib.Core.Bool.{true}
 use mathlib.Core.List.{List, [], _∷_}
 use mathlib.Core.Logic.{_⊎_, _≢_}
@@ -73,8 +73,8 @@ pub data LabelWhen (K : Cabinet) (j m : ℕ) : ℕ → Type 0 where
 abbrev pub LabelGiven : (K : Cabinet) (j m : ℕ) → ℕ → Type 0
 LabelGiven K j m = Given (LabelWhen K j m) (1 ∷ 18 ∷ 19 ∷ 2 ∷ 3 ∷ [])
 
--- ---- a hop at c for d, for job j with a label buffer of m bytes: "1, 2, 5, 4, 6", with 19 "directly before 2". lab are the labels of the job's half, and no byte
--- of the other is in a case
+-- ---- a hop at c for d, for job j with a label buffer of m bytes: "1, 2, 5, 4, 6", with 19 "directly before 2". lab are the labels of the job's half, and no
+-- byte of the other is in a case
 
 pub data HopWhen (n j c d m : ℕ) (lab : ℕ → ℕ) : ℕ → Type 0 where
   hop-1 : ¬ (Dimension n) → HopWhen n j c d m lab 1

@@ -78,7 +78,8 @@ module _ (n : ℕ) (lab : ℕ → ℕ) (none : (x : ℕ) → lab x ≢ 4) where
 
     first-same : firstScan n c d own near ≡ firstScanThen n c d own near
     unfolding firstScan
-    first-same = least-same noScan (λ s. ltb (lowest n c d own near s) n) (λ s. ltb (lowestThen n c d own near s) n) (λ s _. ap (λ (k : ℕ). ltb k n) (lowest-same s))
+    first-same =
+        least-same noScan (λ s. ltb (lowest n c d own near s) n) (λ s. ltb (lowestThen n c d own near s) n) (λ s _. ap (λ (k : ℕ). ltb k n) (lowest-same s))
 
   hop-same : (c d : ℕ) → hop n lab c d ≡ hopThen n lab c d
   unfolding hop decide

@@ -156,7 +156,13 @@ module _ (K : Cabinet) (j : ℕ) (T : Table K j) (s d : ℕ) (hs : Works K s) (h
     halted-stuck : Stuck K lab d (walkOf K j s d)
     unfolding last turn
     halted-stuck =
-        rw is-halted (record { ending = refl; decided = rw (end-place ending.Halted) (H .ended); far = rw (end-place ending.Halted) (H .far); why = rw (end-place ending.Halted) why })
+        rw is-halted
+        (record {
+          ending = refl;
+          decided = rw (end-place ending.Halted) (H .ended);
+          far = rw (end-place ending.Halted) (H .far);
+          why = rw (end-place ending.Halted) why
+        })
       where
         why : (i : ℕ) → i < n → apart i (endOf n lab d s) d ≡ true → out K (flip i (endOf n lab d s)) ≡ true
         why i h a =

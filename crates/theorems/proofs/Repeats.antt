@@ -56,7 +56,8 @@ spot-works : (n : ℕ) (lab : ℕ → ℕ) (d s : ℕ) → WorksOrEnds lab d s �
 unfolding spot
 spot-works n lab d s h zero = h
 spot-works n lab d s h (suc k) =
-    onto-works n lab (spot (route n lab d) s k) d (hop n lab (spot (route n lab d) s k) d) (spot-works n lab d s h k) (picked n lab (spot (route n lab d) s k) d)
+    onto-works n lab (spot (route n lab d) s k) d (hop n lab (spot (route n lab d) s k) d) (spot-works n lab d s h k)
+    (picked n lab (spot (route n lab d) s k) d)
 
 -- ---- a walk that is not refused
 

@@ -15,7 +15,8 @@ walk-for-requires c κs = search needs
 write-row-requires : tie.Need-write-row-requires
 write-row-requires c κs =
     let a = c .before .before .before .before .args in
-    rw (c .before .walk-for .ensures) (row-fits (a .n) (a .job) (a .s) (a .d) (length (a .labels .now)) (length (a .row .now)) (labelFor (a .n) (a .job) (a .labels .now)))
+    rw (c .before .walk-for .ensures)
+    (row-fits (a .n) (a .job) (a .s) (a .d) (length (a .labels .now)) (length (a .row .now)) (labelFor (a .n) (a .job) (a .labels .now)))
 
 pack-walk-requires : tie.Need-pack-walk-requires
 pack-walk-requires c κs =

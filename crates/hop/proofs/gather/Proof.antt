@@ -64,7 +64,8 @@ loop-again c =
     )
 
 -- behind the loop the places hold the labels of all neighbours
-all : (c : tie.After-loop Inv-loop μ-loop) → let a = c .before .before .before .args in c .before .loop .near ≡ gathered (a .n) (labelIn (a .labels .now)) (a .c)
+all : (c : tie.After-loop Inv-loop μ-loop)
+    → let a = c .before .before .before .args in c .before .loop .near ≡ gathered (a .n) (labelIn (a .labels .now)) (a .c)
 unfolding gathered
 all c =
     let s = c .before .before .before in
@@ -79,7 +80,8 @@ returns c =
     let l = c .before in
     let a = l .before .before .before .args in
     let f : ℕ → ℕ = λ k. labelIn (a .labels .now) (flip k (a .c)) in
-    (all l, sym (some-none (a .n) (λ k. ltb highest (f k)) (λ k h. le-ltb highest (f k) (omega (arith, l .before .loop .inv .3 k (omega arith), c .if1 .taken)))))
+    (all l, sym (some-none (a .n) (λ k. ltb highest (f k))
+                           (λ k h. le-ltb highest (f k) (omega (arith, l .before .loop .inv .3 k (omega arith), c .if1 .taken)))))
 
 some-above-requires : tie.Need-some-above-requires Inv-loop μ-loop
 some-above-requires c κs = search needs

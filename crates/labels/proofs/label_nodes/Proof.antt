@@ -55,7 +55,8 @@ settle-requires c κs = search needs
 
 -- a round that marked something is one of at most as many as there are working nodes, and these are few
 bound : (c : tie.Else1 Inv-loop μ-loop)
-    → let l = begun (swept c) in let a = start l .args in let few = working (a .n) (out (cabinet (a .n) (a .rule) (a .faults .now) (a .draining .now) (a .closed .now))) in
+    → let l = begun (swept c) in let a = start l .args in
+    let few = working (a .n) (out (cabinet (a .n) (a .rule) (a .faults .now) (a .draining .now) (a .closed .now))) in
     (l .loop .exchanges ≤ few) × (few ≤ 4096)
 bound c =
     let w = swept c in
