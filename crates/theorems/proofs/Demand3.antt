@@ -161,7 +161,7 @@ module _ (K : Cabinet) (j : ℕ) (T : Table K j) (s d : ℕ) (hs : Works K s) (h
           ending = refl;
           decided = rw (end-place ending.Halted) (H .ended);
           far = rw (end-place ending.Halted) (H .far);
-          why = rw (end-place ending.Halted) why
+          why = rw (end-place ending.Halted) why;
         })
       where
         why : (i : ℕ) → i < n → apart i (endOf n lab d s) d ≡ true → out K (flip i (endOf n lab d s)) ≡ true

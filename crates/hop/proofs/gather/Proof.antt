@@ -79,9 +79,11 @@ returns : tie.Need-returns Inv-loop μ-loop
 returns c =
     let l = c .before in
     let a = l .before .before .before .args in
-    let f : ℕ → ℕ = λ k. labelIn (a .labels .now) (flip k (a .c)) in
-    (all l, sym (some-none (a .n) (λ k. ltb highest (f k))
-                           (λ k h. le-ltb highest (f k) (omega (arith, l .before .loop .inv .3 k (omega arith), c .if1 .taken)))))
+    let f : ℕ → ℕ = λ k. labelIn (a .labels .now) (flip k (a .c)) in (
+      all l,
+      sym (some-none (a .n) (λ k. ltb highest (f k))
+          (λ k h. le-ltb highest (f k) (omega (arith, l .before .loop .inv .3 k (omega arith), c .if1 .taken)))),
+    )
 
 some-above-requires : tie.Need-some-above-requires Inv-loop μ-loop
 some-above-requires c κs = search needs
