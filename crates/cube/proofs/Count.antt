@@ -1,13 +1,15 @@
 -- Laws of counting: what `count` says of two tests, and how a loop that goes up by one learns it.
-use mathlib.Core.Path.{_≡_, refl, sym, _∙_, subst}
+use mathlib.Core.Path.{_≡_, refl, sym, ap, _∙_, subst}
 use mathlib.Core.Logic.{_⊎_, inl, inr, ⊎-elim, _≢_}
-use mathlib.Core.Bool.{Bool, true, false, _||_}
+use mathlib.Core.Bool.{Bool, true, false, not, _&&_, _||_}
 use Prim.Native.Nat.{ℕ, zero, suc, _+_, _≤_, _<_}
 use native.Mathlib.Omega.{arith}
 use native.Mathlib.Nat.{eq-or-lt-of-le, le-of-suc-le-suc}
 use native.Mathlib.Numerals.{add-one}
+use lib.Dec.{eqb}
+use borrow.Author.Tests.{eq-eqb, eqb-true, ne-eqb}
 use Rattle.cube.specs.Count.{count}
-use Rattle.cube.proofs.Bools.{either, clash}
+use Rattle.cube.proofs.Bools.{and-both, clash, either}
 
 pub below-suc : {i n : ℕ} → i < suc n → (i ≡ n) ⊎ (i < n)
 below-suc h = eq-or-lt-of-le (le-of-suc-le-suc h)
@@ -112,6 +114,51 @@ count-sum (suc n) p q f = go (count-sum n p q (λ i h. f i (omega arith))) (eith
     go ih (inl a) (inr b) = rw (a, b) (omega arith)
     go ih (inr a) (inl b) = rw (a, b) (omega arith)
     go ih (inr a) (inr b) = rw (a, b) (omega arith)
+
+-- a test that holds only where one of two others does is counted no oftener than these
+pub count-union : (n : ℕ) (p q r : ℕ → Bool) → ((i : ℕ) → i < n → p i ≡ true → (q i ≡ true) ⊎ (r i ≡ true)) → count n p ≤ count n q + count n r
+count-union zero p q r f = omega (arith, count-zero p)
+count-union (suc n) p q r f = go (count-union n p q r (λ i h. f i (omega arith))) (either (p n))
+  where
+    more : (s : ℕ → Bool) → count n s ≤ count (suc n) s
+    more s = count-up n (suc n) s (omega arith)
+
+    held : count n p ≤ count n q + count n r → p n ≡ true → (q n ≡ true) ⊎ (r n ≡ true) → count (suc n) p ≤ count (suc n) q + count (suc n) r
+    held ih e (inl k) = omega (arith, count-yes n p e, count-yes n q k, more r)
+    held ih e (inr k) = omega (arith, count-yes n p e, count-yes n r k, more q)
+
+    go : count n p ≤ count n q + count n r → (p n ≡ true) ⊎ (p n ≡ false) → count (suc n) p ≤ count (suc n) q + count (suc n) r
+    go ih (inl e) = held ih e (f n (omega arith) e)
+    go ih (inr e) = omega (arith, count-no n p e, more q, more r)
+
+-- where f takes the places below m that have p to places below n that have q, no two to the same, p is counted no oftener than q
+pub count-into : (m n : ℕ) (p q : ℕ → Bool) (f : ℕ → ℕ) → ((i : ℕ) → i < m → p i ≡ true → (f i < n) × (q (f i) ≡ true))
+    → ((i j : ℕ) → i < m → j < m → f i ≡ f j → i ≡ j) → count m p ≤ count n q
+count-into zero n p q f into one = omega (arith, count-zero p)
+count-into (suc m) n p q f into one = go (count-into m n p) (either (p m))
+  where
+    -- q, but not where f takes m
+    rest : ℕ → Bool
+    rest y = not (eqb y (f m)) && q y
+
+    others : p m ≡ true → (i : ℕ) → i < m → p i ≡ true → (f i < n) × (rest (f i) ≡ true)
+    others t i h e =
+        let a = into i (omega arith) e in
+        (a .0, and-both (ap not (ne-eqb (f i) (f m) (λ s. let z = one i m (omega arith) (omega arith) s in omega arith))) (a .1))
+
+    go : ((r : ℕ → Bool) (g : ℕ → ℕ) → ((i : ℕ) → i < m → p i ≡ true → (g i < n) × (r (g i) ≡ true))
+        → ((i j : ℕ) → i < m → j < m → g i ≡ g j → i ≡ j) → count m p ≤ count n r)
+        → (p m ≡ true) ⊎ (p m ≡ false) → count (suc m) p ≤ count n q
+    go ih (inl t) =
+        let a = into m (omega arith) t in
+        omega (
+          arith,
+          count-yes m p t,
+          ih rest f (others t) (λ i j h k. one i j (omega arith) (omega arith)),
+          count-more n (f m) rest q (a .0) (rw (eq-eqb (f m) (f m) refl)) (a .1) (λ y h d. rw (ne-eqb y (f m) d)),
+        )
+    go ih (inr t) =
+        omega (arith, count-no m p t, ih q f (λ i h. into i (omega arith)) (λ i j h k. one i j (omega arith) (omega arith)))
 
 pub none-counted : (n : ℕ) (p : ℕ → Bool) → count n p ≡ 0 → (i : ℕ) → i < n → p i ≡ false
 none-counted n p e i h = ⊎-elim (λ (t : p i ≡ true). absurd (omega (arith, count-pos n p i h t))) (λ t. t) (either (p i))

@@ -28,6 +28,7 @@ use Rattle.walk.specs.declared.Walked.{Walked}
 use Rattle.theorems.specs.Before.{labelledThen, labelsAfterThen, plain}
 use Rattle.theorems.specs.Demand2.{Demand2}
 use Rattle.theorems.specs.Demand3.{Walks}
+use Rattle.theorems.specs.HowLong.{HowLong}
 use Rattle.theorems.specs.Picked.{Picked}
 use Rattle.theorems.specs.Repeats.{Repeats}
 use Rattle.theorems.specs.TwoRules.{NoneStrong, OnlyBetter, more}
@@ -36,6 +37,7 @@ use Rattle.theorems.proofs.Before.{as-before}
 use Rattle.theorems.proofs.Decision.{picked}
 use Rattle.theorems.proofs.Demand2.{demand2}
 use Rattle.theorems.proofs.Demand3.{demand3}
+use Rattle.theorems.proofs.HowLong.{how-long}
 use Rattle.theorems.proofs.Repeats.{walk-repeats}
 use Rattle.theorems.proofs.TwoRules.{two-rules}
 use Rattle.promises.specs.Demands.{Demands, WellFormed}
@@ -67,12 +69,12 @@ module _ (lib : Library) (F : Faithful lib) where
         bytes = sym (ap (half j (2 ^ K .n)) (f .1) ∙ labels-written K j before (o .0));
       }
 
-  labels :
-      {K : Cabinet} {j exchanges : ℕ} {before buffer : List ℕ} → lib .labels K j before (labelled.Exchanges exchanges) buffer
-      → Demand2 K (labelFor (K .n) j buffer) exchanges
-  labels {K} {j} {exchanges} {before} {buffer} m =
+  -- so what holds of the labels and of the count by the definitions holds of those that labelling left
+  of-left : {K : Cabinet} {j exchanges : ℕ} {before buffer : List ℕ} (P : (ℕ → ℕ) → ℕ → Type 0)
+      → lib .labels K j before (labelled.Exchanges exchanges) buffer → P (labelAt K) (exchangesOf K) → P (labelFor (K .n) j buffer) exchanges
+  of-left {K} {j} {exchanges} {before} {buffer} P m p =
       let l = left m in
-      subst (Demand2 K (labelFor (K .n) j buffer)) (l .count) (subst (λ (t : List ℕ). Demand2 K (labelIn t) (exchangesOf K)) (l .bytes) (demand2 K))
+      subst (P (labelFor (K .n) j buffer)) (l .count) (subst (λ (t : List ℕ). P (labelIn t) (exchangesOf K)) (l .bytes) p)
 
   notice-labels :
       {bytes faults draining closed before after old : List ℕ} {n rule j m taken : ℕ} {x : Labelled} → lib .reads bytes old (noticed.Notice n m taken) faults
@@ -137,7 +139,7 @@ module _ (lib : Library) (F : Faithful lib) where
   none-strong : (K : Cabinet) {j e : ℕ} {before buffer : List ℕ} → lib .labels (byRule 2 K) j before (labelled.Exchanges e) buffer
       → NoneStrong (byRule 2 K) (labelFor (K .n) j buffer)
   none-strong K a =
-      subst (λ (t : List ℕ). NoneStrong (byRule 2 K) (labelIn t)) (left a .bytes) (two-rules .none-strong K)
+      of-left (λ (lab : ℕ → ℕ) _. NoneStrong (byRule 2 K) lab) a (two-rules .none-strong K)
 
   two-more : (K : Cabinet) {j e s d : ℕ} {before buffer : List ℕ} {w : Walked} → lib .labels (byRule 2 K) j before (labelled.Exchanges e) buffer
       → SomeSafe (K .n) (labelFor (K .n) j buffer) → Works K s → Takes K d → lib .walks (K .n) j s d buffer W.rowBytes w
@@ -208,7 +210,8 @@ module _ (lib : Library) (F : Faithful lib) where
         table-written = λ {bytes} {before} {after} {n} {m} {taken} r. let f = F .reads r in
             subst (TableOf n m (N.addressesOf bytes)) (sym (f .1)) (notice-laws .written bytes before n m taken (sym (f .0)));
         labels-written = λ m. sym (left m .bytes);
-        labels = λ m. labels m;
+        labels = λ {K} m. of-left (Demand2 K) m (demand2 K);
+        how-long = λ {K} {j} m. of-left (HowLong K) m (how-long K j (left m .accepted));
         hop = λ {n} {j} {c} {d} {buffer} {x} m.
             subst (Picked n (labelFor n j buffer) c d) (of-decided n j c d (length buffer) (labelFor n j buffer) x (sym (F .hops m)))
             (picked n (labelFor n j buffer) c d);
@@ -231,7 +234,7 @@ module _ (lib : Library) (F : Faithful lib) where
         two-more = two-more;
         label-before = label-before;
         no-four = λ {n} {rule} {j} {e} {faults} {closed} m x.
-            subst (λ (t : List ℕ). labelIn t x ≢ 4) (left m .bytes) (as-before 0 (omega arith) .no-four n rule faults closed x);
+            of-left (λ (lab : ℕ → ℕ) _. lab x ≢ 4) m (as-before 0 (omega arith) .no-four n rule faults closed x);
         hop-before = λ {n} {j} {c} {d} {buffer} v job m long none.
             F .hops v ∙ ap (λ (k : ℕ). H.hopped n j c d k (labelFor n j buffer)) long
             ∙ as-before j (job-below job) .hop n c d m (labelFor n j buffer) none;

@@ -19,6 +19,7 @@ use Rattle.theorems.proofs.Before.{as-before}
 use Rattle.theorems.proofs.Decision.{hop-picked}
 use Rattle.theorems.proofs.Demand2.{demand2}
 use Rattle.theorems.proofs.Demand3.{demand3}
+use Rattle.theorems.proofs.HowLong.{how-long}
 use Rattle.theorems.proofs.Repeats.{walk-repeats}
 use Rattle.theorems.proofs.TwoRules.{two-rules}
 use Rattle.hcube.proofs.Decoded.{decodes}
@@ -51,6 +52,7 @@ promises =
       decodes = decodes;
       demand2 = demand2;
       demand3 = demand3;
+      how-long = how-long;
       largest = safe-largest;
       rested = rested;
       exchanged = exchanged;

@@ -27,6 +27,7 @@ use Rattle.walk.specs.declared.Walked.{Walked}
 use Rattle.theorems.specs.Before.{hoppedThen, labelledThen, labelsAfterThen, plain, walkedThen}
 use Rattle.theorems.specs.Demand2.{Demand2}
 use Rattle.theorems.specs.Demand3.{Walks}
+use Rattle.theorems.specs.HowLong.{HowLong}
 use Rattle.theorems.specs.Picked.{Picked}
 use Rattle.theorems.specs.TwoRules.{NoneStrong, OnlyBetter, more}
 use Rattle.theorems.specs.Words.{SomeSafe, Takes, Works, place}
@@ -71,6 +72,10 @@ pub record Demands (lib : Library) : Type 0 where
   pub labels :
       {K : Cabinet} {j : ℕ} {before after : List ℕ} {exchanges : ℕ} → lib .labels K j before (labelled.Exchanges exchanges) after
       → Demand2 K (labelFor (K .n) j after) exchanges
+  -- and labelling does not take long: ceilings for the exchanges that it answers (document 02, A11)
+  pub how-long :
+      {K : Cabinet} {j : ℕ} {before after : List ℕ} {exchanges : ℕ} → lib .labels K j before (labelled.Exchanges exchanges) after
+      → HowLong K (labelFor (K .n) j after) exchanges
   -- the next hop is the one that Algorithm ROUTE picks,
   pub hop : {n j c d : ℕ} {buffer : List ℕ} {x : Decision} → lib .hops n j c d buffer (hopped.Decided x) → Picked n (labelFor n j buffer) c d x
   -- from a node's label and its neighbours' labels in the job's half: no other byte matters, for the refusals too

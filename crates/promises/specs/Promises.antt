@@ -21,10 +21,11 @@ use Rattle.walk.specs.Local.{WalkLocal}
 use Rattle.theorems.specs.Before.{AsBefore}
 use Rattle.theorems.specs.Demand2.{Demand2}
 use Rattle.theorems.specs.Demand3.{Demand3}
+use Rattle.theorems.specs.HowLong.{HowLong}
 use Rattle.theorems.specs.Picked.{HopPicked}
 use Rattle.theorems.specs.Repeats.{WalkRepeats}
 use Rattle.theorems.specs.TwoRules.{TwoRules}
-use Rattle.theorems.specs.Words.{labelAt}
+use Rattle.theorems.specs.Words.{Accepted, labelAt}
 use Rattle.hcube.specs.Decoded.{Decodes}
 use Rattle.promises.specs.Answers.{Answers}
 use Rattle.promises.specs.Demands.{Demands}
@@ -58,6 +59,7 @@ pub record Promises : Type 2 where
   -- demands 2 and 3 of the definitions, and what they rest on
   pub demand2 : (K : Cabinet) → Demand2 K (labelAt K) (exchangesOf K)
   pub demand3 : Demand3
+  pub how-long : (K : Cabinet) (j : ℕ) → Accepted K j → HowLong K (labelAt K) (exchangesOf K)
   pub largest : (n k : ℕ) (F : ℕ → Bool) → Largest n k F
   pub rested : (n k : ℕ) (F : ℕ → Bool) → Rested n k F
   pub exchanged : (n k : ℕ) (F : ℕ → Bool) → Exchanges n k F

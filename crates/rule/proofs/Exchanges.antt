@@ -15,6 +15,7 @@ use Rattle.cube.proofs.Cube.{flip-lt}
 use Rattle.rule.specs.Exchanges.{Exchanged, Exchanges}
 use Rattle.rule.specs.Rounds.{BringsNew, BringsNothing, Rested, Unsafe}
 use Rattle.rule.specs.Rule.{exchanges, marked, newly, quiet, working}
+use Rattle.rule.proofs.Ceilings.{below-nodes, fewer, first}
 use Rattle.rule.proofs.Rounds.{marked-zero, meets-says, newly-says, rested, rounds-is}
 
 module _ (n k : ℕ) (F : ℕ → Bool) where
@@ -76,7 +77,10 @@ module _ (n k : ℕ) (F : ℕ → Bool) where
         counted = counted;
         alone = alone;
         still = λ r h. R .still r (omega arith);
-        ceiling = omega (arith, R .ceiling);
         no-faults = λ one f. omega (arith, rounds-is n k F 0 (λ j h. absurd (omega arith)) (quiet-first one f));
         none-works = λ f. omega (arith, R .ceiling, none-work f);
+        ceiling = omega (arith, R .ceiling);
+        first = first n k F;
+        fewer = fewer n k F;
+        below-nodes = below-nodes n k F;
       }

@@ -1,4 +1,5 @@
 pub mod Rounds
+pub mod Ceilings
 pub mod Exchanges
 pub mod Looks
 pub mod Largest

@@ -73,16 +73,18 @@ module _ (n k : ℕ) (F : ℕ → Bool) where
   unfolding working
   bounded r = count-le (2 ^ n) (marked n k F r) (λ x. not (F x)) (λ x h e. ap not (marks-work r x e))
 
-  one-each : (r : ℕ) → ((j : ℕ) → j < r → quiet n k F j ≡ false) → r ≤ count (2 ^ n) (marked n k F r)
+  -- each round from s to r marks one node at least, if none before r is quiet
+  pub one-each : (s r : ℕ) → s ≤ r → ((j : ℕ) → j < r → quiet n k F j ≡ false) → count (2 ^ n) (marked n k F s) + r ≤ count (2 ^ n) (marked n k F r) + s
   unfolding quiet
-  one-each zero f = omega arith
-  one-each (suc r) f =
+  one-each s zero h f = let z : s ≡ zero = omega arith in rw z (omega arith)
+  one-each s (suc r) h f =
       let new = eqb-false (count (2 ^ n) (newly n k F (marked n k F r))) 0 (f r (omega arith)) in
-      omega (arith, one-each r (λ j h. f j (omega arith)), grows r, new)
+      ⊎-elim (λ (e : s ≡ suc r). rw e (omega arith))
+      (λ (l : s < suc r). omega (arith, one-each s r (omega arith) (λ j h. f j (omega arith)), grows r, new)) (eq-or-lt-of-le h)
 
   -- no more rounds mark something new than there are working nodes
   pub loud-le : (r : ℕ) → ((j : ℕ) → j < r → quiet n k F j ≡ false) → r ≤ working n F
-  loud-le r f = omega (arith, one-each r f, bounded r)
+  loud-le r f = omega (arith, one-each 0 r (omega arith) f, bounded r)
 
   -- ---- how many rounds mark something new
 
@@ -91,7 +93,7 @@ module _ (n k : ℕ) (F : ℕ → Bool) where
   unfolding rounds
   rounds-le = the-least _ _ .within
 
-  rounds-first : (j : ℕ) → j < rounds n k F → quiet n k F j ≡ false
+  pub rounds-first : (j : ℕ) → j < rounds n k F → quiet n k F j ≡ false
   unfolding rounds
   rounds-first = the-least _ _ .before
 
@@ -108,7 +110,7 @@ module _ (n k : ℕ) (F : ℕ → Bool) where
       go (inr a) =
           let all = ltb-false (rounds n k F) (working n F) a in
           eq-eqb (count (2 ^ n) (newly n k F (marked n k F (rounds n k F)))) 0
-          (omega (arith, one-each (rounds n k F) rounds-first, bounded (suc (rounds n k F)), grows (rounds n k F)))
+          (omega (arith, one-each 0 (rounds n k F) (omega arith) rounds-first, bounded (suc (rounds n k F)), grows (rounds n k F)))
 
   -- a round that marks nothing new leaves the marks as they are,
   quiet-same : (r : ℕ) → quiet n k F r ≡ true → BringsNothing n k F r

@@ -135,5 +135,4 @@ module _ (K : Cabinet) where
         safe = λ x h. (λ e. unmarked x h (zero-is x h e), λ e. is-zero x h (makes-safe x h (e .0) (e .1)));
         counted = E .counted;
         still = E .still;
-        ceiling = E .ceiling;
       }

@@ -4,6 +4,7 @@ pub mod Walks
 pub mod Repeats
 pub mod FewReads
 pub mod Demand2
+pub mod HowLong
 pub mod Demand3
 pub mod TwoRules
 pub mod BeforeLabels

@@ -3,7 +3,7 @@
 use mathlib.Core.Bool.{Bool, true, false}
 use mathlib.Core.Logic.{_↔_}
 use mathlib.Core.Path.{_≡_}
-use Prim.Native.Nat.{ℕ, _+_, _^_, _≤_, _<_}
+use Prim.Native.Nat.{ℕ, _^_, _≤_, _<_}
 use lib.Dec.{eqb}
 use Rattle.cube.specs.Cube.{flip}
 use Rattle.cube.specs.Tables.{nodeBit}
@@ -11,7 +11,7 @@ use Rattle.rule.specs.Cabinet.{Cabinet, drains, faulty, out}
 use Rattle.rule.specs.Closed.{Closed}
 use Rattle.rule.specs.Exchanges.{Exchanged}
 use Rattle.rule.specs.Rounds.{BringsNothing}
-use Rattle.rule.specs.Rule.{marked, working}
+use Rattle.rule.specs.Rule.{marked}
 
 pub record Demand2 (K : Cabinet) (lab : ℕ → ℕ) (exchanges : ℕ) : Type 0 where
   -- of all sets of working nodes in which each has at most one neighbour that does not work and fewer neighbours outside the set than the rule's number
@@ -31,6 +31,5 @@ pub record Demand2 (K : Cabinet) (lab : ℕ → ℕ) (exchanges : ℕ) : Type 0 
   pub safe : (x : ℕ) → x < 2 ^ K .n → (lab x ≡ 0) ↔ ((out K x ≡ false) × (marked (K .n) (K .rule) (out K) exchanges x ≡ false))
   -- "the number of exchanges, the quiet one included": each before the last brought something new, and the last did not;
   pub counted : Exchanged (K .n) (K .rule) (out K) exchanges
-  -- no later one would, and there are at most as many as working nodes, and one more
+  -- and no later one would. (How many there can be: HowLong.antt)
   pub still : (r : ℕ) → exchanges ≤ r → BringsNothing (K .n) (K .rule) (out K) r
-  pub ceiling : exchanges ≤ working (K .n) (out K) + 1

@@ -3,6 +3,7 @@ pub mod Picked
 pub mod Repeats
 pub mod FewReads
 pub mod Demand2
+pub mod HowLong
 pub mod Demand3
 pub mod TwoRules
 pub mod Before
