@@ -11,6 +11,7 @@ use Rattle.cube.specs.Refusal.{first}
 use Rattle.cube.specs.Tables.{tab, isDimension, tableLen, nodeBit, unusedSet, labelIn}
 use Rattle.jobs.specs.Jobs.{isJob, labelBytes, withHalf}
 use Rattle.rule.specs.Cabinet.{Cabinet, exchangesOf, isRule, labelsOf, out}
+use Rattle.rule.specs.Exchanges.{late}
 use Rattle.rule.specs.Rule.{meets, newly, marked, quiet, working, rounds, exchanges, safe, labelOf, label}
 use Rattle.scans.specs.Scans.{suits, takes, lowest, firstScan}
 use Rattle.rule.proofs.Exchanges.{exchanged}
@@ -76,7 +77,7 @@ module _ (K : Cabinet) (j m : ℕ) (accepted : labelRefusal K j m ≡ 0) where
 pub worked : Worked
 unfolding those visited walked walkRefusal walkFrom refused first row last hops turn spot stops onto hopped hopRefusal hop decide answer firstScan lowest
     takes suits apart dist ones labelIn tab isDimension isRule tableLen unusedSet nodeBit bit flip some least count labelled labelRefusal exchangesOf
-    exchanges labelsOf label labelOf safe rounds working quiet newly meets marked isJob labelBytes labelsAfter withHalf
+    exchanges labelsOf label labelOf safe rounds working quiet newly meets marked isJob labelBytes labelsAfter withHalf late
 worked =
     record {
       table-bytes = refl;
@@ -128,4 +129,9 @@ worked =
       k4-job-1 = on k4-closes 1 13 0 _ k4-closes-labels refl;
       k4-job-1-15 = on k4-closes 1 0 15 _ k4-closes-labels refl;
       k4-shut-15 = on k4-closes-both 1 0 15 _ k4-shut-labels refl;
+      l2-exchanges = refl;
+      l2-working = refl;
+      d2-exchanges = refl;
+      d2-labels = refl;
+      d2-late = refl;
     }

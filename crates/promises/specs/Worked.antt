@@ -1,7 +1,7 @@
 -- The numbers of document 01 that are proved of the definitions, with the counts of document 02's request A3. k4 is n = 4 with faulty 2, 4, 8, 15; q3 is
 -- n = 3 with faulty 1, 2, 4. And numbers of our own: for the older rule (A13) of k4, and of c3 and c4, n = 3 and n = 4 with faulty 0, 3, 4; for draining nodes
 -- (A4) of k4 with 15 draining instead of faulty, with 15 in both tables, and with 9 draining besides; for two jobs (A10) of k4 with 15 draining, where one
--- of them closes 9.
+-- of them closes 9; for the ceilings of A11 of l2 and d2, n = 2 with faulty 0, 1, 3 and with faulty 1, 2.
 use mathlib.Core.Bool.{Bool, true, false, cond}
 use mathlib.Core.List.{List, [], _∷_, _++_}
 use mathlib.Core.Path.{_≡_}
@@ -10,7 +10,8 @@ use lib.Dec.{eqb}
 use lib.ListN.{replicate}
 use Rattle.cube.specs.Tables.{nodeBit}
 use Rattle.rule.specs.Cabinet.{Cabinet, cabinet, labelsOf, out}
-use Rattle.rule.specs.Rule.{marked, safe}
+use Rattle.rule.specs.Exchanges.{late}
+use Rattle.rule.specs.Rule.{marked, safe, working}
 use Rattle.labels.specs.Labelling.{labelRefusal, labelled, labelsAfter}
 use Rattle.labels.specs.declared.Labelled.the-variants.{Exchanges}
 use Rattle.hop.specs.Hop.{hopped}
@@ -20,6 +21,7 @@ use Rattle.walk.specs.Walk.{refused}
 use Rattle.walk.specs.declared.Ending.{Ending}
 use Rattle.walk.specs.declared.Ending.the-variants.{Delivered, Halted}
 use Rattle.walk.specs.declared.Walked.{Walked}
+use Rattle.theorems.specs.HowLong.{isOut, isUnsafe}
 use Rattle.theorems.specs.Words.{labelAt, walkOf}
 
 abbrev pub k4-by : (rule : ℕ) → Cabinet
@@ -52,6 +54,12 @@ k4-closes = cabinet 4 3 (20 ∷ 1 ∷ []) (0 ∷ 128 ∷ []) (0 ∷ 2 ∷ [])
 
 abbrev pub k4-closes-both : Cabinet
 k4-closes-both = cabinet 4 3 (20 ∷ 1 ∷ []) (0 ∷ 128 ∷ []) (0 ∷ 130 ∷ [])
+
+abbrev pub l2 : Cabinet
+l2 = cabinet 2 3 (11 ∷ []) (0 ∷ []) (0 ∷ [])
+
+abbrev pub d2 : Cabinet
+d2 = cabinet 2 3 (6 ∷ []) (0 ∷ []) (0 ∷ [])
 
 -- the numbers below n that have p, rising
 unfoldable pub those : ℕ → (ℕ → Bool) → List ℕ
@@ -134,3 +142,12 @@ pub record Worked : Type 0 where
   pub k4-job-1 : walkOf k4-closes 1 13 0 ≡ visited (13 ∷ 5 ∷ 1 ∷ 0 ∷ []) 3 13 Delivered
   pub k4-job-1-15 : walkOf k4-closes 1 0 15 ≡ visited (0 ∷ 1 ∷ 3 ∷ 7 ∷ 15 ∷ []) 4 12 Delivered
   pub k4-shut-15 : walkOf k4-closes-both 1 0 15 ≡ refused 7
+  -- ---- ceilings that are reached, so that none can be lower
+
+  -- working nodes and one more: by l2, and by a cube without a working node (`all-faulty`)
+  pub l2-exchanges : labelled l2 0 8 ≡ Exchanges 2
+  pub l2-working : working 2 (out l2) ≡ 1
+  -- late nodes and two more: d2 has two unsafe nodes, and the first exchange marks both
+  pub d2-exchanges : labelled d2 0 8 ≡ Exchanges 2
+  pub d2-labels : labelsOf d2 ≡ 2 ∷ 3 ∷ 3 ∷ 2 ∷ []
+  pub d2-late : late 2 (λ x. isUnsafe (labelAt d2 x)) (λ x. isOut (labelAt d2 x)) ≡ 0

@@ -1,4 +1,4 @@
--- How many exchanges there can be. The first marks the working nodes that have two neighbours that do not work, and each round after it marks one node at
+-- How many rounds can mark something new. The first marks the working nodes that have two neighbours that do not work, and each round after it marks one node at
 -- least: each of these has at most one such neighbour, or the first would have marked it. And where the first marks a node at all, the two neighbours do not
 -- work, so at most 2 ^ n - 2 nodes do.
 use mathlib.Core.Path.{_≡_, _∙_}
@@ -17,7 +17,7 @@ use Rattle.cube.proofs.Count.{count-bound, count-same, count-sum, count-union}
 use Rattle.cube.proofs.Cube.{near-few}
 use Rattle.rule.specs.Exchanges.{late}
 use Rattle.rule.specs.Rounds.{Unsafe}
-use Rattle.rule.specs.Rule.{exchanges, marked, rounds, working}
+use Rattle.rule.specs.Rule.{marked, rounds, working}
 use Rattle.rule.proofs.Rounds.{marked-suc, marked-zero, marks, marks-work, one-each, rested, rounds-first}
 
 module _ (n k : ℕ) (F : ℕ → Bool) where
@@ -65,11 +65,10 @@ module _ (n k : ℕ) (F : ℕ → Bool) where
       count-union (2 ^ n) (marked n k F r) (marked n k F 1) (λ x. marked n k F (r + 1) x && leb (out x) 1)
       (λ x h e. ⊎-elim (λ (t : marked n k F 1 x ≡ true). inl t) (λ (t : leb (out x) 1 ≡ true). inr (and-both (stays r x e) t)) (one-out r x e))
 
-  pub fewer : exchanges n k F ≤ late n (marked n k F (exchanges n k F)) F + 2
-  unfolding exchanges
-  fewer = go (either (ltb 0 (rounds n k F)))
+  pub rounds-late : rounds n k F ≤ late n (marked n k F (rounds n k F + 1)) F + 1
+  rounds-late = go (either (ltb 0 (rounds n k F)))
     where
-      go : (ltb 0 (rounds n k F) ≡ true) ⊎ (ltb 0 (rounds n k F) ≡ false) → rounds n k F + 1 ≤ late n (marked n k F (rounds n k F + 1)) F + 2
+      go : (ltb 0 (rounds n k F) ≡ true) ⊎ (ltb 0 (rounds n k F) ≡ false) → rounds n k F ≤ late n (marked n k F (rounds n k F + 1)) F + 1
       go (inl t) = omega (arith, one-each n k F 1 (rounds n k F) (ltb-true 0 (rounds n k F) t) (rounds-first n k F), marked-few (rounds n k F))
       go (inr t) = omega (arith, ltb-false 0 (rounds n k F) t)
 
@@ -87,9 +86,8 @@ module _ (n k : ℕ) (F : ℕ → Bool) where
       let new = rested n k F .loud 0 l in
       omega (arith, first h (new .0) .0 (new .3) .1, near-few n (new .0) F (new .1))
 
-  pub below-nodes : 1 ≤ n → 2 ≤ k → exchanges n k F < 2 ^ n
-  unfolding exchanges
-  below-nodes one h = go (either (ltb 0 (rounds n k F)))
+  pub rounds-below : 1 ≤ n → 2 ≤ k → rounds n k F + 1 < 2 ^ n
+  rounds-below one h = go (either (ltb 0 (rounds n k F)))
     where
       go : (ltb 0 (rounds n k F) ≡ true) ⊎ (ltb 0 (rounds n k F) ≡ false) → rounds n k F + 1 < 2 ^ n
       go (inl t) = omega (arith, rested n k F .ceiling, parts, two-out h (ltb-true 0 (rounds n k F) t))

@@ -15,7 +15,7 @@ use Rattle.cube.proofs.Cube.{flip-lt}
 use Rattle.rule.specs.Exchanges.{Exchanged, Exchanges}
 use Rattle.rule.specs.Rounds.{BringsNew, BringsNothing, Rested, Unsafe}
 use Rattle.rule.specs.Rule.{exchanges, marked, newly, quiet, working}
-use Rattle.rule.proofs.Ceilings.{below-nodes, fewer, first}
+use Rattle.rule.proofs.Ceilings.{first, rounds-below, rounds-late}
 use Rattle.rule.proofs.Rounds.{marked-zero, meets-says, newly-says, rested, rounds-is}
 
 module _ (n k : ℕ) (F : ℕ → Bool) where
@@ -81,6 +81,6 @@ module _ (n k : ℕ) (F : ℕ → Bool) where
         none-works = λ f. omega (arith, R .ceiling, none-work f);
         ceiling = omega (arith, R .ceiling);
         first = first n k F;
-        fewer = fewer n k F;
-        below-nodes = below-nodes n k F;
+        fewer = omega (arith, rounds-late n k F);
+        below-nodes = λ one h. omega (arith, rounds-below n k F one h);
       }
