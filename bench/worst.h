@@ -1,6 +1,7 @@
 /*
  * worst.h: fault tables of n = 12 with many exchanges: 109 by rule 3 and 37 by
- * rule 2, found by tests/most_exchanges.c (`most_exchanges RULE 12 600000 1`).
+ * rule 2. tests/most.h has tables with more; these stay, so that times can be
+ * compared with earlier ones.
  */
 #ifndef WORST_H
 #define WORST_H

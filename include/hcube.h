@@ -68,6 +68,10 @@ extern "C" {
  * node k is labels[HCUBE_HALF(n, job) + k]. */
 #define HCUBE_HALF(n, job) ((size_t)(job) * HCUBE_NODES(n))
 
+/* No labelling of an n-cube takes more exchanges, whichever nodes work and by
+ * either rule (see hcube_label). */
+#define HCUBE_EXCHANGES_MAX(n) (HCUBE_NODES(n) - 1)
+
 /* Labels. */
 #define HCUBE_SAFE 0
 #define HCUBE_ORDINARY 1 /* ordinarily unsafe: some neighbour is safe */
@@ -144,6 +148,17 @@ extern "C" {
  * safe, no label grows, and a walk that was delivered still is. With
  * HCUBE_RULE_LEE_HAYES, where some node is safe no working node is strongly
  * unsafe, and no walk is longer than the distance and two hops.
+ *
+ * How many exchanges there can be, all of it proved: at most one more than there
+ * are working nodes; at most two more than there are unsafe nodes with at most
+ * one neighbour of label 3 or 4, for the first exchange finds all other unsafe
+ * nodes; and never more than HCUBE_EXCHANGES_MAX(n). Each exchange but the last
+ * makes some node unsafe.
+ * The most that were found, for n up to 5 by trying every table, above it by a
+ * search, so that there may be more:
+ *   n                     1  2  3  4   5   6   7   8   9  10   11   12
+ *   HCUBE_RULE_LEE_HAYES  1  2  4  6   9  13  17  22  28  34   41   49
+ *   HCUBE_RULE_CHIU_WU    1  2  3  5  10  19  33  49  71  97  127  167
  *
  * Refusals, in order:
  *   1   n is not 1 to 12

@@ -1,12 +1,32 @@
 /* cabinet.c: the cabinet at hand, and what is asked about it. */
 #include "cabinet.h"
 
+#include <string.h>
+
 #include "cases.h"
 #include "check.h"
 
 uint8_t faults[MOST_FAULT_BYTES], draining[MOST_FAULT_BYTES];
 uint8_t closed[MOST_FAULT_BYTES];
 uint8_t labels[MOST_NODES];
+
+void clear_cabinet(void)
+{
+    memset(faults, 0, sizeof faults);
+    memset(draining, 0, sizeof draining);
+    memset(closed, 0, sizeof closed);
+}
+
+void put_out(uint32_t k)
+{
+    uint8_t *tables[] = {faults, draining, closed};
+    put_node(tables[random_below(3)], k);
+}
+
+int is_out(uint32_t k)
+{
+    return in_table(faults, k) || in_table(draining, k) || in_table(closed, k);
+}
 
 void random_cabinet(uint32_t n, unsigned per_mille)
 {

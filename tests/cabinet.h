@@ -14,6 +14,12 @@ extern uint8_t faults[MOST_FAULT_BYTES], draining[MOST_FAULT_BYTES];
 extern uint8_t closed[MOST_FAULT_BYTES];
 extern uint8_t labels[MOST_NODES];
 
+/* No node in any table; and one more that does not work, by any one of the three. */
+void clear_cabinet(void);
+void put_out(uint32_t k);
+/* Whether the node is in one of them. */
+int is_out(uint32_t k);
+
 /* Random tables: faulty nodes, each with this chance, draining and closed ones. */
 void random_cabinet(uint32_t n, unsigned per_mille);
 

@@ -40,12 +40,17 @@ int in_table(const uint8_t *table, uint32_t k)
     return table[k / 8] >> (k % 8) & 1;
 }
 
+void put_node(uint8_t *table, uint32_t k)
+{
+    table[k / 8] |= (uint8_t)(1u << (k % 8));
+}
+
 void random_faults(uint32_t n, unsigned per_mille, uint8_t *faults)
 {
     memset(faults, 0, table_bytes(n));
     for (uint32_t k = 0; k < 1u << n; k++)
         if (random_below(1000) < per_mille)
-            faults[k / 8] |= (uint8_t)(1u << (k % 8));
+            put_node(faults, k);
 }
 
 /* Around 1/n to 3/n a node's neighbours decide; there the exchanges are many. */

@@ -18,8 +18,9 @@ void random_bytes(uint8_t *bytes, size_t len);
 /* A random number below `bound`, which is not 0. */
 uint32_t random_below(uint32_t bound);
 
-/* Whether the node is in the fault, draining or closed table. */
+/* Whether the node is in the fault, draining or closed table; and puts it there. */
 int in_table(const uint8_t *table, uint32_t k);
+void put_node(uint8_t *table, uint32_t k);
 /* A good fault table in which each node is faulty with chance per_mille/1000. */
 void random_faults(uint32_t n, unsigned per_mille, uint8_t *faults);
 /* A draining table beside it: empty, one or two nodes, any, or half of the faulty

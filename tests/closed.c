@@ -60,20 +60,6 @@ static void all_small_tables(void)
 
 /* ---- one node x and its neighbours, in cubes of every dimension */
 
-static void clear_tables(void)
-{
-    memset(faults, 0, sizeof faults);
-    memset(draining, 0, sizeof draining);
-    memset(closed, 0, sizeof closed);
-}
-
-/* The node does not work, by any one of the three tables. */
-static void put_out(uint32_t k)
-{
-    uint8_t *tables[] = {faults, draining, closed};
-    tables[random_below(3)][k / 8] |= (uint8_t)(1u << k % 8);
-}
-
 static void label_is(uint32_t n, uint32_t job, uint32_t x, uint8_t label,
                      const char *why)
 {
@@ -85,7 +71,7 @@ static void label_is(uint32_t n, uint32_t job, uint32_t x, uint8_t label,
 /* Across i alone works a neighbour, which is safe; then that one is out too. */
 static void all_but_one_out(uint32_t n, uint32_t job, uint32_t x, uint32_t i)
 {
-    clear_tables();
+    clear_cabinet();
     for (uint32_t j = 0; j < n; j++)
         if (j != i)
             put_out(x ^ 1u << j);
@@ -98,7 +84,7 @@ static void all_but_one_out(uint32_t n, uint32_t job, uint32_t x, uint32_t i)
 /* Across i a neighbour is out, and then across j another. */
 static void two_out(uint32_t n, uint32_t job, uint32_t x, uint32_t i, uint32_t j)
 {
-    clear_tables();
+    clear_cabinet();
     put_out(x ^ 1u << i);
     label_is(n, job, x, HCUBE_SAFE, "one that is out");
     put_out(x ^ 1u << j);

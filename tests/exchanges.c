@@ -1,6 +1,8 @@
 /*
- * exchanges.c: tables whose labelling takes the most exchanges that there are or
- * that are known, and those that take one alone.
+ * exchanges.c: how many exchanges labelling takes: the tables that take the most
+ * there are or that are known, those that take one alone, and the ceilings of
+ * document 02's request A11. These are counted here, in the tables and in the
+ * labels, and are not asked of the reference.
  */
 #include <string.h>
 
@@ -8,49 +10,14 @@
 #include "cases.h"
 #include "check.h"
 #include "groups.h"
+#include "most.h"
 
-/* Exchanges, and a table that takes them (found by tests/most_exchanges.c): for
- * n = 1 to 5 the most there are, by each rule; for n = 6 to 8 the most known. */
-struct most {
-    uint32_t exchanges;
-    uint8_t table[32];
-};
-
-static const struct most most_by_3[9] = {
-    {0, {0}},
-    {1, {0x00}},
-    {2, {0x06}},
-    {3, {0x16}},
-    {5, {0x58, 0x03}},
-    {10, {0xa8, 0x10, 0x20, 0x05}},
-    {19, {0x04, 0x22, 0x14, 0x00, 0x09, 0x40, 0x00, 0x42}},
-    {33, {0x00, 0x00, 0x80, 0x04, 0x00, 0x10, 0x00, 0x02,
-          0x80, 0x00, 0x10, 0x00, 0x00, 0x0a, 0x24, 0x04}},
-    {48, {0x08, 0x00, 0x80, 0x00, 0x00, 0x00, 0x04, 0x24,
-          0x20, 0x01, 0x00, 0x00, 0x00, 0x10, 0x00, 0x00,
-          0x22, 0x02, 0x00, 0x00, 0x00, 0x00, 0x00, 0x00,
-          0x00, 0x00, 0x00, 0x40, 0x18, 0x00, 0x00, 0x00}},
-};
-
-static const struct most most_by_2[9] = {
-    {0, {0}},
-    {1, {0x00}},
-    {2, {0x06}},
-    {4, {0x19}},
-    {6, {0x18, 0x01}},
-    {9, {0x04, 0x10, 0x22, 0x02}},
-    {13, {0x04, 0x00, 0x20, 0x00, 0x02, 0x00, 0x20, 0x40}},
-    {17, {0x00, 0x00, 0x10, 0x00, 0x00, 0x02, 0x00, 0x00,
-          0x80, 0x00, 0x01, 0x00, 0x00, 0x00, 0x00, 0x10}},
-    {22, {0x20, 0x00, 0x80, 0x00, 0x00, 0x00, 0x10, 0x00,
-          0x00, 0x00, 0x00, 0x00, 0x40, 0x00, 0x00, 0x00,
-          0x00, 0x00, 0x00, 0x00, 0x00, 0x04, 0x00, 0x00,
-          0x00, 0x00, 0x00, 0x20, 0x00, 0x00, 0x00, 0x00}},
-};
+/* ---- the most */
 
 static uint32_t most_of_all_tables(uint32_t n, uint32_t rule)
 {
     uint32_t found = 0;
+    clear_cabinet();
     for (uint32_t table = 0; table < 1u << (1u << n); table++) {
         uint32_t exchanges;
         faults[0] = (uint8_t)table;
@@ -62,43 +29,38 @@ static uint32_t most_of_all_tables(uint32_t n, uint32_t rule)
     return found;
 }
 
-/* Where a faulty node is draining or closed instead there are as many exchanges. */
-static void most_with_others(uint32_t n, uint32_t rule, const struct most *most)
+/* As many exchanges, whether a node is faulty, draining or closed. */
+static void takes_most(const struct most *most, int faulty)
 {
-    for (size_t k = 0; k < sizeof most->table; k++) {
-        draining[k] = (uint8_t)(most->table[k] & random_bits());
-        closed[k] = (uint8_t)(most->table[k] & random_bits());
-        faults[k] = (uint8_t)(most->table[k] & ~(draining[k] | closed[k]));
-    }
-    expect(label_cabinet(n, rule) == most->exchanges,
-           "n = %u by %u, some draining or closed: not %u exchanges", n, rule,
-           most->exchanges);
-}
-
-static void most_exchanges_by(uint32_t rule, const struct most *most)
-{
-    for (uint32_t n = 1; n <= 8; n++) {
-        memset(draining, 0, sizeof draining);
-        memset(closed, 0, sizeof closed);
-        memcpy(faults, most[n].table, sizeof most[n].table);
-        expect(label_cabinet(n, rule) == most[n].exchanges,
-               "n = %u by %u: not %u exchanges", n, rule, most[n].exchanges);
-        if (n <= 4)
-            expect(most_of_all_tables(n, rule) == most[n].exchanges,
-                   "n = %u by %u: %u is not the most", n, rule,
-                   most[n].exchanges);
-        for (unsigned k = 0; k < 10; k++)
-            most_with_others(n, rule, &most[n]);
-    }
+    clear_cabinet();
+    for (unsigned k = 0; k < most->count; k++)
+        if (faulty)
+            put_node(faults, most->nodes[k]);
+        else
+            put_out(most->nodes[k]);
+    expect(label_cabinet(most->n, most->rule) == most->exchanges,
+           "n = %u by %u, %s: not %u exchanges", most->n, most->rule,
+           faulty ? "faulty" : "some draining or closed", most->exchanges);
 }
 
 void check_most_exchanges(void)
 {
     begin_group("most exchanges, all fault tables of n = 4, both rules");
-    most_exchanges_by(2, most_by_2);
-    most_exchanges_by(3, most_by_3);
+    for (size_t k = 0; k < COUNT(most_known); k++) {
+        const struct most *most = &most_known[k];
+        expect(most->n == k % 12 + 1 && most->rule == k / 12 + 2,
+               "most.h: n = %u by %u is out of place", most->n, most->rule);
+        for (unsigned turn = 0; turn <= 10; turn++)
+            takes_most(most, turn == 0);
+        if (most->n <= 4)
+            expect(most_of_all_tables(most->n, most->rule) == most->exchanges,
+                   "n = %u by %u: %u is not the most", most->n, most->rule,
+                   most->exchanges);
+    }
     end_group();
 }
+
+/* ---- one alone */
 
 /* Each byte of the three tables; for n = 1 and 2 its bits for nodes alone. */
 static void one_exchange(uint32_t n, uint32_t rule, unsigned faulty,
@@ -130,5 +92,70 @@ void check_one_exchange(void)
         one_exchange(n, rule, 0x5a, 0x21, 0x84);
         one_exchange(n, rule, 0xf1, 0x9e, 0x0c);
     }
+    end_group();
+}
+
+/* ---- ceilings */
+
+enum { BY_WORKING, BY_LATE, BY_NODES, CEILINGS };
+static unsigned long reached[CEILINGS];
+
+static uint32_t count_working(uint32_t n)
+{
+    uint32_t count = 0;
+    for (uint32_t k = 0; k < 1u << n; k++)
+        count += !is_out(k);
+    return count;
+}
+
+/* Unsafe nodes with at most one neighbour that does not work. */
+static uint32_t count_late(uint32_t n)
+{
+    uint32_t count = 0;
+    for (uint32_t k = 0; k < 1u << n; k++) {
+        unsigned out = 0;
+        for (uint32_t i = 0; i < n; i++)
+            out += is_out(k ^ 1u << i) != 0;
+        count += (labels[k] == HCUBE_ORDINARY || labels[k] == HCUBE_STRONG) &&
+                 out <= 1;
+    }
+    return count;
+}
+
+static void keeps_below(uint32_t n, uint32_t rule)
+{
+    uint32_t exchanges = label_cabinet(n, rule), ceiling[CEILINGS];
+    ceiling[BY_WORKING] = count_working(n) + 1;
+    ceiling[BY_LATE] = count_late(n) + 2;
+    ceiling[BY_NODES] = HCUBE_EXCHANGES_MAX(n);
+    for (unsigned k = 0; k < CEILINGS; k++) {
+        expect(exchanges <= ceiling[k], "n = %u by %u: %u exchanges, ceiling %u",
+               n, rule, exchanges, ceiling[k]);
+        reached[k] += exchanges == ceiling[k];
+    }
+}
+
+/* All tables of n = 3 by either rule, random ones of every dimension, and those of
+ * the most exchanges. Each ceiling is reached: a higher one is not the header's. */
+void check_ceilings(void)
+{
+    begin_group("ceilings of exchanges, each of them reached");
+    clear_cabinet();
+    for (unsigned k = 0; k < 2 * 256; k++) {
+        faults[0] = (uint8_t)(k / 2);
+        keeps_below(3, 2 + k % 2);
+    }
+    for (unsigned k = 0; k < 2400; k++) {
+        uint32_t n = 1 + k % 12;
+        random_cabinet(n, random_density(n));
+        keeps_below(n, 2 + k / 12 % 2);
+    }
+    for (size_t k = 0; k < COUNT(most_known); k++) {
+        takes_most(&most_known[k], 0);
+        keeps_below(most_known[k].n, most_known[k].rule);
+    }
+    for (unsigned k = 0; k < CEILINGS; k++)
+        expect(reached[k] >= 20, "ceiling %u was reached %lu times", k,
+               reached[k]);
     end_group();
 }

@@ -5,6 +5,7 @@
 void check_worked_numbers(void);  /* worked.c */
 void check_most_exchanges(void);  /* exchanges.c */
 void check_one_exchange(void);
+void check_ceilings(void);
 void check_small_cubes(void);     /* tables.c */
 void check_moved(void);
 void check_random_tables(void);

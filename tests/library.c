@@ -91,6 +91,7 @@ int main(void)
     check_small_cubes();
     check_most_exchanges();
     check_one_exchange();
+    check_ceilings();
     check_moved();
     check_draining();
     check_draining_ends();

@@ -78,7 +78,7 @@ static void start_faulty(uint32_t n, const uint16_t *nodes, size_t count)
 {
     uint8_t faults[MOST_FAULT_BYTES] = {0};
     while (count--)
-        faults[nodes[count] / 8] |= (uint8_t)(1u << (nodes[count] % 8));
+        put_node(faults, nodes[count]);
     len = put_notice(n, faults, bytes, places);
 }
 

@@ -1,147 +1,179 @@
 /*
  * most_exchanges.c: looks for fault tables whose labelling takes many exchanges.
  *
- *   most_exchanges RULE N            every table, for N up to 4
- *   most_exchanges RULE N STEPS SEED hill climbing, dimension after dimension
+ *   most_exchanges RULE N            tries every table, for N up to 5
+ *   most_exchanges RULE N STEPS SEED searches, dimension after dimension
  *
- * Prints rule, dimension, exchanges and the table in hex. The tables that it found
- * stand as literals in tests/exchanges.c and bench/worst.h. A draining node counts
- * as a faulty one here, so that a draining table beside them adds nothing.
- *
- * A set of nodes is an array of 64-bit words, so that an exchange is a few word
- * operations for each dimension.
+ * Prints rule, dimension, exchanges and faulty nodes. The tables that it found
+ * stand as literals in tests/exchanges.c. A node that is draining or closed
+ * counts as a faulty one here, so that these tables add nothing.
  */
 #include <stdint.h>
 #include <stdio.h>
 #include <stdlib.h>
+#include <string.h>
 
 #include "cases.h"
 
-#define MOST_WORDS 64
+#define MOST_NODES 4096
+#define MOST_TRIED 5
 
-struct set {
-    uint64_t word[MOST_WORDS];
+struct list {
+    unsigned count;
+    uint16_t node[MOST_NODES];
 };
 
-static unsigned rule, n, words;
-static uint64_t used; /* the bits of a word that are nodes */
+static unsigned rule, n, nodes;
+static uint8_t faulty[MOST_NODES], best[MOST_NODES];
 
-/* The nodes of word w whose neighbour across dimension i is in the set. */
-static uint64_t across(const struct set *set, unsigned w, unsigned i)
+/* Whether a node is faulty or unsafe so far, and how many neighbours are. */
+static uint8_t outside[MOST_NODES], near[MOST_NODES];
+
+static void append(struct list *list, uint32_t k)
 {
-    static const uint64_t low[6] = {
-        0x5555555555555555u, 0x3333333333333333u, 0x0f0f0f0f0f0f0f0fu,
-        0x00ff00ff00ff00ffu, 0x0000ffff0000ffffu, 0x00000000ffffffffu};
-    uint64_t x;
-    if (i >= 6)
-        return set->word[w ^ 1u << (i - 6)];
-    x = set->word[w];
-    return (x >> (1u << i) & low[i]) | (x & low[i]) << (1u << i);
+    list->node[list->count++] = (uint16_t)k;
 }
 
-/* One exchange; whether it brought something new. */
-static int exchange(const struct set *faulty, struct set *outside)
+/* One exchange: the nodes of `last` are told to their neighbours, and those that
+ * now have `least` outside become unsafe. No other node has heard anything. */
+static void exchange(const struct list *last, unsigned least, struct list *next)
 {
-    struct set before = *outside;
-    int something_new = 0;
-    for (unsigned w = 0; w < words; w++) {
-        uint64_t one = 0, two = 0, three = 0, faulty_one = 0, faulty_two = 0;
+    next->count = 0;
+    for (unsigned k = 0; k < last->count; k++)
+        for (unsigned i = 0; i < n; i++)
+            near[last->node[k] ^ 1u << i]++;
+    for (unsigned k = 0; k < last->count; k++)
         for (unsigned i = 0; i < n; i++) {
-            uint64_t f = across(faulty, w, i), o = across(&before, w, i);
-            faulty_two |= faulty_one & f;
-            faulty_one |= f;
-            three |= two & o;
-            two |= one & o;
-            one |= o;
+            uint32_t x = last->node[k] ^ 1u << i;
+            if (!outside[x] && near[x] >= least) {
+                outside[x] = 1;
+                append(next, x);
+            }
         }
-        outside->word[w] |= (faulty_two | (rule == 2 ? two : three)) & used;
-        something_new |= outside->word[w] != before.word[w];
-    }
-    return something_new;
 }
 
-/* The quiet one included. */
-static unsigned exchanges_of(const struct set *faulty)
+/* Exchanges of the table at hand, the quiet one included. */
+static unsigned count_exchanges(void)
 {
-    struct set outside = *faulty;
+    static struct list lists[2];
     unsigned exchanges = 1;
-    while (exchange(faulty, &outside))
-        exchanges++;
-    return exchanges;
-}
-
-static void print_table(const struct set *faulty, unsigned exchanges)
-{
-    unsigned bytes = n <= 3 ? 1 : (1u << n) / 8;
-    printf("%u %u %u ", rule, n, exchanges);
-    for (unsigned k = 0; k < bytes; k++)
-        printf("%02x", (unsigned)(faulty->word[k / 8] >> 8 * (k % 8) & 255));
-    printf("\n");
-}
-
-static void try_all(void)
-{
-    struct set table = {{0}}, best = {{0}};
-    unsigned most = 0;
-    for (uint64_t k = 0; k < (uint64_t)1 << (1u << n); k++) {
-        table.word[0] = k;
-        if (exchanges_of(&table) > most) {
-            most = exchanges_of(&table);
-            best = table;
-        }
-    }
-    print_table(&best, most);
-}
-
-static void flip(struct set *set)
-{
-    uint32_t k = random_below(1u << n);
-    set->word[k / 64] ^= (uint64_t)1 << (k % 64);
-}
-
-/* A change of up to four nodes stays if the exchanges are not fewer. */
-static unsigned climb(struct set *table, unsigned long steps)
-{
-    unsigned exchanges = exchanges_of(table);
-    while (steps--) {
-        struct set tried = *table;
-        unsigned now;
-        for (unsigned k = 0; k <= random_below(4); k++)
-            flip(&tried);
-        now = exchanges_of(&tried);
-        if (now < exchanges)
-            continue;
-        *table = tried;
-        exchanges = now;
-    }
+    memcpy(outside, faulty, nodes);
+    memset(near, 0, nodes);
+    lists[0].count = 0;
+    for (uint32_t k = 0; k < nodes; k++)
+        if (faulty[k])
+            append(&lists[0], k);
+    exchange(&lists[0], 2, &lists[1]);
+    for (; lists[exchanges % 2].count; exchanges++)
+        exchange(&lists[exchanges % 2], rule, &lists[(exchanges + 1) % 2]);
     return exchanges;
 }
 
 static void set_dimension(unsigned dimension)
 {
     n = dimension;
-    words = n <= 6 ? 1 : 1u << (n - 6);
-    used = n >= 6 ? ~(uint64_t)0 : ((uint64_t)1 << (1u << n)) - 1;
+    nodes = 1u << n;
 }
 
-/* From dimension to dimension: a table with an empty upper half beside it has
- * the exchanges that it had alone. */
-static void climb_up(unsigned last, unsigned long steps)
+static void print_best(unsigned exchanges)
 {
-    struct set table = {{0}};
-    for (unsigned dimension = last < 5 ? last : 5; dimension <= last; dimension++) {
+    printf("%u %u %u", rule, n, exchanges);
+    for (uint32_t k = 0; k < nodes; k++)
+        if (best[k])
+            printf(" %u", k);
+    printf("\n");
+    fflush(stdout);
+}
+
+/* Every table in which node 0 is faulty, and the empty one: any other is one of
+ * these, seen from one of its faulty nodes. */
+static void try_all(void)
+{
+    unsigned most = count_exchanges();
+    for (uint64_t table = 1; table >> nodes == 0; table += 2) {
+        unsigned exchanges;
+        for (uint32_t k = 0; k < nodes; k++)
+            faulty[k] = table >> k & 1;
+        exchanges = count_exchanges();
+        if (exchanges > most) {
+            most = exchanges;
+            memcpy(best, faulty, nodes);
+        }
+    }
+    print_best(most);
+}
+
+/* Which nodes to change: a faulty node moves by one or two dimensions, or one or
+ * two nodes become faulty or work again. */
+static void choose(struct list *changed)
+{
+    uint32_t k = random_below(nodes);
+    int moves = random_below(3) != 0, two = (int)random_below(2);
+    changed->count = 0;
+    for (unsigned tries = 0; moves && !faulty[k] && tries < nodes; tries++)
+        k = (k + 1) % nodes;
+    append(changed, k);
+    if (moves)
+        append(changed, k ^ 1u << random_below(n) ^ (uint32_t)two << random_below(n));
+    else if (two)
+        append(changed, random_below(nodes));
+}
+
+static void change(const struct list *changed)
+{
+    for (unsigned k = 0; k < changed->count; k++)
+        faulty[changed->node[k]] ^= 1;
+}
+
+/* A loss stays with a chance of one in eight for each exchange lost. */
+static int stays(unsigned loss)
+{
+    while (loss--)
+        if (random_below(8))
+            return 0;
+    return 1;
+}
+
+static unsigned search(unsigned long steps)
+{
+    static struct list changed;
+    unsigned exchanges = count_exchanges(), most = exchanges;
+    memcpy(best, faulty, nodes);
+    while (steps--) {
+        unsigned now;
+        choose(&changed);
+        change(&changed);
+        now = count_exchanges();
+        if (now < exchanges && !stays(exchanges - now)) {
+            change(&changed);
+            continue;
+        }
+        exchanges = now;
+        if (now > most) {
+            most = now;
+            memcpy(best, faulty, nodes);
+        }
+    }
+    return most;
+}
+
+/* From dimension to dimension: the best table with an empty upper half beside it
+ * has the exchanges that it had alone. */
+static void search_up(unsigned last, unsigned long steps)
+{
+    for (unsigned dimension = 2; dimension <= last; dimension++) {
         set_dimension(dimension);
-        print_table(&table, climb(&table, steps));
-        fflush(stdout);
+        memcpy(faulty, best, sizeof faulty);
+        print_best(search(steps));
     }
 }
 
-int main(int count, char **words_given)
+int main(int count, char **words)
 {
-    unsigned last = count > 2 ? (unsigned)atoi(words_given[2]) : 0;
-    rule = count > 1 ? (unsigned)atoi(words_given[1]) : 0;
+    unsigned last = count > 2 ? (unsigned)atoi(words[2]) : 0;
+    rule = count > 1 ? (unsigned)atoi(words[1]) : 0;
     if (rule < 2 || rule > 3 || last < 1 || last > 12 ||
-        (count == 3 && last > 4) || (count != 3 && count != 5)) {
+        (count == 3 && last > MOST_TRIED) || (count != 3 && count != 5)) {
         fprintf(stderr, "usage: most_exchanges RULE N [STEPS SEED]\n");
         return 2;
     }
@@ -150,7 +182,7 @@ int main(int count, char **words_given)
         try_all();
         return 0;
     }
-    random_seed(strtoull(words_given[4], NULL, 10));
-    climb_up(last, strtoul(words_given[3], NULL, 10));
+    random_seed(strtoull(words[4], NULL, 10));
+    search_up(last, strtoul(words[3], NULL, 10));
     return 0;
 }
