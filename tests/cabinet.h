@@ -14,7 +14,7 @@ extern uint8_t faults[MOST_FAULT_BYTES], draining[MOST_FAULT_BYTES];
 extern uint8_t closed[MOST_FAULT_BYTES];
 extern uint8_t labels[MOST_NODES];
 
-/* No node in any table; and one more that does not work, by any one of the three. */
+/* Takes every node out of the tables; puts one into any one of them. */
 void clear_cabinet(void);
 void put_out(uint32_t k);
 /* Whether the node is in one of them. */

@@ -135,11 +135,26 @@ static void keeps_below(uint32_t n, uint32_t rule)
     }
 }
 
+/* K4 with its four nodes in one of the tables: 12 nodes work, and of the unsafe
+ * ones node 14 alone has at most one neighbour that does not. */
+static void counts_of_k4(uint8_t *table)
+{
+    static const uint8_t k4[2] = {0x14, 0x81};
+    clear_cabinet();
+    memcpy(table, k4, sizeof k4);
+    keeps_below(4, HCUBE_RULE_CHIU_WU);
+    expect(count_working(4) == 12, "K4: %u nodes work", count_working(4));
+    expect(count_late(4) == 1, "K4: %u late nodes", count_late(4));
+}
+
 /* All tables of n = 3 by either rule, random ones of every dimension, and those of
- * the most exchanges. Each ceiling is reached: a higher one is not the header's. */
+ * the most exchanges. Each ceiling is reached, so that it is no higher one. */
 void check_ceilings(void)
 {
     begin_group("ceilings of exchanges, each of them reached");
+    counts_of_k4(faults);
+    counts_of_k4(draining);
+    counts_of_k4(closed);
     clear_cabinet();
     for (unsigned k = 0; k < 2 * 256; k++) {
         faults[0] = (uint8_t)(k / 2);

@@ -48,9 +48,19 @@ HOLDS(label_bytes, HCUBE_LABEL_BYTES(1) == 4 && HCUBE_LABEL_BYTES(4) == 32 &&
 HOLDS(halves_1, HCUBE_HALF(1, 0) == 0 && HCUBE_HALF(1, 1) == 2);
 HOLDS(halves_4, HCUBE_HALF(4, 0) == 0 && HCUBE_HALF(2 + 2, 1 - 0) == 16);
 HOLDS(halves_12, HCUBE_HALF(12, 0) == 0 && HCUBE_HALF(12, 1) == 4096);
-HOLDS(exchanges, HCUBE_EXCHANGES_MAX(1) == 1 && HCUBE_EXCHANGES_MAX(4) == 15 &&
-                     2 * HCUBE_EXCHANGES_MAX(10 + 2) == 8190);
-HOLDS(sizes, sizeof HCUBE_LABEL_BYTES(1) == sizeof(size_t) &&
+HOLDS(exchanges_1, HCUBE_EXCHANGES_MAX(1) == 1 && HCUBE_EXCHANGES_MAX(2) == 3 &&
+                       HCUBE_EXCHANGES_MAX(3) == 7 &&
+                       HCUBE_EXCHANGES_MAX(4) == 15);
+HOLDS(exchanges_5, HCUBE_EXCHANGES_MAX(5) == 31 &&
+                       HCUBE_EXCHANGES_MAX(6) == 63 &&
+                       HCUBE_EXCHANGES_MAX(7) == 127 &&
+                       HCUBE_EXCHANGES_MAX(8) == 255);
+HOLDS(exchanges_9, HCUBE_EXCHANGES_MAX(9) == 511 &&
+                       HCUBE_EXCHANGES_MAX(10) == 1023 &&
+                       HCUBE_EXCHANGES_MAX(11) == 2047 &&
+                       2 * HCUBE_EXCHANGES_MAX(10 + 2) == 8190);
+HOLDS(sizes, sizeof HCUBE_EXCHANGES_MAX(1) == sizeof(size_t) &&
+                 sizeof HCUBE_LABEL_BYTES(1) == sizeof(size_t) &&
                  sizeof HCUBE_HALF(1, 1) == sizeof(size_t));
 HOLDS(rules, HCUBE_RULE_LEE_HAYES == 2 && HCUBE_RULE_CHIU_WU == 3 &&
                  HCUBE_BAD_RULE == 18);

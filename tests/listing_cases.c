@@ -15,6 +15,7 @@
 #include <unistd.h>
 
 #include "listing_cases.h"
+#include "most.h"
 
 uint8_t bytes[ROOM];
 size_t len;
@@ -172,15 +173,12 @@ static void long_walks(void)
     }
 }
 
-/* The most exchanges known for n = 12, which are 167: no node is safe then. */
+/* The most exchanges known for n = 12. */
 static void many_exchanges(void)
 {
-    static const uint16_t nodes[] = {
-        347,  493,  536,  932,  1059, 1149, 1215, 1229, 1285, 1290, 1327,
-        1339, 1372, 1392, 1461, 1510, 1521, 1532, 1752, 1984, 2024, 2251,
-        2252, 2282, 2398, 2623, 3091, 3165, 3199, 3677, 3696, 4003};
-    start_faulty(12, nodes, COUNT(nodes));
-    add_pairs(12, 200);
+    const struct most *most = &most_known[COUNT(most_known) - 1];
+    start_faulty(most->n, most->nodes, most->count);
+    add_pairs(most->n, 200);
     make("many-exchanges");
 }
 

@@ -5,8 +5,8 @@
  *   most_exchanges RULE N STEPS SEED searches, dimension after dimension
  *
  * Prints rule, dimension, exchanges and faulty nodes. The tables that it found
- * stand as literals in tests/exchanges.c. A node that is draining or closed
- * counts as a faulty one here, so that these tables add nothing.
+ * stand in tests/most.h. A node that is draining or closed counts as a faulty one
+ * here, so that these tables add nothing.
  */
 #include <stdint.h>
 #include <stdio.h>
@@ -161,7 +161,7 @@ static unsigned search(unsigned long steps)
  * has the exchanges that it had alone. */
 static void search_up(unsigned last, unsigned long steps)
 {
-    for (unsigned dimension = 2; dimension <= last; dimension++) {
+    for (unsigned dimension = 1; dimension <= last; dimension++) {
         set_dimension(dimension);
         memcpy(faulty, best, sizeof faulty);
         print_best(search(steps));

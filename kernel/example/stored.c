@@ -29,15 +29,13 @@ bool hcube_labels_are_right(const struct hcube_cube *cube, uint32_t job, const s
 			    uint8_t *labels)
 {
 	uint8_t *half = labels + HCUBE_HALF(cube->n, job);
-	uint32_t answer;
 
 	if (!cube->has_tables) {
 		memcpy(half, closing->half, HCUBE_NODES(cube->n));
 		return true;
 	}
 	memset(half, HCUBE_UNTOUCHED, HCUBE_NODES(cube->n));
-	answer = hcube_label_stored(cube, job, closing, labels);
-	return answer == closing->label && HCUBE_VALUE(answer) <= HCUBE_EXCHANGES_MAX(cube->n) &&
+	return hcube_label_stored(cube, job, closing, labels) == closing->label &&
 	       hcube_half_is_right(cube, job, closing, labels);
 }
 

@@ -131,6 +131,7 @@ worked =
       k4-shut-15 = on k4-closes-both 1 0 15 _ k4-shut-labels refl;
       l2-exchanges = refl;
       l2-working = refl;
+      k4-late = refl;
       d2-exchanges = refl;
       d2-labels = refl;
       d2-late = refl;

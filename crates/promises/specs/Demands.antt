@@ -72,7 +72,7 @@ pub record Demands (lib : Library) : Type 0 where
   pub labels :
       {K : Cabinet} {j : ℕ} {before after : List ℕ} {exchanges : ℕ} → lib .labels K j before (labelled.Exchanges exchanges) after
       → Demand2 K (labelFor (K .n) j after) exchanges
-  -- and labelling does not take long: ceilings for the exchanges that it answers (document 02, A11)
+  -- how long labelling may take: ceilings for the exchanges that it answers (document 02, A11)
   pub how-long :
       {K : Cabinet} {j : ℕ} {before after : List ℕ} {exchanges : ℕ} → lib .labels K j before (labelled.Exchanges exchanges) after
       → HowLong K (labelFor (K .n) j after) exchanges

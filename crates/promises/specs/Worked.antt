@@ -142,12 +142,13 @@ pub record Worked : Type 0 where
   pub k4-job-1 : walkOf k4-closes 1 13 0 ≡ visited (13 ∷ 5 ∷ 1 ∷ 0 ∷ []) 3 13 Delivered
   pub k4-job-1-15 : walkOf k4-closes 1 0 15 ≡ visited (0 ∷ 1 ∷ 3 ∷ 7 ∷ 15 ∷ []) 4 12 Delivered
   pub k4-shut-15 : walkOf k4-closes-both 1 0 15 ≡ refused 7
-  -- ---- ceilings that are reached, so that none can be lower
+  -- ---- ceilings that are reached, so that what they add cannot be less
 
   -- working nodes and one more: by l2, and by a cube without a working node (`all-faulty`)
   pub l2-exchanges : labelled l2 0 8 ≡ Exchanges 2
   pub l2-working : working 2 (out l2) ≡ 1
-  -- late nodes and two more: d2 has two unsafe nodes, and the first exchange marks both
+  -- late nodes and two more: by k4, whose one late node is 14, and by d2, where the first exchange marks both unsafe nodes
+  pub k4-late : late 4 (λ x. isUnsafe (labelAt k4 x)) (λ x. isOut (labelAt k4 x)) ≡ 1
   pub d2-exchanges : labelled d2 0 8 ≡ Exchanges 2
   pub d2-labels : labelsOf d2 ≡ 2 ∷ 3 ∷ 3 ∷ 2 ∷ []
   pub d2-late : late 2 (λ x. isUnsafe (labelAt d2 x)) (λ x. isOut (labelAt d2 x)) ≡ 0

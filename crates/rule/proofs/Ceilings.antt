@@ -1,6 +1,6 @@
--- How many rounds can mark something new. The first marks the working nodes that have two neighbours that do not work, and each round after it marks one node at
--- least: each of these has at most one such neighbour, or the first would have marked it. And where the first marks a node at all, the two neighbours do not
--- work, so at most 2 ^ n - 2 nodes do.
+-- How many rounds can mark something new. The first marks the working nodes that have two or more neighbours that do not work, and each round after it marks
+-- one node at least: each of these has at most one such neighbour, or the first would have marked it. And where the first marks a node at all, two of its
+-- neighbours do not work, so at most 2 ^ n - 2 nodes do.
 use mathlib.Core.Path.{_≡_, _∙_}
 use mathlib.Core.Logic.{_⊎_, inl, inr, ⊎-elim, _↔_}
 use mathlib.Core.Bool.{Bool, true, false, not, or-false, _&&_, _||_}

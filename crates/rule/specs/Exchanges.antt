@@ -21,7 +21,8 @@ pub record Exchanged (n k : ℕ) (F : ℕ → Bool) (counted : ℕ) : Type 0 whe
   -- and the last does not
   pub last : (r : ℕ) → r + 1 ≡ counted → BringsNothing n k F r
 
--- how many nodes of U have at most one neighbour in F. Where U are the unsafe nodes and F those that do not work, no such node is marked by the first exchange
+-- how many nodes of U have at most one neighbour in F. Where U are the unsafe nodes and F those that do not work, these are the nodes that the first exchange
+-- leaves to later ones (`first`)
 unfoldable pub late : (n : ℕ) (U F : ℕ → Bool) → ℕ
 late n U F = count (2 ^ n) (λ x. U x && leb (count n (λ i. F (flip i x))) 1)
 
@@ -36,13 +37,13 @@ pub record Exchanges (n k : ℕ) (F : ℕ → Bool) : Type 0 where
   pub none-works : ((x : ℕ) → x < 2 ^ n → F x ≡ true) → exchanges n k F ≡ 1
   -- ---- how many there can be (A11)
 
-  -- "at most the number of working nodes plus one". By itself this would be no more than a bound on where `rounds` looks for a quiet one. It is a bound on
-  -- exchanges by the side of `counted`: a quiet one is found there, and each before it marked a node
+  -- "at most the number of working nodes plus one". By itself it would say no more than where `rounds` looks for a quiet round. It says how many exchanges
+  -- there are beside `counted`: a quiet one is found there, and each before it marked a node
   pub ceiling : exchanges n k F ≤ working n F + 1
   -- the first marks the working nodes that have two or more neighbours that do not work,
   pub first : 2 ≤ k → (x : ℕ) → (marked n k F 1 x ≡ true) ↔ ((F x ≡ false) × (2 ≤ count n (λ i. F (flip i x))))
   -- and each one after it, but for the last, marks at least one other node: so there are at most as many as unsafe nodes that have at most one neighbour
   -- that does not work, and two more
   pub fewer : exchanges n k F ≤ late n (marked n k F (exchanges n k F)) F + 2
-  -- whatever works, there are fewer than nodes
+  -- and whichever nodes work, there are fewer exchanges than nodes
   pub below-nodes : 1 ≤ n → 2 ≤ k → exchanges n k F < 2 ^ n

@@ -1,19 +1,19 @@
 -- How long labelling may take, of the bytes that labelling writes: a byte of 3 or more stands exactly at the nodes that do not work, and 1 or 2 at those that
 -- are marked, so the ceilings of the marks are ceilings of the bytes.
-use mathlib.Core.Bool.{Bool, true, false, not, _&&_}
+use mathlib.Core.Bool.{Bool, true, false, _&&_}
 use mathlib.Core.Logic.{⊎-elim, _↔_}
 use mathlib.Core.Path.{_≡_, sym, _∙_}
 use Prim.Native.Nat.{ℕ, _^_, _≤_, _<_}
 use native.Mathlib.Omega.{arith}
 use lib.Dec.{leb}
-use borrow.Author.Tests.{le-leb, leb-true, lt-leb}
+use borrow.Author.Tests.{le-leb, lt-leb}
 use Rattle.cube.specs.Count.{count}
 use Rattle.cube.specs.Cube.{flip}
-use Rattle.cube.proofs.Bools.{and-both, and-true, clash, either, is-false}
+use Rattle.cube.proofs.Bools.{and-both, and-true, clash, either}
 use Rattle.cube.proofs.Count.{count-le, count-same}
 use Rattle.cube.proofs.Cube.{flip-lt}
 use Rattle.cube.proofs.Tables.{dimension-is}
-use Rattle.rule.specs.Cabinet.{Cabinet, exchangesOf, out, outByte}
+use Rattle.rule.specs.Cabinet.{Cabinet, exchangesOf, out}
 use Rattle.rule.specs.Exchanges.{Exchanges, late}
 use Rattle.rule.specs.Rule.{exchanges, marked}
 use Rattle.rule.proofs.Cabinet.{out-high}

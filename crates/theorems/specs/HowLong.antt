@@ -20,8 +20,8 @@ abbrev pub isOut : ℕ → Bool
 isOut l = leb 3 l
 
 pub record HowLong (K : Cabinet) (lab : ℕ → ℕ) (exchanges : ℕ) : Type 0 where
-  -- what is counted: each exchange before the last brought something new, and the last did not. The ceilings below mean something by the side of this alone:
-  -- the definition looks for the quiet exchange among so many as the first of them says, so a count that is not the cards' could keep below it too
+  -- what is counted: each exchange before the last brought something new, and the last did not. Only beside this are the ceilings below ceilings of what the
+  -- cards do: the definition looks for the quiet exchange among as many as the first of them says, so that one by itself would hold whatever they do
   pub counted : Exchanged (K .n) (K .rule) (out K) exchanges
   -- "at most the number of working nodes plus one, all-faulty cubes included"
   pub ceiling : exchanges ≤ working (K .n) (out K) + 1
