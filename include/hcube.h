@@ -156,9 +156,9 @@ extern "C" {
  * makes some node unsafe.
  * The most that were found, for n up to 5 by trying every table, above it by a
  * search, so that there may be more:
- *   n                     1  2  3  4   5   6   7   8   9  10   11   12
- *   HCUBE_RULE_LEE_HAYES  1  2  4  6   9  13  17  22  28  34   41   49
- *   HCUBE_RULE_CHIU_WU    1  2  3  5  10  19  33  49  71  97  127  167
+ *   n                     1  2  3  4   5   6   7   8   9   10   11   12
+ *   HCUBE_RULE_LEE_HAYES  1  2  4  6   9  13  17  22  28   34   41   49
+ *   HCUBE_RULE_CHIU_WU    1  2  3  5  10  19  33  52  73  104  139  172
  *
  * Refusals, in order:
  *   1   n is not 1 to 12

@@ -108,13 +108,13 @@ static void try_all(void)
 static void choose(struct list *changed)
 {
     uint32_t k = random_below(nodes);
-    int moves = random_below(3) != 0, two = (int)random_below(2);
+    uint32_t moves = random_below(3), two = random_below(2);
     changed->count = 0;
     for (unsigned tries = 0; moves && !faulty[k] && tries < nodes; tries++)
         k = (k + 1) % nodes;
     append(changed, k);
     if (moves)
-        append(changed, k ^ 1u << random_below(n) ^ (uint32_t)two << random_below(n));
+        append(changed, k ^ 1u << random_below(n) ^ two << random_below(n));
     else if (two)
         append(changed, random_below(nodes));
 }
