@@ -74,7 +74,7 @@ module _ (n k : ℕ) (F : ℕ → Bool) where
 
   -- ---- all of them
 
-  -- a node that works and one that does not are two
+  -- the nodes that work and those that do not are no more than all
   parts : working n F + count (2 ^ n) F ≤ 2 ^ n
   unfolding working
   parts =
