@@ -3,7 +3,7 @@
 use mathlib.Core.Path.{_≡_, refl, sym, ap, _∙_}
 use mathlib.Core.Logic.{_⊎_, inl, inr, _≢_}
 use mathlib.Core.Bool.{Bool, true, false, cond, not, xor, true≢false, false≢true}
-use Prim.Native.Nat.{ℕ, zero, suc, _+_, _*_, _/_, _%_, _^_, _≤_, _<_}
+use Prim.Native.Nat.{ℕ, zero, suc, _+_, _*_, _/_, _%_, _^_, _<_}
 use native.Mathlib.Omega.{arith}
 use native.Mathlib.Nat.{mod-lt, pow-suc, zero-lt-suc, mul-mod-left, mul-div-cancel, div-div-eq-div-mul, mul-comm, div-one, one-mul}
 use lib.Dec.{eqb, lit<}
@@ -14,8 +14,8 @@ use lib.Bits.{bitXor, xor-shr, xor-mod, xor-lt, xor-comm, xor-self}
 use lib.Count.{ones, ones-step}
 use Rattle.cube.specs.Count.{count}
 use Rattle.cube.specs.Cube.{bit, flip, apart, dist}
-use Rattle.cube.proofs.Bools.{is-false, not-itself, xor-not}
-use Rattle.cube.proofs.Count.{count-zero, count-same, count-more, count-pos, count-none, count-into, pigeon}
+use Rattle.cube.proofs.Bools.{is-false}
+use Rattle.cube.proofs.Count.{count-zero, count-same, count-more, count-pos, count-none, pigeon}
 
 two : (m : ℕ) → m < 2 → (m ≡ 0) ⊎ (m ≡ 1)
 two zero h = inl refl
@@ -138,19 +138,6 @@ flip-flip n i x h hx = bits-same n (flip i (flip i x)) x (flip-lt n i (flip i x)
           | yes e ↦ rw (e, bit-flip-same, bit-flip-same) (xor-true (bit i x))
           | no d ↦ bit-flip-other j i (flip i x) d ∙ bit-flip-other j i x d
         ]
-
--- the neighbours of a node are apart
-flip-one : (i j x : ℕ) → flip i x ≡ flip j x → i ≡ j
-flip-one i j x e =
-    elim (ℕ-discrete i j) [
-      | yes s ↦ s
-      | no d ↦ absurd (not-itself (bit i x) (sym (xor-not (bit i x)) ∙ sym (bit-flip-same i x) ∙ ap (bit i) e ∙ bit-flip-other i j x d))
-    ]
-
--- so a node has no more neighbours in F than there are nodes in F
-pub near-few : (n x : ℕ) (F : ℕ → Bool) → x < 2 ^ n → count n (λ i. F (flip i x)) ≤ count (2 ^ n) F
-near-few n x F hx =
-    count-into n (2 ^ n) (λ i. F (flip i x)) F (λ i. flip i x) (λ i h e. (flip-lt n i x h hx, e)) (λ i j h k. flip-one i j x)
 
 pub apart-bits : (i x y : ℕ) → apart i x y ≡ xor (bit i x) (bit i y)
 unfolding apart

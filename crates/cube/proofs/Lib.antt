@@ -2,6 +2,7 @@ pub mod Bools
 pub mod Count
 pub mod Search
 pub mod Cube
+pub mod Neighbours
 pub mod Front
 pub mod Filling
 pub mod Tables

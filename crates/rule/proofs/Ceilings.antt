@@ -14,7 +14,7 @@ use Rattle.cube.specs.Count.{count}
 use Rattle.cube.specs.Cube.{flip}
 use Rattle.cube.proofs.Bools.{and-both, clash, either, or-left}
 use Rattle.cube.proofs.Count.{count-bound, count-same, count-sum, count-union}
-use Rattle.cube.proofs.Cube.{near-few}
+use Rattle.cube.proofs.Neighbours.{near-few}
 use Rattle.rule.specs.Exchanges.{late}
 use Rattle.rule.specs.Rounds.{Unsafe}
 use Rattle.rule.specs.Rule.{marked, rounds, working}
@@ -31,7 +31,7 @@ module _ (n k : ℕ) (F : ℕ → Bool) where
   two-marked x f h = marks n k F .next 0 x .1 (inr (f, inl h))
 
   -- without marks, the rule counts the neighbours that do not work
-  unmarked : (x : ℕ) → count n (λ i. F (flip i x) || marked n k F 0 (flip i x)) ≡ out x
+  pub unmarked : (x : ℕ) → count n (λ i. F (flip i x) || marked n k F 0 (flip i x)) ≡ out x
   unmarked x =
       count-same n (λ i. F (flip i x) || marked n k F 0 (flip i x)) (λ i. F (flip i x)) (λ i l. rw (marked-zero n k F (flip i x)) (or-false (F (flip i x))))
 

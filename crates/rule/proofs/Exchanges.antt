@@ -3,7 +3,7 @@
 -- earlier one of the larger, something.
 use mathlib.Core.Path.{_≡_, ap, _∙_}
 use mathlib.Core.Logic.{inl, inr}
-use mathlib.Core.Bool.{Bool, true, false, not, _||_}
+use mathlib.Core.Bool.{Bool, true, false, not}
 use Prim.Native.Nat.{ℕ, _-_, _^_, _≤_, _<_}
 use native.Mathlib.Omega.{arith}
 use borrow.Author.Tests.{eq-eqb}
@@ -15,8 +15,8 @@ use Rattle.cube.proofs.Cube.{flip-lt}
 use Rattle.rule.specs.Exchanges.{Exchanged, Exchanges}
 use Rattle.rule.specs.Rounds.{BringsNew, BringsNothing, Rested, Unsafe}
 use Rattle.rule.specs.Rule.{exchanges, marked, newly, quiet, working}
-use Rattle.rule.proofs.Ceilings.{first, rounds-below, rounds-late}
-use Rattle.rule.proofs.Rounds.{marked-zero, meets-says, newly-says, rested, rounds-is}
+use Rattle.rule.proofs.Ceilings.{first, rounds-below, rounds-late, unmarked}
+use Rattle.rule.proofs.Rounds.{meets-says, newly-says, rested, rounds-is}
 
 module _ (n k : ℕ) (F : ℕ → Bool) where
   abbrev R : Rested n k F
@@ -53,18 +53,12 @@ module _ (n k : ℕ) (F : ℕ → Bool) where
       none : (x : ℕ) → x < 2 ^ n → newly n k F (marked n k F 0) x ≡ false
       none x h = is-false (λ t. unmet (meets-says n k F (marked n k F 0) x .0 (newly-says n k F (marked n k F 0) x t .2)))
         where
-          works : (i : ℕ) → i < n → F (flip i x) ≡ false
-          works i l = f (flip i x) (flip-lt n i x l h)
-
           out : count n (λ i. F (flip i x)) ≡ 0
-          out = count-none n (λ i. F (flip i x)) works
-
-          bad : count n (λ i. F (flip i x) || marked n k F 0 (flip i x)) ≡ 0
-          bad = count-none n (λ i. F (flip i x) || marked n k F 0 (flip i x)) (λ i l. rw (works i l) (marked-zero n k F (flip i x)))
+          out = count-none n (λ i. F (flip i x)) (λ i l. f (flip i x) (flip-lt n i x l h))
 
           unmet : Unsafe n k F (marked n k F 0) x → ⊥
           unmet (inl h) = omega (arith, out)
-          unmet (inr h) = omega (arith, bad)
+          unmet (inr h) = omega (arith, out, unmarked n k F x)
 
   none-work : ((x : ℕ) → x < 2 ^ n → F x ≡ true) → working n F ≡ 0
   unfolding working
