@@ -1,11 +1,11 @@
 -- The demands, of any library that is faithful to the definitions: what they say of the definitions they say of whatever the contracts allow.
 use mathlib.Core.List.{List}
-use mathlib.Core.Logic.{_⊎_, ⊎-elim, inl, inr, _≢_}
+use mathlib.Core.Logic.{_≢_}
 use mathlib.Core.Path.{_≡_, sym, ap, ap₂, subst, _∙_}
-use Prim.Native.Nat.{ℕ, _+_, _*_, _^_, _≤_, _<_}
+use Prim.Native.Nat.{ℕ, _+_, _*_, _^_, _≤_}
 use native.Mathlib.Omega.{arith}
-use lib.ListN.{length, replicate}
-use Rattle.cube.specs.Cube.{dist, flip}
+use lib.ListN.{length}
+use Rattle.cube.specs.Cube.{dist}
 use Rattle.cube.specs.Tables.{labelIn}
 use Rattle.jobs.specs.Jobs.{half, labelBytes, labelFor}
 use Rattle.rule.specs.Cabinet.{Cabinet, byRule, cabinet, exchangesOf, labelsOf}
@@ -18,9 +18,6 @@ use Rattle.labels.specs.declared.Labelled.{Labelled}
 use Rattle.labels.specs.declared.Labelled.the-variants as labelled
 use Rattle.labels.proofs.Refusal.{fits, fitting, labels-written, length-kept, of-exchanges}
 use Rattle.hop.specs.Hop as H
-use Rattle.hop.specs.declared.Hopped.{Hopped}
-use Rattle.hop.specs.declared.Decision.the-variants.{Deliver, Hop, Halted}
-use Rattle.hop.specs.declared.Hopped.the-variants as hopped
 use Rattle.hop.proofs.Local.{hop-local}
 use Rattle.walk.specs.Walk as W
 use Rattle.walk.specs.declared.Ending.the-variants as ending
@@ -30,23 +27,22 @@ use Rattle.theorems.specs.Demand2.{Demand2}
 use Rattle.theorems.specs.Demand3.{Walks}
 use Rattle.theorems.specs.HowLong.{HowLong}
 use Rattle.theorems.specs.Picked.{Picked}
-use Rattle.theorems.specs.Repeats.{Repeats}
 use Rattle.theorems.specs.TwoRules.{NoneStrong, OnlyBetter, more}
-use Rattle.theorems.specs.Words.{Accepted, SomeSafe, Takes, Works, labelAt, place, walkOf}
+use Rattle.theorems.specs.Words.{Accepted, SomeSafe, Takes, Works, labelAt, walkOf}
 use Rattle.theorems.proofs.Before.{as-before}
 use Rattle.theorems.proofs.Decision.{picked}
 use Rattle.theorems.proofs.Demand2.{demand2}
 use Rattle.theorems.proofs.Demand3.{demand3}
 use Rattle.theorems.proofs.HowLong.{how-long}
-use Rattle.theorems.proofs.Repeats.{walk-repeats}
 use Rattle.theorems.proofs.TwoRules.{two-rules}
 use Rattle.promises.specs.Demands.{Demands, WellFormed}
 use Rattle.promises.specs.Library.{Library, rattle, c}
 use Rattle.promises.specs.Refusals.{BothHalves, HopGiven, Job, LabelGiven, NoticeGiven, Rule, WalkGiven}
 use Rattle.promises.proofs.Given.{all-used, job-below, rule-bounds, table-length}
 use Rattle.promises.proofs.Library.{Faithful, rattle-faithful, c-faithful}
-use Rattle.promises.proofs.Outcomes.{answered, labels-kept, of-blank, of-decided, of-ended}
+use Rattle.promises.proofs.Outcomes.{answered, labels-kept, of-decided}
 use Rattle.promises.proofs.Refusals.{refusals}
+use Rattle.promises.proofs.Walks.{again, blank, ends, frame-once, steps}
 
 module _ (lib : Library) (F : Faithful lib) where
   -- ---- what labelling left
@@ -149,35 +145,6 @@ module _ (lib : Library) (F : Faithful lib) where
       let k = W .even (W .arrives some .ending) in
       omega (arith, none-strong K a some s hs, k .1, k .2)
 
-  -- ---- a walk that is refused, and one that is not, on any table
-
-  blank : {n j s d room k : ℕ} {buffer : List ℕ} {w : Walked} → lib .walks n j s d buffer room w → w .ending ≡ ending.Refused k
-      → (w .hops ≡ 0) × (w .row ≡ replicate 17 0)
-  unfolding W.refused
-  blank {n} {j} {s} {d} {room} {k} {buffer} v e =
-      let f = F .walks v in
-      let b = f ∙ of-blank n j s d (length buffer) room (labelFor n j buffer) k (ap (λ (u : Walked). u .ending) (sym f) ∙ e) in
-      (ap (λ (u : Walked). u .hops) b, ap (λ (u : Walked). u .row) b)
-
-  module _ {n j s d room : ℕ} {buffer : List ℕ} {w : Walked} (v : lib .walks n j s d buffer room w) (e : W.refusalOf (w .ending) ≡ 0) where
-    abbrev lab : ℕ → ℕ
-    lab = labelFor n j buffer
-
-    again : Repeats n j s d (length buffer) lab w
-    again =
-        let f = F .walks v in
-        subst (Repeats n j s d (length buffer) lab) (sym f)
-        (walk-repeats n j s d (length buffer) room lab
-        (of-ended n j s d (length buffer) room lab (ap (λ (u : Walked). W.refusalOf (u .ending)) (sym f) ∙ e)))
-
-    steps : {k : ℕ} {x : Hopped} → k < w .hops → lib .hops n j (place w k) d buffer x
-        → (i : ℕ) × (i < n) × (x ≡ hopped.Decided (Hop i)) × (place w (k + 1) ≡ flip i (place w k))
-    steps {k} h m = let a = again .steps k h in (a .0, a .1, F .hops m ∙ a .2, a .3)
-
-    ends : {x : Hopped} → lib .hops n j (place w (w .hops)) d buffer x
-        → ((x ≡ hopped.Decided Deliver) × (w .ending ≡ ending.Delivered)) ⊎ ((x ≡ hopped.Decided Halted) × (w .ending ≡ ending.Halted))
-    ends m = ⊎-elim (λ a. inl (F .hops m ∙ a .0, a .1)) (λ a. inr (F .hops m ∙ a .0, a .1)) (again .ends)
-
   -- ---- as before
 
   label-before :
@@ -205,7 +172,7 @@ module _ (lib : Library) (F : Faithful lib) where
             subst (λ x. NoticeGiven bytes before (N.refusalOf x) (N.placeOf x)) (sym (F .reads m .0)) (refusals .notice bytes before);
         labels-kept = λ {K} {j} {before} m. let f = F .labels m in f .1 ∙ labels-kept K j before _ (sym (f .0));
         table-kept = λ {bytes} {before} m. let f = F .reads m in f .1 ∙ notice-laws .kept bytes before _ _ (sym (f .0));
-        walk-blank = λ v e. blank v e;
+        walk-blank = λ v e. blank lib F v e;
         notice-read = λ {bytes} {before} m. notice-laws .accepted bytes before _ _ _ (sym (F .reads m .0));
         table-written = λ {bytes} {before} {after} {n} {m} {taken} r. let f = F .reads r in
             subst (TableOf n m (N.addressesOf bytes)) (sym (f .1)) (notice-laws .written bytes before n m taken (sym (f .0)));
@@ -220,13 +187,15 @@ module _ (lib : Library) (F : Faithful lib) where
             ∙ hop-local n j c d (length buffer′) (labelFor n j buffer) (labelFor n j buffer′) own near ∙ sym (F .hops m′);
         notice-labels = notice-labels;
         walks = λ m hs hd v. walks m hs hd v;
-        walk-starts = λ v e. again v e .starts;
-        walk-steps = λ v e. steps v e;
-        walk-ends = λ v e. ends v e;
-        walk-few = λ v e. again v e .few;
-        walk-unused = λ {n} {j} {s} {d} {room} {k} v e h. again v e .unused k h;
-        walk-enters = λ {n} {j} {s} {d} {room} {k} v e h. again v e .enters k h;
-        walk-ends-in = λ v e. again v e .ends-in;
+        walk-starts = λ v e. again lib F v e .starts;
+        walk-steps = λ v e. steps lib F v e;
+        walk-ends = λ v e. ends lib F v e;
+        walk-few = λ v e. again lib F v e .few;
+        walk-unused = λ {n} {j} {s} {d} {room} {k} v e h. again lib F v e .unused k h;
+        walk-enters = λ {n} {j} {s} {d} {room} {k} v e h. again lib F v e .enters k h;
+        walk-ends-in = λ v e. again lib F v e .ends-in;
+        walk-once = λ v e. again lib F v e .once;
+        frame-once = frame-once lib F;
         moved = moved;
         moved-walks = moved-walks;
         still-arrives = still-arrives;

@@ -1,5 +1,5 @@
 -- 8 is given where every decision up to the last that is asked is a hop: then none of them stops, and the places are the walk's.
-use mathlib.Core.Path.{_≡_, refl, sym, ap, _∙_}
+use mathlib.Core.Path.{_≡_, sym, ap, _∙_}
 use mathlib.Core.Logic.{⊎-elim, _↔_}
 use mathlib.Core.Bool.{true, false, not}
 use Prim.Native.Nat.{ℕ, zero, suc, _+_, _≤_, _<_}
@@ -10,17 +10,10 @@ use borrow.Author.Tests.{not-true}
 use Rattle.cube.specs.Cube.{flip}
 use Rattle.cube.proofs.Bools.{clash}
 use Rattle.hop.specs.declared.Decision.{Decision}
-use Rattle.hop.specs.declared.Decision.the-variants.{Deliver, Hop, Halted}
+use Rattle.hop.specs.declared.Decision.the-variants.{Hop}
 use Rattle.walk.specs.Walk.{hops, last, route, spot, stops, turn}
-use Rattle.walk.proofs.Steps.{hops-within, spot-next, spot-zero}
-use Rattle.theorems.proofs.Walks.{hops-end, hops-on}
+use Rattle.walk.proofs.Steps.{hops-end, hops-on, hops-within, is-hop, spot-next, spot-zero}
 use Rattle.promises.specs.Refusals.{AllHops}
-
-is-hop : (x : Decision) → stops x ≡ false → (i : ℕ) × (x ≡ Hop i)
-unfolding stops
-is-hop Deliver e = absurd (clash refl e)
-is-hop (Hop i) e = (i, refl)
-is-hop Halted e = absurd (clash refl e)
 
 module _ (n : ℕ) (lab : ℕ → ℕ) (d s : ℕ) where
   abbrev go : ℕ → Decision

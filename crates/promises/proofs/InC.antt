@@ -1,7 +1,7 @@
 -- Each number is that of the library's own answer; and where C takes no refusal out of it, the row was written.
 use mathlib.Core.Bool.{true}
 use mathlib.Core.List.{List}
-use mathlib.Core.Logic.{inl}
+use mathlib.Core.Logic.{_≢_, inl}
 use mathlib.Core.Path.{_≡_, refl, sym, ap, _∙_}
 use Prim.Native.Nat.{ℕ, _+_, _*_, _/_, _%_, _<_}
 use native.Mathlib.Omega.{arith}
@@ -25,6 +25,7 @@ use Rattle.walk.specs.Walk as W
 use Rattle.walk.specs.declared.Ending.{Ending}
 use Rattle.walk.specs.declared.Walked.{Walked}
 use Rattle.walk.proofs.Functions as walk
+use Rattle.walk.proofs.Refusals.{hops-few}
 use Rattle.theorems.specs.Words.{place}
 use Rattle.hcube.specs.Answers.{hasRow, hopNumber, labelNumber, noticeNumber, rowAfter, rowByte, walkNumber, walkedBy}
 use Rattle.hcube.specs.Decoded.{endingFrom, kindPart, nodeAt, refusalPart, valuePart, walkedFrom}
@@ -32,7 +33,7 @@ use Rattle.hcube.proofs.Decoded.{high-byte, low-byte}
 use Rattle.hcube.proofs.Functions as hcube
 use Rattle.hcube.proofs.Small.{row-fits, written}
 use Rattle.promises.specs.InC.{InC}
-use Rattle.promises.proofs.Demands.{rattle-demands}
+use Rattle.promises.proofs.Demands.{c-demands, rattle-demands}
 use Rattle.promises.proofs.Library.{c-faithful}
 
 -- ---- the number of the library's own answer
@@ -77,6 +78,9 @@ walk-none r row h = rw h
 has-row : (kind : ℕ) → hasRow (endingFrom kind) ≡ true
 has-row kind = by-cases (λ (e : Ending). hasRow e ≡ true) (eqb kind 0) (λ _. refl) (λ _. refl)
 
+none-refused : (kind : ℕ) → W.refusalOf (endingFrom kind) ≡ 0
+none-refused kind = by-cases (λ (e : Ending). W.refusalOf e ≡ 0) (eqb kind 0) (λ _. refl) (λ _. refl)
+
 module _ {n j s d r : ℕ} {buffer before after : List ℕ} (m : May hcube.walk (n, j, s, d, buffer, before) r after) where
   abbrev w : Walked
   w = walkedBy n j s d buffer before
@@ -111,6 +115,13 @@ module _ {n j s d r : ℕ} {buffer before after : List ℕ} (m : May hcube.walk 
     node : (k : ℕ) → k < 17 → nodeAt after k ≡ place w k
     node k l = sym (getD-tab 17 (nodeAt after) k l) ∙ ap (λ (u : Walked). place u k) (sym ended)
 
+    row-once : (k i : ℕ) → k < i → i < valuePart r + 1 → nodeAt after k ≢ nodeAt after i
+    row-once k i l h e =
+        let count = ap (λ (u : Walked). u .hops) ended in
+        let few = hops-few n j s d (length buffer) (length before) (labelFor n j buffer) in
+        c-demands .walk-once (r, before, after, m, refl, sym taken) (ap (λ (u : Walked). W.refusalOf (u .ending)) ended ∙ none-refused (kindPart r)) k i l
+        (omega arith) (sym (node k (omega arith)) ∙ e ∙ node i (omega arith))
+
     row-nodes : {v : Walked} → May walk.walk (n, j, s, d, buffer) v tt → (k : ℕ) → k < 17 → nodeAt after k ≡ place v k
     row-nodes v k l = node k l ∙ ap (λ (u : Walked). place u k) (same ∙ sym (told walk.walk-says v .0))
 
@@ -141,6 +152,7 @@ in-c =
           let p = notice-laws .refused bytes before k at (sym (told notice.read-says v .0)) in (omega arith, omega (arith, p .near));
       row-nodes = λ m h v. row-nodes m h v;
       row-bytes = row-bytes;
+      row-once = row-once;
       row-whole = λ m m′ h h′. (
         whole m h,
         bytes m h

@@ -4,6 +4,7 @@ pub mod Eight
 pub mod Refusals
 pub mod Library
 pub mod Outcomes
+pub mod Walks
 pub mod Demands
 pub mod InC
 pub mod InRattle

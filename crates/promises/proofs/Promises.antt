@@ -15,6 +15,7 @@ use Rattle.scans.proofs.Progress.{scans-progress}
 use Rattle.hop.proofs.Local.{hop-local}
 use Rattle.walk.proofs.Laws.{message-laws}
 use Rattle.walk.proofs.Local.{walk-local}
+use Rattle.walk.proofs.Once.{once}
 use Rattle.theorems.proofs.Before.{as-before}
 use Rattle.theorems.proofs.Decision.{hop-picked}
 use Rattle.theorems.proofs.Demand2.{demand2}
@@ -67,6 +68,7 @@ promises =
       hits = table-hits;
       picked = hop-picked;
       repeats = walk-repeats;
+      once = once;
       hop-local = hop-local;
       walk-local = walk-local;
       cube = cube-laws;

@@ -135,4 +135,7 @@ worked =
       d2-exchanges = refl;
       d2-labels = refl;
       d2-late = refl;
+      r3-at-1 = refl;
+      r3-at-0 = refl;
+      r3-1-7 = refl;
     }

@@ -1,5 +1,6 @@
 -- The three demands, of whatever the contracts allow: labelling asked and answered, then hop and walk asked on the bytes that it left, and the notice
 -- reader before them. lib is the library, as Rattle or as C calls it; j is the job that asks.
+use mathlib.Core.Bool.{true}
 use mathlib.Core.List.{List}
 use mathlib.Core.Logic.{_⊎_, _≢_}
 use mathlib.Core.Path.{_≡_}
@@ -30,7 +31,7 @@ use Rattle.theorems.specs.Demand3.{Walks}
 use Rattle.theorems.specs.HowLong.{HowLong}
 use Rattle.theorems.specs.Picked.{Picked}
 use Rattle.theorems.specs.TwoRules.{NoneStrong, OnlyBetter, more}
-use Rattle.theorems.specs.Words.{SomeSafe, Takes, Works, place}
+use Rattle.theorems.specs.Words.{NoneTwice, SomeSafe, Takes, Works, place}
 use Rattle.promises.specs.Library.{Library}
 use Rattle.promises.specs.Refusals.{BothHalves, HopGiven, Job, LabelGiven, NoticeGiven, Rule, TableLength, Unused, WalkGiven}
 
@@ -118,6 +119,14 @@ pub record Demands (lib : Library) : Type 0 where
   pub walk-ends-in :
       {n j s d room : ℕ} {buffer : List ℕ} {w : Walked} → lib .walks n j s d buffer room w → W.refusalOf (w .ending) ≡ 0
       → (labelFor n j buffer (place w (w .hops)) ≤ 2) ⊎ (place w (w .hops) ≡ d)
+  -- delivered or halted, it has passed no node twice (document 02, A8)
+  pub walk-once :
+      {n j s d room : ℕ} {buffer : List ℕ} {w : Walked} → lib .walks n j s d buffer room w → W.refusalOf (w .ending) ≡ 0 → NoneTwice w
+  -- nor has a frame that is forwarded by the hop question alone, t times and then no more, however often that is
+  pub frame-once :
+      {n j d t : ℕ} {buffer : List ℕ} {x : Decision} (at : ℕ → ℕ)
+      → ((k : ℕ) → k < t → (i : ℕ) × lib .hops n j (at k) d buffer (hopped.Decided (Hop i)) × (at (k + 1) ≡ flip i (at k)))
+      → lib .hops n j (at t) d buffer (hopped.Decided x) → W.stops x ≡ true → (k m : ℕ) → k < m → m ≤ t → at k ≢ at m
   -- ---- the two rules (document 02, A13)
 
   -- a site moves from rule 2 to rule 3: its labels only get better,

@@ -1,5 +1,6 @@
 -- What C has in hand, of whatever the contracts of the C functions allow: the number of an answer, in plain numbers, and every byte of the row.
 use mathlib.Core.List.{List}
+use mathlib.Core.Logic.{_≢_}
 use mathlib.Core.Path.{_≡_}
 use Prim.Native.Nat.{ℕ, _+_, _*_, _/_, _%_, _<_}
 use lib.ListN.{getD, length}
@@ -16,7 +17,7 @@ use Rattle.walk.specs.declared.Ending.the-variants as ending
 use Rattle.walk.specs.declared.Walked.{Walked}
 use Rattle.walk.proofs.Functions as walk
 use Rattle.theorems.specs.Words.{place}
-use Rattle.hcube.specs.Decoded.{nodeAt, refusalPart}
+use Rattle.hcube.specs.Decoded.{nodeAt, refusalPart, valuePart}
 use Rattle.hcube.proofs.Functions as hcube
 
 pub record InC : Type 0 where
@@ -62,6 +63,10 @@ pub record InC : Type 0 where
   pub row-bytes :
       {n j s d r : ℕ} {buffer before after : List ℕ} → May hcube.walk (n, j, s, d, buffer, before) r after → refusalPart r ≡ 0 → (k : ℕ) → k < 17
       → (getD after (2 * k) 0 ≡ nodeAt after k % 256) × (getD after (2 * k + 1) 0 ≡ nodeAt after k / 256)
+  -- "no node stands twice among the places of a walk's row that are used (the first ones, one more than its hop count)", whatever the labels (document 02, A8)
+  pub row-once :
+      {n j s d r : ℕ} {buffer before after : List ℕ} → May hcube.walk (n, j, s, d, buffer, before) r after → refusalPart r ≡ 0
+      → (k m : ℕ) → k < m → m < valuePart r + 1 → nodeAt after k ≢ nodeAt after m
   -- "an accepted walk writes all 34": whatever stood in the row
   pub row-whole :
       {n j s d r r′ : ℕ} {buffer before before′ after after′ : List ℕ} → May hcube.walk (n, j, s, d, buffer, before) r after

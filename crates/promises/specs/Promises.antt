@@ -16,8 +16,10 @@ use Rattle.rule.specs.Rules.{Rules}
 use Rattle.scans.specs.Hit.{TableHits}
 use Rattle.scans.specs.Progress.{ScansProgress}
 use Rattle.hop.specs.Local.{HopLocal}
+use Rattle.hop.specs.declared.Decision.{Decision}
 use Rattle.walk.specs.Laws.{MessageLaws}
 use Rattle.walk.specs.Local.{WalkLocal}
+use Rattle.walk.specs.Once.{Once}
 use Rattle.theorems.specs.Before.{AsBefore}
 use Rattle.theorems.specs.Demand2.{Demand2}
 use Rattle.theorems.specs.Demand3.{Demand3}
@@ -75,6 +77,7 @@ pub record Promises : Type 2 where
   pub hits : TableHits
   pub picked : (n : ℕ) (lab : ℕ → ℕ) (c d : ℕ) → HopPicked n lab c d
   pub repeats : WalkRepeats
+  pub once : (go : ℕ → Decision) → Once go
   pub hop-local : HopLocal
   pub walk-local : WalkLocal
   pub cube : CubeLaws

@@ -1,23 +1,24 @@
 -- The numbers of document 01 that are proved of the definitions, with the counts of document 02's request A3. k4 is n = 4 with faulty 2, 4, 8, 15; q3 is
 -- n = 3 with faulty 1, 2, 4. And numbers of our own: for the older rule (A13) of k4, and of c3 and c4, n = 3 and n = 4 with faulty 0, 3, 4; for draining nodes
 -- (A4) of k4 with 15 draining instead of faulty, with 15 in both tables, and with 9 draining besides; for two jobs (A10) of k4 with 15 draining, where one
--- of them closes 9; for the ceilings of A11 of l2 and d2, n = 2 with faulty 0, 1, 3 and with faulty 1, 2.
+-- of them closes 9; for the ceilings of A11 of l2 and d2, n = 2 with faulty 0, 1, 3 and with faulty 1, 2; for A8 of the labels r3, which call a node of a 3-cube
+-- safe that has two faulty neighbours.
 use mathlib.Core.Bool.{Bool, true, false, cond}
 use mathlib.Core.List.{List, [], _∷_, _++_}
 use mathlib.Core.Path.{_≡_}
 use Prim.Native.Nat.{ℕ, zero, suc, _^_, _<_}
 use lib.Dec.{eqb}
 use lib.ListN.{replicate}
-use Rattle.cube.specs.Tables.{nodeBit}
+use Rattle.cube.specs.Tables.{labelIn, nodeBit}
 use Rattle.rule.specs.Cabinet.{Cabinet, cabinet, labelsOf, out}
 use Rattle.rule.specs.Exchanges.{late}
 use Rattle.rule.specs.Rule.{marked, safe, working}
 use Rattle.labels.specs.Labelling.{labelRefusal, labelled, labelsAfter}
 use Rattle.labels.specs.declared.Labelled.the-variants.{Exchanges}
 use Rattle.hop.specs.Hop.{hopped}
-use Rattle.hop.specs.declared.Decision.the-variants.{Deliver}
+use Rattle.hop.specs.declared.Decision.the-variants.{Deliver, Hop}
 use Rattle.hop.specs.declared.Hopped.the-variants as Hopped
-use Rattle.walk.specs.Walk.{refused}
+use Rattle.walk.specs.Walk.{refused, rowBytes, walked}
 use Rattle.walk.specs.declared.Ending.{Ending}
 use Rattle.walk.specs.declared.Ending.the-variants.{Delivered, Halted}
 use Rattle.walk.specs.declared.Walked.{Walked}
@@ -60,6 +61,9 @@ l2 = cabinet 2 3 (11 ∷ []) (0 ∷ []) (0 ∷ [])
 
 abbrev pub d2 : Cabinet
 d2 = cabinet 2 3 (6 ∷ []) (0 ∷ []) (0 ∷ [])
+
+abbrev pub r3 : List ℕ
+r3 = 0 ∷ 0 ∷ 0 ∷ 3 ∷ 0 ∷ 3 ∷ 0 ∷ 0 ∷ []
 
 -- the numbers below n that have p, rising
 unfoldable pub those : ℕ → (ℕ → Bool) → List ℕ
@@ -152,3 +156,9 @@ pub record Worked : Type 0 where
   pub d2-exchanges : labelled d2 0 8 ≡ Exchanges 2
   pub d2-labels : labelsOf d2 ≡ 2 ∷ 3 ∷ 3 ∷ 2 ∷ []
   pub d2-late : late 2 (λ x. isUnsafe (labelAt d2 x)) (λ x. isOut (labelAt d2 x)) ≡ 0
+  -- ---- labels that no tables give
+
+  -- a frame goes round: from 1 to 0, from 0 to 1, and never comes to 7; the walk is refused
+  pub r3-at-1 : hopped 3 0 1 7 16 (labelIn r3) ≡ Hopped.Decided (Hop 0)
+  pub r3-at-0 : hopped 3 0 0 7 16 (labelIn r3) ≡ Hopped.Decided (Hop 0)
+  pub r3-1-7 : walked 3 0 1 7 16 rowBytes (labelIn r3) ≡ refused 8

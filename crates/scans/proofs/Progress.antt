@@ -39,7 +39,7 @@ module _ (lab : ℕ → ℕ) (d x : ℕ) where
       (λ (t : leb (dist x d) 1 ≡ false). let e = rank-far (leb-false (dist x d) 1 t) in (omega arith, omega arith))
       (either (leb (dist x d) 1))
 
-  rank-ge : dist x d ≤ rank lab d x
+  pub rank-ge : dist x d ≤ rank lab d x
   rank-ge = rank-within .0
 
   pub rank-le : rank lab d x ≤ dist x d + 2 * lab x

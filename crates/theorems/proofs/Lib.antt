@@ -1,5 +1,6 @@
 pub mod Decision
 pub mod Places
+pub mod Advances
 pub mod Walks
 pub mod Repeats
 pub mod FewReads

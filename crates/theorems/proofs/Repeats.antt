@@ -27,14 +27,15 @@ use Rattle.walk.specs.Walk.{endingOf, hops, last, onto, route, spot, stops, tur
 use Rattle.walk.specs.declared.Ending.the-variants as ending
 use Rattle.walk.specs.declared.Walked.{Walked}
 use Rattle.walk.proofs.Local.{spot-lt}
+use Rattle.walk.proofs.Once.{once}
 use Rattle.walk.proofs.Refusals.{WalkGood, walk-good}
-use Rattle.walk.proofs.Steps.{hops-within, spot-next, spot-zero}
+use Rattle.walk.proofs.Steps.{hops-on, hops-within, is-hop, spot-next, spot-zero}
 use Rattle.theorems.specs.Picked.{Picked, arrived, took, stopped}
 use Rattle.theorems.specs.Repeats.{Decides, Repeats, WalkRepeats}
 use Rattle.theorems.specs.Words.{place}
 use Rattle.theorems.proofs.Decision.{picked}
 use Rattle.theorems.proofs.Places.{row-unused, row-used}
-use Rattle.theorems.proofs.Walks.{hops-on, not-there}
+use Rattle.theorems.proofs.Advances.{not-there}
 
 -- ---- no hop enters a node that is labelled faulty or draining but the destination, whatever the table
 
@@ -111,18 +112,13 @@ module _ (n j s d m room : ℕ) (lab : ℕ → ℕ) (ok : walkRefusal n j s d m 
 
   steps : (k : ℕ) → k < hops n (route n lab d) s
       → (i : ℕ) × (i < n) × Decides n j d m lab (place w k) (Hop i) × (place w (k + 1) ≡ flip i (place w k))
-  unfolding turn stops
-  steps k h = go (turn (route n lab d) s k) refl (hops-on n (route n lab d) s k h)
-    where
-      go : (x : Decision) → turn (route n lab d) s k ≡ x → stops x ≡ false
-          → (i : ℕ) × (i < n) × Decides n j d m lab (place w k) (Hop i) × (place w (k + 1) ≡ flip i (place w k))
-      go Deliver e f = absurd (clash refl f)
-      go Halted e f = absurd (clash refl f)
-      go (Hop i) e f = (
-        i,
-        hop-dim n lab (at k) d i e,
-        rw (used k (omega arith)) (decides k (Hop i) e),
-        used (k + 1) (omega arith) ∙ spot-next (route n lab d) s k i e ∙ ap (flip i) (sym (used k (omega arith))),
+  unfolding turn
+  steps k h =
+      let r = is-hop (turn (route n lab d) s k) (hops-on n (route n lab d) s k h) in (
+        r .0,
+        hop-dim n lab (at k) d (r .0) (r .1),
+        rw (used k (omega arith)) (decides k (Hop (r .0)) (r .1)),
+        used (k + 1) (omega arith) ∙ spot-next (route n lab d) s k (r .0) (r .1) ∙ ap (flip (r .0)) (sym (used k (omega arith))),
       )
 
   ends : (Decides n j d m lab (place w (hops n (route n lab d) s)) Deliver × (endingOf (last n (route n lab d) s) ≡ ending.Delivered))
@@ -151,6 +147,9 @@ module _ (n j s d m room : ℕ) (lab : ℕ → ℕ) (ok : walkRefusal n j s d m 
     enters = λ k h.
         rw (used k (omega arith)) (⊎-elim (λ (l : lab (at k) ≤ 2). l) (λ (e : at k ≡ d). absurd (not-there n lab d s k h e)) (works k));
     ends-in = rw (used (hops n (route n lab d) s) (omega arith)) (works (hops n (route n lab d) s));
+    once = λ k i l h.
+        let most : i ≤ hops n (route n lab d) s = omega (arith, h) in
+        rw (used k (omega arith), used i most) (once (route n lab d) .walk n s (G .stops) k i l most);
   })
 
 pub walk-repeats : WalkRepeats

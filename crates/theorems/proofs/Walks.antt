@@ -1,145 +1,20 @@
--- A walk each of whose decisions makes progress: it keeps to the nodes that work and the destination, its measure falls with each hop, and its hops and the
--- distance that is left differ from the distance at the start by an even number. So it ends before n + 4 hops are done, where a decision is
--- no hop. The three theorems at the end take the measure from the scans: the rank where some node is safe, else the distance.
-use mathlib.Core.Path.{_≡_, refl, sym, ap, _∙_}
-use mathlib.Core.Logic.{_⊎_, inl, inr, ⊎-elim, _≢_}
-use mathlib.Core.Bool.{Bool, true, false}
-use Prim.Native.Nat.{ℕ, zero, suc, _+_, _*_, _^_, _≤_, _<_}
-use native.Mathlib.Numerals.{add-one}
+-- Walks with good labels. The scans give three measures that fall with each hop: the rank where some node is safe, and the distance where the destination is
+-- or no node is. What a walk that makes progress has by each of them is read here: how it ends, after how many hops, and what falls.
+use mathlib.Core.Path.{_≡_, ap}
+use mathlib.Core.Logic.{_⊎_, inl, inr, ⊎-elim}
+use mathlib.Core.Bool.{true}
+use Prim.Native.Nat.{ℕ, suc, _+_, _*_, _^_, _≤_, _<_}
 use native.Mathlib.Omega.{arith}
-use lib.Dec.{ltb}
-use borrow.Author.Tests.{ltb-true, ltb-false}
 use Rattle.cube.specs.Cube.{flip, apart, dist}
-use Rattle.cube.proofs.Bools.{either, clash}
 use Rattle.cube.proofs.Count.{count-bound}
-use Rattle.cube.proofs.Search.{Least, the-least}
-use Rattle.cube.proofs.Cube.{dist-count, dist-self, dist-zero, dist-fall, dist-rise}
+use Rattle.cube.proofs.Cube.{dist-count, dist-self}
 use Rattle.rule.specs.Good.{Good}
 use Rattle.scans.specs.Progress.{GoodProgress, Inside, Progress, Receives, rank}
-use Rattle.scans.proofs.Progress.{rank-le, scans-progress}
-use Rattle.hop.specs.Hop.{hop}
-use Rattle.walk.specs.Walk.{stops, spot, turn, hops, last, route}
-use Rattle.hop.specs.declared.Decision.{Decision}
+use Rattle.scans.proofs.Progress.{rank-ge, rank-le, scans-progress}
 use Rattle.hop.specs.declared.Decision.the-variants.{Deliver, Hop, Halted}
-use Rattle.hop.proofs.Gathered.{arrives}
-use Rattle.walk.proofs.Steps.{spot-next, spot-zero}
-use Rattle.theorems.specs.Picked.{Picked, arrived, took, stopped}
-use Rattle.theorems.proofs.Decision.{picked}
-
--- ---- any walk: its steps are the decisions' own
-
-module _ (n : ℕ) (go : ℕ → Decision) (s : ℕ) where
-  spot-suc : (k i : ℕ) → turn go s k ≡ Hop i → spot go s (suc k) ≡ flip i (spot go s k)
-  spot-suc k i e = ap (spot go s) (sym (add-one k)) ∙ spot-next go s k i e
-
-  the-hops : Least (n + 4) (λ k. stops (turn go s k))
-  the-hops = the-least (n + 4) (λ k. stops (turn go s k))
-
-  pub hops-on : (k : ℕ) → k < hops n go s → stops (turn go s k) ≡ false
-  unfolding hops
-  hops-on = the-hops .before
-
-  pub hops-end : hops n go s < n + 4 → stops (last n go s) ≡ true
-  unfolding hops last
-  hops-end = the-hops .hit
-
-stops-is : {h : Decision} {b : Bool} (x : Decision) → h ≡ x → stops x ≡ b → stops h ≡ b
-stops-is x e f = ap stops e ∙ f
-
--- the node after its last hop
-abbrev pub endOf : (n : ℕ) (lab : ℕ → ℕ) (d s : ℕ) → ℕ
-endOf n lab d s = spot (route n lab d) s (hops n (route n lab d) s)
-
--- where the walk goes on, it is not at the destination
-pub not-there : (n : ℕ) (lab : ℕ → ℕ) (d s k : ℕ) → k < hops n (route n lab d) s → spot (route n lab d) s k ≢ d
-unfolding turn stops
-not-there n lab d s k h e = clash (stops-is Deliver (sym (arrives n lab (spot (route n lab d) s k) d e)) refl) (hops-on n (route n lab d) s k h)
-
--- ---- a walk that makes progress
-
-module _ (n : ℕ) (lab : ℕ → ℕ) (d : ℕ) (hd : d < 2 ^ n) (measure : ℕ → ℕ) (Stuck : ℕ → Type 0) (P : Progress n lab d measure Stuck) where
-  -- what the decision at c does
-  data Next (c : ℕ) : Type 0 where
-    arrive : c ≡ d → hop n lab c d ≡ Deliver → Next c
-    stuck : hop n lab c d ≡ Halted → Stuck c → Next c
-    move : (i : ℕ) → i < n → hop n lab c d ≡ Hop i → Inside n lab d (flip i c) → measure (flip i c) < measure c → Next c
-
-  next : (c : ℕ) → Inside n lab d c → Next c
-  next c p = go (hop n lab c d) refl (picked n lab c d)
-    where
-      go : (x : Decision) → hop n lab c d ≡ x → Picked n lab c d x → Next c
-      go x h (arrived e) = arrive (dist-zero n c d (p .0) hd e) h
-      go x h (took {i} s far k) = move i (k .dimension) h (P .inside c s i p far k) (P .falls c s i p far k)
-      go x h (stopped far m) = stuck h (P .stuck c p far m)
-
-module _ (n : ℕ) (lab : ℕ → ℕ) (d : ℕ) (hd : d < 2 ^ n) (measure : ℕ → ℕ) (Stuck : ℕ → Type 0) (P : Progress n lab d measure Stuck)
-    (s : ℕ) (ps : Inside n lab d s) (fuel : measure s ≤ n + 4) where
-  -- after k hops
-  record On (k : ℕ) : Type 0 where
-    inside : Inside n lab d (spot (route n lab d) s k)
-    room : k + measure (spot (route n lab d) s k) ≤ measure s
-    extra : ℕ
-    even : k + dist (spot (route n lab d) s k) d ≡ dist s d + 2 * extra
-
-  -- what one hop does
-  record Made (k : ℕ) : Type 0 where
-    i : ℕ
-    dim : i < n
-    decided : turn (route n lab d) s k ≡ Hop i
-    inside : Inside n lab d (flip i (spot (route n lab d) s k))
-    falls : measure (flip i (spot (route n lab d) s k)) < measure (spot (route n lab d) s k)
-    is : spot (route n lab d) s (suc k) ≡ flip i (spot (route n lab d) s k)
-
-  made : (k : ℕ) → k < hops n (route n lab d) s → On k → Made k
-  unfolding turn stops
-  made k h o = go (next n lab d hd measure Stuck P (spot (route n lab d) s k) (o .inside))
-    where
-      go : Next n lab d hd measure Stuck P (spot (route n lab d) s k) → Made k
-      go (arrive _ e) = absurd (clash (stops-is Deliver e refl) (hops-on n (route n lab d) s k h))
-      go (stuck e _) = absurd (clash (stops-is Halted e refl) (hops-on n (route n lab d) s k h))
-      go (move i hi e q l) = record { i = i; dim = hi; decided = e; inside = q; falls = l; is = spot-suc n (route n lab d) s k i e }
-
-  on : (k : ℕ) → k ≤ hops n (route n lab d) s → On k
-  on zero h =
-      record {
-        inside = rw (spot-zero (route n lab d) s) ps;
-        room = omega (arith, ap measure (spot-zero (route n lab d) s));
-        extra = 0;
-        even = omega (arith, ap (λ x. dist x d) (spot-zero (route n lab d) s));
-      }
-  on (suc k) h = go (on k (omega arith)) (made k (omega arith) (on k (omega arith)))
-    where
-      go : On k → Made k → On (suc k)
-      go o r =
-          let m = left (either (apart (r .i) (spot (route n lab d) s k) d)) in
-          record { inside = rw (r .is) (r .inside); room = omega (arith, ap measure (r .is)); extra = m .0; even = m .1 }
-        where
-          left : (apart (r .i) (spot (route n lab d) s k) d ≡ true) ⊎ (apart (r .i) (spot (route n lab d) s k) d ≡ false)
-              → (m : ℕ) × (suc k + dist (spot (route n lab d) s (suc k)) d ≡ dist s d + 2 * m)
-          left (inl a) =
-              let f = dist-fall n (r .i) (spot (route n lab d) s k) d (o .inside .0) hd (r .dim) a in
-              (o .extra, omega (arith, o .even, ap (λ x. dist x d) (r .is)))
-          left (inr a) =
-              let f = dist-rise n (r .i) (spot (route n lab d) s k) d (o .inside .0) hd (r .dim) a in
-              (suc (o .extra), omega (arith, o .even, ap (λ x. dist x d) (r .is)))
-
-  -- how it ends
-  end : ((last n (route n lab d) s ≡ Deliver) × (endOf n lab d s ≡ d)) ⊎ ((last n (route n lab d) s ≡ Halted) × Stuck (endOf n lab d s))
-  unfolding last turn stops
-  end = go (next n lab d hd measure Stuck P (endOf n lab d s) (o .inside)) (either (ltb (hops n (route n lab d) s) (n + 4)))
-    where
-      o : On (hops n (route n lab d) s)
-      o = on (hops n (route n lab d) s) (omega arith)
-
-      go : Next n lab d hd measure Stuck P (endOf n lab d s)
-          → (ltb (hops n (route n lab d) s) (n + 4) ≡ true) ⊎ (ltb (hops n (route n lab d) s) (n + 4) ≡ false)
-          → ((last n (route n lab d) s ≡ Deliver) × (endOf n lab d s ≡ d)) ⊎ ((last n (route n lab d) s ≡ Halted) × Stuck (endOf n lab d s))
-      go (arrive q e) _ = inl (e, q)
-      go (stuck e q) _ = inr (e, q)
-      go (move i hi e q l) (inl a) = absurd (clash (hops-end n (route n lab d) s (ltb-true (hops n (route n lab d) s) (n + 4) a)) (stops-is (Hop i) e refl))
-      go (move i hi e q l) (inr a) = absurd (omega (arith, o .room, ltb-false (hops n (route n lab d) s) (n + 4) a))
-
--- ---- the theorems
+use Rattle.walk.specs.Walk.{spot, turn, hops, last, route}
+use Rattle.theorems.specs.Words.{SomeSafe}
+use Rattle.theorems.proofs.Advances.{On, end, endOf, made, not-there, on}
 
 -- the nodes of the walk work, but for the destination, and each hop is its decision's
 pub record Kept (n : ℕ) (lab : ℕ → ℕ) (d s : ℕ) : Type 0 where
@@ -164,6 +39,23 @@ pub record Halts (n : ℕ) (lab : ℕ → ℕ) (d s : ℕ) : Type 0 where
   pub far : 1 < dist (endOf n lab d s) d
   pub why : (i : ℕ) → i < n → apart i (endOf n lab d s) d ≡ true → 2 < lab (flip i (endOf n lab d s))
   pub kept : Kept n lab d s
+
+-- after k hops the walk is k nearer
+abbrev pub Nears : (n : ℕ) (lab : ℕ → ℕ) (d s : ℕ) → Type 0
+Nears n lab d s = (k : ℕ) → k ≤ hops n (route n lab d) s → dist (spot (route n lab d) s k) d + k ≡ dist s d
+
+pub record WalkFacts (n : ℕ) (lab : ℕ → ℕ) (d s : ℕ) : Type 0 where
+  -- some node is safe: delivered, with at most as many pairs of extra hops as the source's label (0 safe, 1 ordinarily, 2 strongly unsafe), and the rank falls
+  pub some-safe : SomeSafe n lab → Delivers n lab d s (lab s)
+  pub rank-falls :
+      SomeSafe n lab → (k : ℕ) → k < hops n (route n lab d) s
+      → rank lab d (spot (route n lab d) s (suc k)) < rank lab d (spot (route n lab d) s k)
+  -- the destination is safe: delivered in exactly the distance
+  pub to-safe : lab d ≡ 0 → Delivers n lab d s 0
+  -- no node is safe: delivered in exactly the distance, or halted
+  pub none-safe : (SomeSafe n lab → ⊥) → Delivers n lab d s 0 ⊎ Halts n lab d s
+  -- either end is safe, or no node is: each hop is one nearer
+  pub nears : (lab s ≡ 0) ⊎ (lab d ≡ 0) ⊎ (SomeSafe n lab → ⊥) → Nears n lab d s
 
 dist-le : (n s d : ℕ) → s < 2 ^ n → d < 2 ^ n → dist s d ≤ n
 dist-le n s d hs hd = omega (arith, dist-count n s d hs hd, count-bound n (λ i. apart i s d))
@@ -204,35 +96,69 @@ module _ (n : ℕ) (lab : ℕ → ℕ) (G : Good n lab) (d : ℕ) (hd : d < 2 ^ 
         (λ (e : (last n (route n lab d) s ≡ Halted) × Stuck (endOf n lab d s)). inr e)
         (end n lab d hd measure Stuck P s (hs, inl ws) fuel)
 
+    falls : (k : ℕ) → k < hops n (route n lab d) s → measure (spot (route n lab d) s (suc k)) < measure (spot (route n lab d) s k)
+    falls k h =
+        let r = made n lab d hd measure Stuck P s (hs, inl ws) fuel k h (here k (omega arith)) in
+        omega (arith, r .falls, ap measure (r .is))
+
+    -- where the measure is the distance at the source, and never less, each hop is one nearer
+    nears : ((x : ℕ) → dist x d ≤ measure x) → measure s ≤ dist s d → Nears n lab d s
+    nears low l k h = let o = here k h in omega (arith, low (spot (route n lab d) s k), o .room, o .even)
+
   progress : GoodProgress n lab d
   progress = scans-progress n lab G d hd wd
 
   near : dist s d ≤ n + 4
   near = omega (arith, dist-le n s d hs hd)
 
-  -- some node is safe: delivered, with at most as many pairs of extra hops as the source's label (0 safe, 1 ordinarily, 2 strongly unsafe)
-  pub delivers : (x : ℕ) → x < 2 ^ n → lab x ≡ 0 → Delivers n lab d s (lab s)
-  delivers x hx ex =
-      let far = rank-le lab d s in
+  near-rank : rank lab d s ≤ n + 4
+  near-rank = omega (arith, rank-le lab d s, dist-le n s d hs hd)
+
+  some-safe : SomeSafe n lab → Delivers n lab d s (lab s)
+  some-safe x =
       ⊎-elim (λ (D : Delivers n lab d s (lab s)). D) (λ (e : (last n (route n lab d) s ≡ Halted) × ⊥). absurd (e .1))
-      (outcome (rank lab d) (λ _. ⊥) (progress .by-rank x hx ex) (omega (arith, dist-le n s d hs hd)) (lab s) (omega arith))
+      (outcome (rank lab d) (λ _. ⊥) (progress .by-rank (x .0) (x .1) (x .2)) near-rank (lab s) (omega (arith, rank-le lab d s)))
 
-  -- the destination is safe: delivered in exactly the distance
-  pub delivers-safe : lab d ≡ 0 → Delivers n lab d s 0
-  delivers-safe ed =
-      ⊎-elim (λ (D : Delivers n lab d s 0). D) (λ (e : (last n (route n lab d) s ≡ Halted) × ⊥). absurd (e .1))
-      (outcome (λ x. dist x d) (λ _. ⊥) (progress .to-safe ed) near 0 (omega arith))
+  rank-falls : SomeSafe n lab → (k : ℕ) → k < hops n (route n lab d) s
+      → rank lab d (spot (route n lab d) s (suc k)) < rank lab d (spot (route n lab d) s k)
+  rank-falls x = falls (rank lab d) (λ _. ⊥) (progress .by-rank (x .0) (x .1) (x .2)) near-rank
 
-  -- no node is safe: delivered in exactly the distance, or halted
-  pub delivers-or-halts : ((x : ℕ) → x < 2 ^ n → lab x ≢ 0) → Delivers n lab d s 0 ⊎ Halts n lab d s
-  delivers-or-halts none =
-      ⊎-elim (λ (D : Delivers n lab d s 0). inl D)
-      (λ (e : (last n (route n lab d) s ≡ Halted) × Stuck (endOf n lab d s)).
-      inr (record { ended = e .0; far = e .1 .0; why = e .1 .1; kept = kept (λ x. dist x d) Stuck dark near }))
-      (outcome (λ x. dist x d) Stuck dark near 0 (omega arith))
-    where
-      Stuck : ℕ → Type 0
-      Stuck x = (1 < dist x d) × ((i : ℕ) → i < n → apart i x d ≡ true → 2 < lab (flip i x))
+  from-safe-nears : lab s ≡ 0 → Nears n lab d s
+  from-safe-nears e =
+      nears (rank lab d) (λ _. ⊥) (progress .by-rank s hs e) near-rank (rank-ge lab d) (omega (arith, rank-le lab d s, e))
 
-      dark : Progress n lab d (λ x. dist x d) Stuck
-      dark = progress .in-the-dark none
+  module _ (e : lab d ≡ 0) where
+    to-safe : Delivers n lab d s 0
+    to-safe =
+        ⊎-elim (λ (D : Delivers n lab d s 0). D) (λ (h : (last n (route n lab d) s ≡ Halted) × ⊥). absurd (h .1))
+        (outcome (λ x. dist x d) (λ _. ⊥) (progress .to-safe e) near 0 (omega arith))
+
+    to-safe-nears : Nears n lab d s
+    to-safe-nears = nears (λ x. dist x d) (λ _. ⊥) (progress .to-safe e) near (λ x. omega arith) (omega arith)
+
+  module _ (none : SomeSafe n lab → ⊥) where
+    abbrev Stuck : ℕ → Type 0
+    Stuck x = (1 < dist x d) × ((i : ℕ) → i < n → apart i x d ≡ true → 2 < lab (flip i x))
+
+    dark : Progress n lab d (λ x. dist x d) Stuck
+    dark = progress .in-the-dark (λ x h e. none (x, h, e))
+
+    none-safe : Delivers n lab d s 0 ⊎ Halts n lab d s
+    none-safe =
+        ⊎-elim (λ (D : Delivers n lab d s 0). inl D)
+        (λ (e : (last n (route n lab d) s ≡ Halted) × Stuck (endOf n lab d s)).
+        inr (record { ended = e .0; far = e .1 .0; why = e .1 .1; kept = kept (λ x. dist x d) Stuck dark near }))
+        (outcome (λ x. dist x d) Stuck dark near 0 (omega arith))
+
+    none-safe-nears : Nears n lab d s
+    none-safe-nears = nears (λ x. dist x d) Stuck dark near (λ x. omega arith) (omega arith)
+
+  pub walk-facts : WalkFacts n lab d s
+  walk-facts =
+      record {
+        some-safe = some-safe;
+        rank-falls = rank-falls;
+        to-safe = to-safe;
+        none-safe = none-safe;
+        nears = ⊎-elim from-safe-nears (⊎-elim to-safe-nears none-safe-nears);
+      }

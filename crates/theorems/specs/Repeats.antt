@@ -11,7 +11,7 @@ use Rattle.hop.specs.declared.Hopped.the-variants.{Decided}
 use Rattle.walk.specs.Walk.{walkRefusal, walked}
 use Rattle.walk.specs.declared.Ending.the-variants as ending
 use Rattle.walk.specs.declared.Walked.{Walked}
-use Rattle.theorems.specs.Words.{place}
+use Rattle.theorems.specs.Words.{NoneTwice, place}
 
 -- the hop question at x is not refused, and decides so
 abbrev pub Decides : (n j d m : ℕ) (lab : ℕ → ℕ) (x : ℕ) → Decision → Type 0
@@ -31,6 +31,8 @@ pub record Repeats (n j s d m : ℕ) (lab : ℕ → ℕ) (w : Walked) : Type 0 w
   -- no place before the last is labelled faulty or draining, and the last only where it is the destination
   pub enters : (k : ℕ) → k < w .hops → lab (place w k) ≤ 2
   pub ends-in : (lab (place w (w .hops)) ≤ 2) ⊎ (place w (w .hops) ≡ d)
+  -- "no node stands twice", delivered or halted (document 02, A8)
+  pub once : NoneTwice w
 
 abbrev pub WalkRepeats : Type 0
 WalkRepeats =

@@ -1,7 +1,8 @@
 -- The words that the demands share: of a cabinet that labelling accepts, of its nodes, and of the walks with its labels.
 use mathlib.Core.Bool.{false}
+use mathlib.Core.Logic.{_≢_}
 use mathlib.Core.Path.{_≡_}
-use Prim.Native.Nat.{ℕ, _^_, _<_}
+use Prim.Native.Nat.{ℕ, _+_, _^_, _<_}
 use lib.ListN.{getD}
 use Rattle.cube.specs.Tables.{labelIn}
 use Rattle.jobs.specs.Jobs.{labelBytes}
@@ -36,3 +37,14 @@ walkOf K j s d = walked (K .n) j s d (labelBytes (K .n)) rowBytes (labelAt K)
 
 abbrev pub place : Walked → ℕ → ℕ
 place w k = getD (w .row) k 0
+
+-- "the places of a walk's row that are used (the first ones, one more than its hop count)", and that no node stands twice among them
+abbrev pub usedPlaces : Walked → ℕ
+usedPlaces w = w .hops + 1
+
+abbrev pub NoneTwice : Walked → Type 0
+NoneTwice w = (k m : ℕ) → k < m → m < usedPlaces w → place w k ≢ place w m
+
+-- a measure of the nodes falls with every hop
+abbrev pub Falls : (measure : ℕ → ℕ) → Walked → Type 0
+Falls measure w = (k : ℕ) → k < w .hops → measure (place w (k + 1)) < measure (place w k)

@@ -1,5 +1,6 @@
 pub mod Refusals
 pub mod Local
 pub mod Steps
+pub mod Once
 pub mod Functions
 pub mod Laws

@@ -12,14 +12,15 @@ use lib.Dec.{leb}
 use lib.ListN.{replicate, set}
 use Rattle.cube.specs.Cube.{flip}
 use Rattle.cube.specs.Tables.{tab}
-use Rattle.cube.proofs.Search.{least-is, the-least}
+use Rattle.cube.proofs.Bools.{clash}
+use Rattle.cube.proofs.Search.{Least, least-is, the-least}
 use Rattle.cube.proofs.Cube.{flip-lt}
 use Rattle.cube.proofs.Front.{front, front-zero, front-zeros, front-write}
 use Rattle.walk.specs.Helpers.{walkOrRefusal}
 use Rattle.hop.specs.Hop.{hop}
 use Rattle.walk.specs.Walk.{endingOf, onto, stops, spot, turn, hops, last, route, row, walkFrom, moved, refused}
 use Rattle.hop.specs.declared.Decision.{Decision}
-use Rattle.hop.specs.declared.Decision.the-variants.{Hop}
+use Rattle.hop.specs.declared.Decision.the-variants.{Deliver, Hop, Halted}
 use Rattle.walk.specs.declared.Message.{Message}
 use Rattle.hop.proofs.Local.{hop-dim}
 
@@ -41,9 +42,29 @@ module _ (go : ℕ → Decision) (s : ℕ) where
   unfolding spot turn onto
   spot-next k i e = ap (spot go s) (add-one k) ∙ ap (λ x. onto x (spot go s k)) e
 
-pub hops-within : (n : ℕ) (go : ℕ → Decision) (s : ℕ) → hops n go s ≤ n + 4
-unfolding hops
-hops-within n go s = the-least (n + 4) (λ k. stops (turn go s k)) .within
+-- a decision that does not end the walk is a hop
+pub is-hop : (x : Decision) → stops x ≡ false → (i : ℕ) × (x ≡ Hop i)
+unfolding stops
+is-hop Deliver e = absurd (clash refl e)
+is-hop (Hop i) e = (i, refl)
+is-hop Halted e = absurd (clash refl e)
+
+-- the hop count: at most n + 4, each decision before it is a hop, and the one after it is none unless n + 4 hops are done
+module _ (n : ℕ) (go : ℕ → Decision) (s : ℕ) where
+  the-hops : Least (n + 4) (λ k. stops (turn go s k))
+  the-hops = the-least (n + 4) (λ k. stops (turn go s k))
+
+  pub hops-within : hops n go s ≤ n + 4
+  unfolding hops
+  hops-within = the-hops .within
+
+  pub hops-on : (k : ℕ) → k < hops n go s → stops (turn go s k) ≡ false
+  unfolding hops
+  hops-on = the-hops .before
+
+  pub hops-end : hops n go s < n + 4 → stops (last n go s) ≡ true
+  unfolding hops last
+  hops-end = the-hops .hit
 
 module _ (n : ℕ) (lab : ℕ → ℕ) (d s : ℕ) where
   pub start : s < 2 ^ n → Walking n lab d s (set (replicate 17 0) 0 s) (record { at = s; to = d; hops = 0 })

@@ -1,4 +1,5 @@
 pub mod Walk
 pub mod Local
 pub mod Laws
+pub mod Once
 pub mod Helpers
