@@ -1,7 +1,7 @@
 /*
  * bounds.c: demand 3 of document 01, whose destination may be draining since A4:
- * that walks by the labels of two tables arrive, and after how many hops. What
- * is expected stands here once more and is not asked of the reference.
+ * that walks by the labels of two tables arrive, after how many hops, and what
+ * falls with each of them (document 02, A8). What is expected stands here once more and is not asked of the reference.
  */
 #include <string.h>
 
@@ -14,6 +14,16 @@
  * by the source's label, and else whether the walk arrived or halted. */
 enum { SAFE_SOURCE, ORDINARY_SOURCE, STRONG_SOURCE, ARRIVED, HALTED, KINDS };
 static unsigned long came_up[2][KINDS];
+
+/* Hops that led away from the destination, by whether some node is safe. */
+static unsigned long away[2];
+
+/* Of a node at this distance from the destination: the distance, and from 2 on
+ * twice the label besides. */
+static uint32_t rank(uint32_t distance, uint32_t x)
+{
+    return distance < 2 ? distance : distance + 2 * labels[x];
+}
 
 /* Every neighbour of c that is nearer d is faulty or draining. */
 static int is_stuck(uint32_t n, uint32_t c, uint32_t d)
@@ -45,6 +55,23 @@ static void none_safe(uint32_t n, uint32_t s, uint32_t d, uint32_t answer,
     came_up[labels[d] == HCUBE_DRAINING][arrived ? ARRIVED : HALTED]++;
 }
 
+/* Where some node is safe the rank falls with each hop; where either end is safe,
+ * or no node is, the distance, by one. */
+static void falls(uint32_t n, uint32_t s, uint32_t d, int some, uint32_t hops,
+                  const uint8_t *row)
+{
+    int nearer = !some || labels[s] == HCUBE_SAFE || labels[d] == HCUBE_SAFE;
+    int all = 1;
+    for (uint32_t k = 0; k < hops; k++) {
+        uint32_t x = row_place(row, k), y = row_place(row, k + 1);
+        uint32_t from = ref_distance(n, x, d), to = ref_distance(n, y, d);
+        all &= !some || rank(to, y) < rank(from, x);
+        all &= !nearer || to + 1 == from;
+        away[some] += to > from;
+    }
+    expect(all, "n = %u: nothing falls from %u to %u", n, s, d);
+}
+
 /* From a node that works to one that works or is draining. */
 static void bounds_of(uint32_t n, uint32_t s, uint32_t d, int some)
 {
@@ -57,6 +84,7 @@ static void bounds_of(uint32_t n, uint32_t s, uint32_t d, int some)
         some_safe(n, s, d, answer);
     else
         none_safe(n, s, d, answer, last);
+    falls(n, s, d, some, HCUBE_VALUE(answer), row);
     expect(answer >> 16 || last == d, "n = %u: walk %u to %u does not arrive", n,
            s, d);
 }
@@ -100,5 +128,7 @@ void check_bounds(void)
     for (unsigned k = 0; k < 2 * KINDS; k++)
         expect(came_up[k % 2][k / 2] >= 20, "kind %u came up %lu times", k,
                came_up[k % 2][k / 2]);
+    expect(away[1] >= 20 && away[0] == 0, "away %lu and %lu times", away[1],
+           away[0]);
     end_group();
 }

@@ -65,6 +65,15 @@ uint32_t label_for(uint32_t n, uint32_t rule, uint32_t job)
     return check_cabinet(asked);
 }
 
+void mixed_labels(uint32_t n)
+{
+    unsigned safe = random_below(100);
+    random_labels(n, LAST_LABEL, labels);
+    for (uint32_t k = 0; k < 1u << n; k++)
+        if (random_below(100) < safe)
+            labels[k] = (uint8_t)(random_below(2) ? 0 : 3 + random_below(2));
+}
+
 uint32_t walk_by(const uint8_t *by, uint32_t n, uint32_t s, uint32_t d,
                  uint8_t *row)
 {

@@ -28,6 +28,9 @@ void random_cabinet(uint32_t n, unsigned per_mille);
 uint32_t label_cabinet(uint32_t n, uint32_t rule);
 uint32_t label_for(uint32_t n, uint32_t rule, uint32_t job);
 
+/* Labels of no cabinet instead: mostly safe, mostly not, or evenly mixed. */
+void mixed_labels(uint32_t n);
+
 /* Walks by these labels into a row that holds anything. */
 uint32_t walk_by(const uint8_t *by, uint32_t n, uint32_t s, uint32_t d,
                  uint8_t *row);

@@ -120,7 +120,8 @@ uint32_t check_hop(struct hop_question asked)
 }
 
 /* Whatever the labels, and whatever the reference says: a walk goes from neighbour
- * to neighbour, and no node before its last is faulty or draining. */
+ * to neighbour, no node before its last is faulty or draining, and no node stands
+ * in its row twice. */
 static void check_way(struct walk_question asked, uint32_t answer)
 {
     uint32_t hops = HCUBE_VALUE(answer), here = asked.s;
@@ -134,6 +135,8 @@ static void check_way(struct walk_question asked, uint32_t answer)
         passes &= next < 1u << asked.n &&
                   ref_distance(asked.n, here, next) == (k > 0) &&
                   (k == hops || half[next] < HCUBE_FAULTY);
+        for (uint32_t before = 0; before < k; before++)
+            passes &= row_place(asked.row, before) != next;
         here = next;
     }
     expect(passes, "walk n=%u %u to %u: no way", asked.n, asked.s, asked.d);

@@ -16,6 +16,7 @@ void check_draining(void);        /* draining.c */
 void check_draining_ends(void);
 void check_bounds(void);          /* bounds.c */
 void check_long_walks(void);      /* long_walks.c */
+void check_frames(void);          /* frames.c */
 void check_jobs(void);            /* jobs.c */
 void check_halves(void);          /* halves.c */
 void check_closed(void);          /* closed.c */

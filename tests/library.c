@@ -102,6 +102,7 @@ int main(void)
     check_random_tables();
     check_random_labels();
     check_long_walks();
+    check_frames();
     check_hop_reads();
     check_label_buffer();
     check_damaged();

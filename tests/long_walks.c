@@ -7,6 +7,7 @@
 
 #include "cases.h"
 #include "check.h"
+#include "frames.h"
 #include "groups.h"
 #include "reference.h"
 
@@ -81,6 +82,8 @@ static void grow_ten(uint32_t n, uint32_t distance, unsigned more)
         if (!grow(n, s, d, n + more))
             continue;
         check_here(n, s, d);
+        expect(check_frame(n, s, d, labels) == (more <= 4 ? WALKED : LONGER),
+               "n = %u: no frame from %u to %u", n, s, d);
         found++;
     }
     expect(found == 10, "n = %u: %u walks of n + %u hops", n, found, more);

@@ -119,16 +119,6 @@ void check_random_tables(void)
     end_group();
 }
 
-/* Label bytes of no cabinet: mostly safe, mostly not, or evenly mixed. */
-static void mixed_labels(uint32_t n)
-{
-    unsigned safe = random_below(100);
-    random_labels(n, LAST_LABEL, labels);
-    for (uint32_t k = 0; k < 1u << n; k++)
-        if (random_below(100) < safe)
-            labels[k] = (uint8_t)(random_below(2) ? 0 : 3 + random_below(2));
-}
-
 void check_random_labels(void)
 {
     begin_group("12,000 random label tables to n = 12");

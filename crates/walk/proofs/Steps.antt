@@ -56,11 +56,11 @@ module _ (n : ℕ) (go : ℕ → Decision) (s : ℕ) where
 
   pub hops-within : hops n go s ≤ n + 4
   unfolding hops
-  hops-within = the-hops .within
+  hops-within = omega (arith, the-hops .within)
 
   pub hops-on : (k : ℕ) → k < hops n go s → stops (turn go s k) ≡ false
   unfolding hops
-  hops-on = the-hops .before
+  hops-on k h = the-hops .before k (omega (arith, h))
 
   pub hops-end : hops n go s < n + 4 → stops (last n go s) ≡ true
   unfolding hops last
