@@ -210,7 +210,10 @@ uint32_t hcube_hop(uint32_t n, uint32_t job, uint32_t c, uint32_t d,
  * Walks for a job from node s to node d, one hcube_hop after the other, over a
  * half of any label bytes 0 to 4; the other half may hold any bytes at all. d
  * may be draining. Whatever the half, every node of the walk before its last
- * works.
+ * works, and no node stands in its row twice. So a frame that is sent on by
+ * hcube_hop, each node asking it with the same labels, passes no node twice. On
+ * labels that hcube_label did not write it may go round for ever instead; then
+ * the walk is refused with 8.
  *
  * Refusals, in order:
  *   1   n is not 1 to 12
@@ -223,7 +226,8 @@ uint32_t hcube_hop(uint32_t n, uint32_t job, uint32_t c, uint32_t d,
  *   8   after n + 4 hops the decision is another hop
  * Accepted: kind HCUBE_WALK_DELIVERED or HCUBE_WALK_HALTED, value the number
  * of hops. All 34 bytes of `row` are written: the nodes visited, s first, two
- * bytes a node, low byte first, and zero in the places after the last.
+ * bytes a node, low byte first, in the first value + 1 places, each node once;
+ * and zero in the places after them.
  */
 uint32_t hcube_walk(uint32_t n, uint32_t job, uint32_t s, uint32_t d,
                     const uint8_t *labels, size_t labels_len,
