@@ -13,6 +13,7 @@ use Rattle.hop.specs.declared.Decision.{Decision}
 use Rattle.hop.specs.declared.Decision.the-variants.{Deliver, Hop, Halted}
 use Rattle.hop.specs.declared.Hopped.{Hopped}
 use Rattle.hop.specs.declared.Hopped.the-variants as hopped
+use Rattle.walk.specs.Once.{Forwarded}
 use Rattle.walk.specs.Walk as W
 use Rattle.walk.specs.declared.Ending.the-variants as ending
 use Rattle.walk.specs.declared.Walked.{Walked}
@@ -58,7 +59,7 @@ module _ (lib : Library) (F : Faithful lib) where
   decided {n} {j} {c} {d} {buffer} {x} m = of-decided n j c d (length buffer) (labelFor n j buffer) x (sym (F .hops m))
 
   pub frame-once : {n j d t : ℕ} {buffer : List ℕ} {x : Decision} (at : ℕ → ℕ)
-      → ((k : ℕ) → k < t → (i : ℕ) × lib .hops n j (at k) d buffer (hopped.Decided (Hop i)) × (at (k + 1) ≡ flip i (at k)))
-      → lib .hops n j (at t) d buffer (hopped.Decided x) → W.stops x ≡ true → (k m : ℕ) → k < m → m ≤ t → at k ≢ at m
+      → Forwarded (λ c a. lib .hops n j c d buffer (hopped.Decided a)) at t → lib .hops n j (at t) d buffer (hopped.Decided x) → W.stops x ≡ true
+      → (k m : ℕ) → k < m → m ≤ t → at k ≢ at m
   frame-once {n} {j} {d} {t} {buffer} at forwarded stopped ends =
       once (W.route n (labelFor n j buffer) d) .frame at t (λ k h. let f = forwarded k h in (f .0, decided (f .1), f .2)) (ap W.stops (decided stopped) ∙ ends)

@@ -22,6 +22,7 @@ use Rattle.hop.specs.declared.Decision.{Decision}
 use Rattle.hop.specs.declared.Decision.the-variants.{Deliver, Hop, Halted}
 use Rattle.hop.specs.declared.Hopped.{Hopped}
 use Rattle.hop.specs.declared.Hopped.the-variants as hopped
+use Rattle.walk.specs.Once.{Forwarded}
 use Rattle.walk.specs.Walk as W
 use Rattle.walk.specs.declared.Ending.the-variants as ending
 use Rattle.walk.specs.declared.Walked.{Walked}
@@ -122,11 +123,11 @@ pub record Demands (lib : Library) : Type 0 where
   -- delivered or halted, it has passed no node twice (document 02, A8)
   pub walk-once :
       {n j s d room : ℕ} {buffer : List ℕ} {w : Walked} → lib .walks n j s d buffer room w → W.refusalOf (w .ending) ≡ 0 → NoneTwice w
-  -- nor has a frame that is forwarded by the hop question alone, t times and then no more, however often that is
+  -- nor has a frame that is forwarded by the hop question alone, t times, however many, and then no more
   pub frame-once :
       {n j d t : ℕ} {buffer : List ℕ} {x : Decision} (at : ℕ → ℕ)
-      → ((k : ℕ) → k < t → (i : ℕ) × lib .hops n j (at k) d buffer (hopped.Decided (Hop i)) × (at (k + 1) ≡ flip i (at k)))
-      → lib .hops n j (at t) d buffer (hopped.Decided x) → W.stops x ≡ true → (k m : ℕ) → k < m → m ≤ t → at k ≢ at m
+      → Forwarded (λ c a. lib .hops n j c d buffer (hopped.Decided a)) at t → lib .hops n j (at t) d buffer (hopped.Decided x) → W.stops x ≡ true
+      → (k m : ℕ) → k < m → m ≤ t → at k ≢ at m
   -- ---- the two rules (document 02, A13)
 
   -- a site moves from rule 2 to rule 3: its labels only get better,

@@ -13,7 +13,7 @@ use Rattle.walk.specs.Walk.{hops, last, spot, stops, turn}
 use Rattle.walk.proofs.Steps.{hops-on, is-hop, spot-next}
 
 module _ (go : ℕ → Decision) where
-  module _ (at : ℕ → ℕ) (t : ℕ) (forwarded : Forwarded go at t) where
+  module _ (at : ℕ → ℕ) (t : ℕ) (forwarded : Forwarded (λ x a. go x ≡ a) at t) where
     -- from one node it goes on alike
     alike : (k m : ℕ) → k < m → at k ≡ at m → (r : ℕ) → m + r ≤ t → at (k + r) ≡ at (m + r)
     alike k m l e zero h =

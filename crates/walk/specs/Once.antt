@@ -9,12 +9,14 @@ use Rattle.hop.specs.declared.Decision.{Decision}
 use Rattle.hop.specs.declared.Decision.the-variants.{Hop}
 use Rattle.walk.specs.Walk.{hops, last, spot, stops}
 
--- a frame is forwarded t times, from node `at 0` to `at 1` and so on: each time a hop is decided, and the next node is across its dimension
-abbrev pub Forwarded : (go : ℕ → Decision) (at : ℕ → ℕ) (t : ℕ) → Type 0
-Forwarded go at t = (k : ℕ) → k < t → (i : ℕ) × (go (at k) ≡ Hop i) × (at (k + 1) ≡ flip i (at k))
+-- a frame is forwarded t times, from node `at 0` to `at 1` and so on: each time a hop is decided, and the next node is across its dimension. `decides x a` says
+-- that a is decided at node x
+abbrev pub Forwarded : (decides : ℕ → Decision → Type 0) (at : ℕ → ℕ) (t : ℕ) → Type 0
+Forwarded decides at t = (k : ℕ) → k < t → (i : ℕ) × decides (at k) (Hop i) × (at (k + 1) ≡ flip i (at k))
 
 pub record Once (go : ℕ → Decision) : Type 0 where
-  -- where no hop is decided then, it was at no node twice;
-  pub frame : (at : ℕ → ℕ) (t : ℕ) → Forwarded go at t → stops (go (at t)) ≡ true → (k m : ℕ) → k < m → m ≤ t → at k ≢ at m
-  -- and so a walk that ends
+  -- a frame that is forwarded t times, and for which no hop is decided then, was at no node twice;
+  pub frame :
+      (at : ℕ → ℕ) (t : ℕ) → Forwarded (λ x a. go x ≡ a) at t → stops (go (at t)) ≡ true → (k m : ℕ) → k < m → m ≤ t → at k ≢ at m
+  -- nor was a walk that ends
   pub walk : (n s : ℕ) → stops (last n go s) ≡ true → (k m : ℕ) → k < m → m ≤ hops n go s → spot go s k ≢ spot go s m
