@@ -21,8 +21,8 @@ void expect(int holds, const char *why, ...);
 /* Each asks library and reference on guarded copies of the buffers and expects
  * the same answer, the same bytes in each buffer, and every other byte kept; of a
  * walk also that it goes from neighbour to neighbour, that each node before its
- * last works, and that none stands in the row twice. The caller's own writable buffer then has what the library left
- * in it. The library's answer is returned. */
+ * last works, and that none stands in the row twice. The caller's own writable
+ * buffer then has what the library left in it. The library's answer is returned. */
 uint32_t check_label(struct label_question asked);
 uint32_t check_hop(struct hop_question asked);
 uint32_t check_walk(struct walk_question asked);

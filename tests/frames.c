@@ -1,7 +1,8 @@
 /*
  * frames.c: no frame passes a node twice (document 02, A8), on the labels of a
  * cabinet and on any others. What is expected stands here once more and is not
- * asked of the reference; of a walk's row check_walk expects it.
+ * asked of the reference; of a walk's row check_walk expects it. Frames that end
+ * after more hops than a walk may have are grown in long_walks.c.
  */
 #include "frames.h"
 
@@ -12,55 +13,74 @@
 #include "check.h"
 #include "groups.h"
 
-static unsigned long came_up[FRAMES];
+/* What came up, by whether the destination is draining. */
+static unsigned long came_up[2][FRAMES];
 
-/* After how many hops none is decided any more, and whether a node came again. It
- * is given up after twice as many hops as there are nodes. */
+/* A frame that has not ended after so many hops, twice as many as there are
+ * nodes, is given up. */
+#define GIVEN_UP(n) (2u << (n))
+
+/* How many hops it makes, the answer where it stands then, and whether it came to
+ * a node again. */
 static uint32_t forward(uint32_t n, uint32_t s, uint32_t d, const uint8_t *half,
-                        int *again)
+                        uint32_t *answer, int *again)
 {
     static uint8_t passed[MOST_NODES];
     struct hop_question asked = fit_hop(n, s, d, half);
     uint32_t hops = 0;
     memset(passed, 0, (size_t)1 << n);
     *again = 0;
-    while (hops <= 2u << n) {
-        uint32_t answer = ask_hop(asked);
+    for (;;) {
         *again |= passed[asked.c];
         passed[asked.c] = 1;
-        if (answer >> 16 != HCUBE_HOP)
-            break;
-        asked.c ^= 1u << HCUBE_VALUE(answer);
+        *answer = ask_hop(asked);
+        if (*answer >> 16 != HCUBE_HOP || hops == GIVEN_UP(n))
+            return hops;
+        asked.c ^= 1u << HCUBE_VALUE(*answer);
         hops++;
     }
-    return hops;
+}
+
+/* The walk's answer where a frame ended so, after so many hops; no walk's where
+ * the hop was refused. */
+static uint32_t same_walk(uint32_t answer, uint32_t hops)
+{
+    switch (answer) {
+    case HCUBE_DELIVER << 16: return (HCUBE_WALK_DELIVERED << 16) + hops;
+    case HCUBE_HALTED << 16: return (HCUBE_WALK_HALTED << 16) + hops;
+    default: return UINT32_MAX;
+    }
 }
 
 enum frame check_frame(uint32_t n, uint32_t s, uint32_t d, const uint8_t *half)
 {
     uint8_t row[ROW_BYTES];
+    uint32_t last, hops, walk = walk_by(half, n, s, d, row);
     int again;
-    uint32_t hops = forward(n, s, d, half, &again);
-    uint32_t walk = walk_by(half, n, s, d, row);
-    enum frame how = hops <= n + 4 ? WALKED : hops <= 2u << n ? LONGER : ROUND;
-    expect((how == ROUND) == again, "n = %u: %u to %u passes a node twice", n, s,
+    enum frame how;
+    hops = forward(n, s, d, half, &last, &again);
+    how = hops == GIVEN_UP(n) ? ROUND : hops > n + 4 ? LONGER : WALKED;
+    expect(how == ROUND || !again, "n = %u: %u to %u passes a node twice", n, s,
            d);
-    expect(how == WALKED ? HCUBE_REFUSAL(walk) == 0 && HCUBE_VALUE(walk) == hops
-                         : walk == REFUSED(8),
-           "n = %u: %u to %u has %u hops, the walk is %08x", n, s, d, hops, walk);
-    came_up[how]++;
+    expect(walk == (how == WALKED ? same_walk(last, hops) : REFUSED(8)),
+           "n = %u: %u to %u has %u hops and then %08x, the walk is %08x", n, s,
+           d, hops, last, walk);
     return how;
 }
 
-/* Between so many random nodes, but for those from which or to which no walk goes. */
+/* Between that many random pairs; those that no walk accepts are left out. */
 static void some_frames(uint32_t n, unsigned count, int of_cabinet)
 {
     while (count--) {
-        uint32_t s = random_below(1u << n), d = random_below(1u << n);
+        uint32_t s = random_below(1u << n);
+        uint32_t d = count % 2 ? random_below(1u << n) : some_draining(n);
+        enum frame how;
         if (labels[s] >= HCUBE_FAULTY || labels[d] == HCUBE_FAULTY)
             continue;
-        expect(check_frame(n, s, d, labels) == WALKED || !of_cabinet,
+        how = check_frame(n, s, d, labels);
+        expect(how == WALKED || !of_cabinet,
                "n = %u: %u to %u by labels of a cabinet", n, s, d);
+        came_up[labels[d] == HCUBE_DRAINING][how]++;
     }
 }
 
@@ -79,7 +99,11 @@ void check_frames(void)
         mixed_labels(n);
         some_frames(n, 8, 0);
     }
-    for (unsigned k = 0; k < FRAMES; k++)
-        expect(came_up[k] >= 20, "kind %u came up %lu times", k, came_up[k]);
+    for (unsigned drains = 0; drains < 2; drains++) {
+        expect(came_up[drains][WALKED] >= 20, "%lu frames end, drains %u",
+               came_up[drains][WALKED], drains);
+        expect(came_up[drains][ROUND] >= 20, "%lu frames go round, drains %u",
+               came_up[drains][ROUND], drains);
+    }
     end_group();
 }

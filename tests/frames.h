@@ -13,7 +13,7 @@ enum frame { WALKED, LONGER, ROUND, FRAMES };
 
 /* Forwards a frame by these labels from a node that works to one that is not
  * faulty. Expects that it ended only if it was at no node twice, and that the walk
- * has as many hops, or is refused with 8 if a walk may not have so many. */
+ * ended so too after as many hops, or is refused with 8 if it may not have so many. */
 enum frame check_frame(uint32_t n, uint32_t s, uint32_t d, const uint8_t *half);
 
 #endif

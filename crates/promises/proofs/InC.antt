@@ -116,7 +116,7 @@ module _ {n j s d r : ℕ} {buffer before after : List ℕ} (m : May hcube.walk 
     node k l = sym (getD-tab 17 (nodeAt after) k l) ∙ ap (λ (u : Walked). place u k) (sym ended)
 
     row-once : (k i : ℕ) → k < i → i < valuePart r + 1 → nodeAt after k ≢ nodeAt after i
-    row-once k i l h e =
+    row-once k i l within e =
         let count = ap (λ (u : Walked). u .hops) ended in
         let few = hops-few n j s d (length buffer) (length before) (labelFor n j buffer) in
         c-demands .walk-once (r, before, after, m, refl, sym taken) (ap (λ (u : Walked). W.refusalOf (u .ending)) ended ∙ none-refused (kindPart r)) k i l

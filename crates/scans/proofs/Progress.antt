@@ -1,7 +1,6 @@
--- Each pick on good labels makes progress. ONE RANK serves: the distance l where it is 0 or 1, else l and twice the label. Where some node is safe, a
--- pick of any scan lowers it: scans 1 to 3 lead one nearer and, but for the last two hops, never to a worse label; scans 4 and 5 lead one farther
--- and to a better label, which counts double. Where the destination is safe, or no node is, every pick is forward and l itself falls. The hop to a draining
--- destination, scan 0, is forward and the last.
+-- Each pick on good labels makes progress. ONE RANK serves: the distance l where it is 0 or 1, else l and twice the label. A pick of any scan lowers it: scans 1
+-- to 3 lead one nearer and, but for the last two hops, never to a worse label; scans 4 and 5 lead one farther and to a better label, which counts double. Where
+-- the destination is safe, or no node is, every pick is forward and l itself falls. The hop to a draining destination, scan 0, is forward and the last.
 use mathlib.Core.Path.{_≡_, refl, ap, _∙_}
 use mathlib.Core.Logic.{_⊎_, inl, inr, ⊎-elim, _≢_}
 use mathlib.Core.Bool.{true, false}
@@ -129,13 +128,13 @@ module _ (n : ℕ) (lab : ℕ → ℕ) (G : Good n lab) (d : ℕ) (hd : d < 2 ^ 
   away c p far =
       ⊎-elim (λ (w : lab c ≤ 2). w) (λ (e : c ≡ d). absurd (omega (arith, ap (λ x. dist x d) e, dist-self d))) (p .1)
 
-  -- where some node is safe, the rank falls, and something is always picked
-  by-rank : (s : ℕ) → s < 2 ^ n → lab s ≡ 0 → Progress n lab d (rank lab d) (λ _. ⊥)
-  by-rank s hs es =
+  -- the rank falls, and nothing is picked only where no node is safe
+  by-rank : Progress n lab d (rank lab d) (λ _. (x : ℕ) → x < 2 ^ n → lab x ≢ 0)
+  by-rank =
       record {
         inside = λ c t i p far k. (flip-lt n i c (k .dimension) (p .0), falls c (p .0) far (k .dimension) (k .hits) (k .earlier) .0);
         falls = λ c t i p far k. falls c (p .0) far (k .dimension) (k .hits) (k .earlier) .1;
-        stuck = λ c p far m.
+        stuck = λ c p far m s hs es.
             let l = beyond c (p .0) far (m 0) (m 3) in
             let w = not-ordinary c (p .0) (m 1) (m 4) in
             let z = not-strong c (p .0) s hs es (m 2) (m 5) in

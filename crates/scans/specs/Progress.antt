@@ -26,14 +26,14 @@ pub record Progress (n : ℕ) (lab : ℕ → ℕ) (d : ℕ) (measure : ℕ → �
   pub falls : (c s i : ℕ) → Inside n lab d c → 0 < dist c d → Picks n lab c d s i → measure (flip i c) < measure c
   pub stuck : (c : ℕ) → Inside n lab d c → 0 < dist c d → NonePicks n lab c d → Stuck c
 
--- the measure where some node is safe: the distance, and from 2 on twice the label besides
+-- the measure that falls with every hop: the distance, and from 2 on twice the label besides
 unfoldable pub rank : (lab : ℕ → ℕ) (d x : ℕ) → ℕ
 rank lab d x = cond (leb (dist x d) 1) (dist x d) (dist x d + 2 * lab x)
 
 -- on good labels, towards a destination that works or drains
 pub record GoodProgress (n : ℕ) (lab : ℕ → ℕ) (d : ℕ) : Type 0 where
-  -- where some node is safe, the rank falls, and something is always picked;
-  pub by-rank : (x : ℕ) → x < 2 ^ n → lab x ≡ 0 → Progress n lab d (rank lab d) (λ _. ⊥)
+  -- the rank falls, and nothing is picked only where no node is safe;
+  pub by-rank : Progress n lab d (rank lab d) (λ _. (x : ℕ) → x < 2 ^ n → lab x ≢ 0)
   -- where the destination is safe, the distance falls, and something is always picked;
   pub to-safe : lab d ≡ 0 → Progress n lab d (λ c. dist c d) (λ _. ⊥)
   -- where no node is safe, the distance falls, and nothing is picked only two or more away, where no neighbour nearer the destination works

@@ -23,9 +23,6 @@ use Rattle.theorems.proofs.Decision.{picked}
 
 -- ---- any walk: its steps are the decisions' own
 
-spot-suc : (go : ℕ → Decision) (s k i : ℕ) → turn go s k ≡ Hop i → spot go s (suc k) ≡ flip i (spot go s k)
-spot-suc go s k i e = ap (spot go s) (sym (add-one k)) ∙ spot-next go s k i e
-
 stops-is : {h : Decision} {b : Bool} (x : Decision) → h ≡ x → stops x ≡ b → stops h ≡ b
 stops-is x e f = ap stops e ∙ f
 
@@ -71,7 +68,7 @@ module _ (n : ℕ) (lab : ℕ → ℕ) (d : ℕ) (hd : d < 2 ^ n) (measure : ℕ
     pub decided : turn (route n lab d) s k ≡ Hop i
     pub inside : Inside n lab d (flip i (spot (route n lab d) s k))
     pub falls : measure (flip i (spot (route n lab d) s k)) < measure (spot (route n lab d) s k)
-    pub is : spot (route n lab d) s (suc k) ≡ flip i (spot (route n lab d) s k)
+    pub is : spot (route n lab d) s (k + 1) ≡ flip i (spot (route n lab d) s k)
 
   pub made : (k : ℕ) → k < hops n (route n lab d) s → On k → Made k
   unfolding turn stops
@@ -80,7 +77,7 @@ module _ (n : ℕ) (lab : ℕ → ℕ) (d : ℕ) (hd : d < 2 ^ n) (measure : ℕ
       go : Next n lab d hd measure Stuck P (spot (route n lab d) s k) → Made k
       go (arrive _ e) = absurd (clash (stops-is Deliver e refl) (hops-on n (route n lab d) s k h))
       go (stuck e _) = absurd (clash (stops-is Halted e refl) (hops-on n (route n lab d) s k h))
-      go (move i hi e q l) = record { i = i; dim = hi; decided = e; inside = q; falls = l; is = spot-suc (route n lab d) s k i e }
+      go (move i hi e q l) = record { i = i; dim = hi; decided = e; inside = q; falls = l; is = spot-next (route n lab d) s k i e }
 
   pub on : (k : ℕ) → k ≤ hops n (route n lab d) s → On k
   on zero h =
@@ -95,16 +92,19 @@ module _ (n : ℕ) (lab : ℕ → ℕ) (d : ℕ) (hd : d < 2 ^ n) (measure : ℕ
       go : On k → Made k → On (suc k)
       go o r =
           let m = left (either (apart (r .i) (spot (route n lab d) s k) d)) in
-          record { inside = rw (r .is) (r .inside); room = omega (arith, ap measure (r .is)); extra = m .0; even = m .1 }
+          record { inside = rw is (r .inside); room = omega (arith, ap measure is); extra = m .0; even = m .1 }
         where
+          is : spot (route n lab d) s (suc k) ≡ flip (r .i) (spot (route n lab d) s k)
+          is = ap (spot (route n lab d) s) (sym (add-one k)) ∙ r .is
+
           left : (apart (r .i) (spot (route n lab d) s k) d ≡ true) ⊎ (apart (r .i) (spot (route n lab d) s k) d ≡ false)
               → (m : ℕ) × (suc k + dist (spot (route n lab d) s (suc k)) d ≡ dist s d + 2 * m)
           left (inl a) =
               let f = dist-fall n (r .i) (spot (route n lab d) s k) d (o .inside .0) hd (r .dim) a in
-              (o .extra, omega (arith, o .even, ap (λ x. dist x d) (r .is)))
+              (o .extra, omega (arith, o .even, ap (λ x. dist x d) is))
           left (inr a) =
               let f = dist-rise n (r .i) (spot (route n lab d) s k) d (o .inside .0) hd (r .dim) a in
-              (suc (o .extra), omega (arith, o .even, ap (λ x. dist x d) (r .is)))
+              (suc (o .extra), omega (arith, o .even, ap (λ x. dist x d) is))
 
   -- how it ends
   pub end : ((last n (route n lab d) s ≡ Deliver) × (endOf n lab d s ≡ d)) ⊎ ((last n (route n lab d) s ≡ Halted) × Stuck (endOf n lab d s))

@@ -2,16 +2,15 @@
 use mathlib.Core.Bool.{true, false}
 use mathlib.Core.Logic.{_⊎_, inl, inr, ⊎-elim}
 use mathlib.Core.Path.{_≡_, refl, sym, ap, subst, _∙_}
-use Prim.Native.Nat.{ℕ, suc, _+_, _*_, _^_, _≤_, _<_}
-use native.Mathlib.Numerals.{add-one}
+use Prim.Native.Nat.{ℕ, _+_, _*_, _^_, _≤_, _<_}
 use native.Mathlib.Omega.{arith}
-use lib.Dec.{eqb, ltb}
-use borrow.Author.Tests.{eq-eqb, ne-eqb, eqb-true, eqb-false, lt-leb, le-ltb}
+use lib.Dec.{ltb}
+use borrow.Author.Tests.{eq-eqb, ne-eqb, lt-leb, le-ltb}
 use Rattle.cube.specs.Cube.{apart, dist, flip}
 use Rattle.cube.specs.Refusal.{first}
 use Rattle.cube.specs.Tables.{highest, isDimension}
 use Rattle.cube.proofs.Bools.{either, is-false}
-use Rattle.cube.proofs.Search.{find, some-none}
+use Rattle.cube.proofs.Search.{some-none}
 use Rattle.cube.proofs.Cube.{flip-lt}
 use Rattle.jobs.specs.Jobs.{isJob, labelBytes}
 use Rattle.jobs.proofs.Halves.{is-job}
@@ -26,7 +25,7 @@ use Rattle.walk.specs.declared.Ending.the-variants as ending
 use Rattle.walk.specs.declared.Walked.{Walked}
 use Rattle.walk.proofs.Steps.{spot-zero}
 use Rattle.theorems.specs.Demand3.{Stepped, Arrives, Stuck, Walks, Demand3}
-use Rattle.theorems.specs.Words.{Accepted, Falls, NoneTwice, Takes, Works, labelAt, SomeSafe, walkOf, place}
+use Rattle.theorems.specs.Words.{Accepted, NoneTwice, Takes, Works, labelAt, SomeSafe, walkOf, place}
 use Rattle.theorems.proofs.Demand2.{out-label, receives, works}
 use Rattle.theorems.proofs.Places.{row-unused, row-used}
 use Rattle.theorems.proofs.Repeats.{walk-repeats}
@@ -74,27 +73,13 @@ module _ (K : Cabinet) (j : ℕ) (T : Table K j) (s d : ℕ) (hs : Works K s) (h
   abbrev facts : WalkFacts n lab d s
   facts = walk-facts n lab (T .good) d (hd .0) wd s (hs .0) ws
 
-  data Ended : Type 0 where
-    delivered : (m : ℕ) → m ≤ lab s → Delivers n lab d s m → Ended
-    halted : Halts n lab d s → Ended
-
-  how : Ended
-  how = go (find (2 ^ n) (λ x. eqb (lab x) 0))
-    where
-      go : ((x : ℕ) × (x < 2 ^ n) × (eqb (lab x) 0 ≡ true)) ⊎ ((x : ℕ) → x < 2 ^ n → eqb (lab x) 0 ≡ false) → Ended
-      go (inl r) = delivered (lab s) (omega arith) (facts .some-safe (r .0, r .1, eqb-true (lab (r .0)) 0 (r .2)))
-      go (inr f) =
-          ⊎-elim (λ (D : Delivers n lab d s 0). delivered 0 (omega arith) D) (λ (H : Halts n lab d s). halted H)
-          (facts .none-safe (λ x. eqb-false (lab (x .0)) 0 (f (x .0) (x .1)) (x .2)))
+  abbrev Ended : Type 0
+  Ended = Delivers n lab d s (lab s) ⊎ Halts n lab d s
 
   ends : Ended → stops (last n (route n lab d) s) ≡ true
   unfolding stops
-  ends (delivered m l D) = ap stops (D .ended)
-  ends (halted H) = ap stops (H .ended)
-
-  kept : Ended → Kept n lab d s
-  kept (delivered m l D) = D .kept
-  kept (halted H) = H .kept
+  ends (inl D) = ap stops (D .ended)
+  ends (inr H) = ap stops (H .ended)
 
   -- ---- so it is not refused, and the answer is the walk
 
@@ -110,7 +95,7 @@ module _ (K : Cabinet) (j : ℕ) (T : Table K j) (s d : ℕ) (hs : Works K s) (h
         some-none (2 ^ n) (λ x. ltb highest (lab x)) (λ x h. le-ltb highest (lab x) (label-bytes K x h)),
         lt-leb 3 (lab s) (omega (arith, ws)),
         ne-eqb (lab d) 3 (λ e. ⊎-elim (λ (l : lab d ≤ 2). omega arith) (λ (q : Draining (lab d)). omega arith) wd),
-        ends how,
+        ends (facts .how),
       )
 
   abbrev w : Walked
@@ -127,9 +112,6 @@ module _ (K : Cabinet) (j : ℕ) (T : Table K j) (s d : ℕ) (hs : Works K s) (h
   abbrev end-place : place w (hops n (route n lab d) s) ≡ endOf n lab d s
   end-place = used (hops n (route n lab d) s) (omega arith)
 
-  used-next : (k : ℕ) → k < hops n (route n lab d) s → place w (k + 1) ≡ spot (route n lab d) s (suc k)
-  used-next k h = used (k + 1) (omega arith) ∙ ap (spot (route n lab d) s) (add-one k)
-
   works-at : (x : ℕ) → x < 2 ^ n → lab x ≤ 2 → Works K x
   works-at x h l = (h, is-false (λ t. omega (arith, T .out-high x h t)))
 
@@ -140,7 +122,7 @@ module _ (K : Cabinet) (j : ℕ) (T : Table K j) (s d : ℕ) (hs : Works K s) (h
         begins = used 0 (omega arith) ∙ spot-zero (route n lab d) s;
         steps = λ k h. let r = W .steps k h in
             let here = used k (omega arith) in
-            (r .0, r .1, rw here (r .2), used-next k h ∙ r .3 ∙ ap (flip (r .0)) (sym here));
+            (r .0, r .1, rw here (r .2), used (k + 1) (omega arith) ∙ r .3 ∙ ap (flip (r .0)) (sym here));
         works = λ k h. let r = W .works k h in rw (used k (omega arith)) (works-at (spot (route n lab d) s k) (r .0) (r .1));
         last-works =
             let r = W .end in
@@ -160,7 +142,7 @@ module _ (K : Cabinet) (j : ℕ) (T : Table K j) (s d : ℕ) (hs : Works K s) (h
       why : (i : ℕ) → i < n → apart i (endOf n lab d s) d ≡ true → out K (flip i (endOf n lab d s)) ≡ true
       why i h a =
           let x = flip i (endOf n lab d s) in
-          let l : x < 2 ^ n = flip-lt n i (endOf n lab d s) h (H .kept .end .0) in
+          let l : x < 2 ^ n = flip-lt n i (endOf n lab d s) h (facts .kept .end .0) in
           ⊎-elim (λ (t : out K x ≡ true). t) (λ (t : out K x ≡ false). absurd (omega (arith, H .why i h a, T .working x l t)))
           (either (out K x))
 
@@ -168,21 +150,21 @@ module _ (K : Cabinet) (j : ℕ) (T : Table K j) (s d : ℕ) (hs : Works K s) (h
   at-most x = let D = facts .some-safe x in omega (arith, D .exact, D .few)
 
   even : w .ending ≡ ending.Delivered → Ended → (e : ℕ) × (e ≤ lab s) × (w .hops ≡ dist s d + 2 * e)
-  even e (delivered m l D) = (D .extra, omega (arith, D .few), D .exact)
-  even e (halted H) = let q = stuck H .ending in let z : _≡_ {A = ℕ} 0 1 = cc in absurd (omega arith)
+  even e (inl D) = (D .extra, omega (arith, D .few), omega (arith, D .exact))
+  even e (inr H) = let q = stuck H .ending in let z : _≡_ {A = ℕ} 0 1 = cc in absurd (omega arith)
 
   never-refused : (k : ℕ) → w .ending ≡ ending.Refused k → Ended → ⊥
-  never-refused k e (delivered m l D) = let q = arrives D .ending in let z : _≡_ {A = ℕ} 0 1 = cc in omega arith
-  never-refused k e (halted H) = let q = stuck H .ending in let z : _≡_ {A = ℕ} 0 1 = cc in omega arith
+  never-refused k e (inl D) = let q = arrives D .ending in let z : _≡_ {A = ℕ} 0 1 = cc in omega arith
+  never-refused k e (inr H) = let q = stuck H .ending in let z : _≡_ {A = ℕ} 0 1 = cc in omega arith
 
   -- ---- what falls
 
-  falls : SomeSafe n lab → Falls (rank lab d) w
-  falls x k h =
+  falls : (k : ℕ) → k < w .hops → rank lab d (place w (k + 1)) < rank lab d (place w k)
+  falls k h =
       omega (
         arith,
-        facts .rank-falls x k h,
-        ap (rank lab d) (used-next k h),
+        facts .rank-falls k h,
+        ap (rank lab d) (used (k + 1) (omega arith)),
         ap (rank lab d) (used k (omega arith)),
       )
 
@@ -196,7 +178,7 @@ module _ (K : Cabinet) (j : ℕ) (T : Table K j) (s d : ℕ) (hs : Works K s) (h
   meets-demand =
       rw answer
       (record {
-        stepped = stepped (kept how);
+        stepped = stepped (facts .kept);
         arrives = λ x. arrives (facts .some-safe x);
         exact = ⊎-elim (λ (e : lab s ≡ 0). let D = facts .some-safe (s, hs .0, e) in omega (arith, D .exact, D .few))
             (λ (e : lab d ≡ 0). let D = facts .to-safe e in omega (arith, D .exact, D .few));
@@ -204,8 +186,8 @@ module _ (K : Cabinet) (j : ℕ) (T : Table K j) (s d : ℕ) (hs : Works K s) (h
         strong = λ x e. omega (arith, at-most x);
         none-safe = λ none. ⊎-elim (λ (D : Delivers n lab d s 0). inl (arrives D, omega (arith, D .exact, D .few)))
             (λ (H : Halts n lab d s). inr (stuck H)) (facts .none-safe none);
-        even = λ e. even e how;
-        never-refused = λ k e. never-refused k e how;
+        even = λ e. even e (facts .how);
+        never-refused = λ k e. never-refused k e (facts .how);
         once = subst NoneTwice answer (walk-repeats n j s d (labelBytes n) rowBytes lab accepted .once);
         falls = falls;
         nearer = λ c. nearer (facts .nears c);

@@ -1,9 +1,9 @@
--- Walks with good labels. The scans give three measures that fall with each hop: the rank where some node is safe, and the distance where the destination is
--- or no node is. What a walk that makes progress has by each of them is read here: how it ends, after how many hops, and what falls.
+-- Walks with good labels. The scans give measures that fall with each hop: the rank, and where the destination is safe or no node is, the distance. What a walk
+-- that makes progress has by each of them is read here: how it ends, after how many hops, and what falls.
 use mathlib.Core.Path.{_≡_, ap}
-use mathlib.Core.Logic.{_⊎_, inl, inr, ⊎-elim}
+use mathlib.Core.Logic.{_⊎_, inl, inr, ⊎-elim, _≢_}
 use mathlib.Core.Bool.{true}
-use Prim.Native.Nat.{ℕ, suc, _+_, _*_, _^_, _≤_, _<_}
+use Prim.Native.Nat.{ℕ, _+_, _*_, _^_, _≤_, _<_}
 use native.Mathlib.Omega.{arith}
 use Rattle.cube.specs.Cube.{flip, apart, dist}
 use Rattle.cube.proofs.Count.{count-bound}
@@ -22,7 +22,7 @@ pub record Kept (n : ℕ) (lab : ℕ → ℕ) (d s : ℕ) : Type 0 where
   pub end : Inside n lab d (endOf n lab d s)
   pub steps :
       (k : ℕ) → k < hops n (route n lab d) s
-      → (i : ℕ) × (i < n) × (turn (route n lab d) s k ≡ Hop i) × (spot (route n lab d) s (suc k) ≡ flip i (spot (route n lab d) s k))
+      → (i : ℕ) × (i < n) × (turn (route n lab d) s k ≡ Hop i) × (spot (route n lab d) s (k + 1) ≡ flip i (spot (route n lab d) s k))
 
 -- delivered, with at most `most` pairs of hops more than the distance
 pub record Delivers (n : ℕ) (lab : ℕ → ℕ) (d s most : ℕ) : Type 0 where
@@ -31,25 +31,23 @@ pub record Delivers (n : ℕ) (lab : ℕ → ℕ) (d s most : ℕ) : Type 0 wher
   pub extra : ℕ
   pub few : extra ≤ most
   pub exact : hops n (route n lab d) s ≡ dist s d + 2 * extra
-  pub kept : Kept n lab d s
 
 -- halted two or more away, where no neighbour nearer the destination works
 pub record Halts (n : ℕ) (lab : ℕ → ℕ) (d s : ℕ) : Type 0 where
   pub ended : last n (route n lab d) s ≡ Halted
   pub far : 1 < dist (endOf n lab d s) d
   pub why : (i : ℕ) → i < n → apart i (endOf n lab d s) d ≡ true → 2 < lab (flip i (endOf n lab d s))
-  pub kept : Kept n lab d s
 
 -- after k hops the walk is k nearer
 abbrev pub Nears : (n : ℕ) (lab : ℕ → ℕ) (d s : ℕ) → Type 0
 Nears n lab d s = (k : ℕ) → k ≤ hops n (route n lab d) s → dist (spot (route n lab d) s k) d + k ≡ dist s d
 
 pub record WalkFacts (n : ℕ) (lab : ℕ → ℕ) (d s : ℕ) : Type 0 where
-  -- some node is safe: delivered, with at most as many pairs of extra hops as the source's label (0 safe, 1 ordinarily, 2 strongly unsafe), and the rank falls
+  pub kept : Kept n lab d s
+  pub rank-falls : (k : ℕ) → k < hops n (route n lab d) s → rank lab d (spot (route n lab d) s (k + 1)) < rank lab d (spot (route n lab d) s k)
+  pub how : Delivers n lab d s (lab s) ⊎ Halts n lab d s
+  -- some node is safe: delivered, with at most as many pairs of extra hops as the source's label (0 safe, 1 ordinarily, 2 strongly unsafe)
   pub some-safe : SomeSafe n lab → Delivers n lab d s (lab s)
-  pub rank-falls :
-      SomeSafe n lab → (k : ℕ) → k < hops n (route n lab d) s
-      → rank lab d (spot (route n lab d) s (suc k)) < rank lab d (spot (route n lab d) s k)
   -- the destination is safe: delivered in exactly the distance
   pub to-safe : lab d ≡ 0 → Delivers n lab d s 0
   -- no node is safe: delivered in exactly the distance, or halted
@@ -85,7 +83,6 @@ module _ (n : ℕ) (lab : ℕ → ℕ) (G : Good n lab) (d : ℕ) (hd : d < 2 ^ 
           extra = o .extra;
           few = omega (arith, o .room, o .even, ap (λ x. dist x d) t, dist-self d);
           exact = omega (arith, o .even, ap (λ x. dist x d) t, dist-self d);
-          kept = kept;
         }
 
     -- it is delivered, or stuck
@@ -96,7 +93,7 @@ module _ (n : ℕ) (lab : ℕ → ℕ) (G : Good n lab) (d : ℕ) (hd : d < 2 ^ 
         (λ (e : (last n (route n lab d) s ≡ Halted) × Stuck (endOf n lab d s)). inr e)
         (end n lab d hd measure Stuck P s (hs, inl ws) fuel)
 
-    falls : (k : ℕ) → k < hops n (route n lab d) s → measure (spot (route n lab d) s (suc k)) < measure (spot (route n lab d) s k)
+    falls : (k : ℕ) → k < hops n (route n lab d) s → measure (spot (route n lab d) s (k + 1)) < measure (spot (route n lab d) s k)
     falls k h =
         let r = made n lab d hd measure Stuck P s (hs, inl ws) fuel k h (here k (omega arith)) in
         omega (arith, r .falls, ap measure (r .is))
@@ -114,18 +111,24 @@ module _ (n : ℕ) (lab : ℕ → ℕ) (G : Good n lab) (d : ℕ) (hd : d < 2 ^ 
   near-rank : rank lab d s ≤ n + 4
   near-rank = omega (arith, rank-le lab d s, dist-le n s d hs hd)
 
+  abbrev Dark : Type 0
+  Dark = (x : ℕ) → x < 2 ^ n → lab x ≢ 0
+
+  -- it is delivered, or no node is safe
+  by-rank : Delivers n lab d s (lab s) ⊎ ((last n (route n lab d) s ≡ Halted) × Dark)
+  by-rank = outcome (rank lab d) (λ _. Dark) (progress .by-rank) near-rank (lab s) (omega (arith, rank-le lab d s))
+
   some-safe : SomeSafe n lab → Delivers n lab d s (lab s)
   some-safe x =
-      ⊎-elim (λ (D : Delivers n lab d s (lab s)). D) (λ (e : (last n (route n lab d) s ≡ Halted) × ⊥). absurd (e .1))
-      (outcome (rank lab d) (λ _. ⊥) (progress .by-rank (x .0) (x .1) (x .2)) near-rank (lab s) (omega (arith, rank-le lab d s)))
+      ⊎-elim (λ (D : Delivers n lab d s (lab s)). D) (λ (e : (last n (route n lab d) s ≡ Halted) × Dark). absurd (e .1 (x .0) (x .1) (x .2))) by-rank
 
-  rank-falls : SomeSafe n lab → (k : ℕ) → k < hops n (route n lab d) s
-      → rank lab d (spot (route n lab d) s (suc k)) < rank lab d (spot (route n lab d) s k)
-  rank-falls x = falls (rank lab d) (λ _. ⊥) (progress .by-rank (x .0) (x .1) (x .2)) near-rank
+  rank-falls : (k : ℕ) → k < hops n (route n lab d) s
+      → rank lab d (spot (route n lab d) s (k + 1)) < rank lab d (spot (route n lab d) s k)
+  rank-falls = falls (rank lab d) (λ _. Dark) (progress .by-rank) near-rank
 
   from-safe-nears : lab s ≡ 0 → Nears n lab d s
   from-safe-nears e =
-      nears (rank lab d) (λ _. ⊥) (progress .by-rank s hs e) near-rank (rank-ge lab d) (omega (arith, rank-le lab d s, e))
+      nears (rank lab d) (λ _. Dark) (progress .by-rank) near-rank (rank-ge lab d) (omega (arith, rank-le lab d s, e))
 
   module _ (e : lab d ≡ 0) where
     to-safe : Delivers n lab d s 0
@@ -147,17 +150,28 @@ module _ (n : ℕ) (lab : ℕ → ℕ) (G : Good n lab) (d : ℕ) (hd : d < 2 ^ 
     none-safe =
         ⊎-elim (λ (D : Delivers n lab d s 0). inl D)
         (λ (e : (last n (route n lab d) s ≡ Halted) × Stuck (endOf n lab d s)).
-        inr (record { ended = e .0; far = e .1 .0; why = e .1 .1; kept = kept (λ x. dist x d) Stuck dark near }))
+        inr (record { ended = e .0; far = e .1 .0; why = e .1 .1 }))
         (outcome (λ x. dist x d) Stuck dark near 0 (omega arith))
 
     none-safe-nears : Nears n lab d s
     none-safe-nears = nears (λ x. dist x d) Stuck dark near (λ x. omega arith) (omega arith)
 
+  how : Delivers n lab d s (lab s) ⊎ Halts n lab d s
+  how = ⊎-elim inl halted by-rank
+    where
+      more : Delivers n lab d s 0 → Delivers n lab d s (lab s)
+      more D = record { ended = D .ended; there = D .there; extra = D .extra; few = omega (arith, D .few); exact = D .exact }
+
+      halted : (last n (route n lab d) s ≡ Halted) × Dark → Delivers n lab d s (lab s) ⊎ Halts n lab d s
+      halted e = ⊎-elim (λ D. inl (more D)) inr (none-safe (λ x. e .1 (x .0) (x .1) (x .2)))
+
   pub walk-facts : WalkFacts n lab d s
   walk-facts =
       record {
-        some-safe = some-safe;
+        kept = kept (rank lab d) (λ _. Dark) (progress .by-rank) near-rank;
         rank-falls = rank-falls;
+        how = how;
+        some-safe = some-safe;
         to-safe = to-safe;
         none-safe = none-safe;
         nears = ⊎-elim from-safe-nears (⊎-elim to-safe-nears none-safe-nears);

@@ -11,7 +11,7 @@ use Rattle.hop.specs.Hop.{hop}
 use Rattle.hop.specs.declared.Decision.the-variants.{Deliver, Hop, Halted}
 use Rattle.walk.specs.declared.Ending.the-variants as ending
 use Rattle.walk.specs.declared.Walked.{Walked}
-use Rattle.theorems.specs.Words.{Accepted, Falls, NoneTwice, SomeSafe, Takes, Works, labelAt, place, walkOf}
+use Rattle.theorems.specs.Words.{Accepted, NoneTwice, SomeSafe, Takes, Works, labelAt, place, walkOf}
 
 -- the hop count is the number of steps that ROUTE takes: the row begins at the source, each place is the decision's own at the place before,
 -- and the walk ends where the decision says so; every node before the last works, and so does the last unless it is the destination
@@ -54,9 +54,9 @@ pub record Walks (K : Cabinet) (lab : ℕ → ℕ) (s d : ℕ) (w : Walked) : Ty
   pub never-refused : (k : ℕ) → w .ending ≡ ending.Refused k → ⊥
   -- "no node stands twice among the places of a walk's row that are used", delivered or halted (document 02, A8)
   pub once : NoneTwice w
-  -- where some node is safe, the rank falls with every hop;
-  pub falls : SomeSafe (K .n) lab → Falls (rank lab d) w
-  -- where either end is safe, or no node is, the distance, by one
+  -- with every hop the rank falls, which is the distance, and from 2 on twice the label besides;
+  pub falls : (k : ℕ) → k < w .hops → rank lab d (place w (k + 1)) < rank lab d (place w k)
+  -- and where either end is safe, or no node is, the distance falls, by one
   pub nearer :
       (lab s ≡ 0) ⊎ (lab d ≡ 0) ⊎ (SomeSafe (K .n) lab → ⊥) → (k : ℕ) → k < w .hops → dist (place w (k + 1)) d + 1 ≡ dist (place w k) d
 

@@ -44,7 +44,3 @@ usedPlaces w = w .hops + 1
 
 abbrev pub NoneTwice : Walked → Type 0
 NoneTwice w = (k m : ℕ) → k < m → m < usedPlaces w → place w k ≢ place w m
-
--- a measure of the nodes falls with every hop
-abbrev pub Falls : (measure : ℕ → ℕ) → Walked → Type 0
-Falls measure w = (k : ℕ) → k < w .hops → measure (place w (k + 1)) < measure (place w k)

@@ -1,11 +1,10 @@
--- No node twice. Were a frame at one node after k and after m hops, m the larger, it would go on from both alike: as many hops after the first as it makes
--- after the second, it would stand where it ends, and no hop would be decided there. But that is before its last hop.
+-- Suppose that a frame is at one node after k hops and again after m, k < m. From both it goes on alike. It ends t - m hops after the second time; so as many
+-- hops after the first time it stands at its last node, where no hop is decided. But that is before its last hop, and there one was.
 use mathlib.Core.Bool.{true}
 use mathlib.Core.Logic.{_≢_}
-use mathlib.Core.Path.{_≡_, sym, ap, _∙_}
+use mathlib.Core.Path.{_≡_, ap, _∙_}
 use Prim.Native.Nat.{ℕ, zero, suc, _+_, _-_, _≤_, _<_}
 use native.Mathlib.Omega.{arith}
-use Rattle.cube.specs.Cube.{flip}
 use Rattle.cube.proofs.Bools.{clash}
 use Rattle.hop.specs.declared.Decision.{Decision}
 use Rattle.walk.specs.Once.{Forwarded, Once}
@@ -19,15 +18,14 @@ module _ (go : ℕ → Decision) where
     alike k m l e zero h =
         let p : k + 0 ≡ k = omega arith in
         let q : m + 0 ≡ m = omega arith in
-        ap at p ∙ e ∙ sym (ap at q)
+        cc
     alike k m l e (suc r) h =
         let same = alike k m l e r (omega arith) in
         let one = forwarded (k + r) (omega arith) in
         let other = forwarded (m + r) (omega arith) in
-        let i : one .0 ≡ other .0 = cc (ap go same) in
         let p : k + suc r ≡ k + r + 1 = omega arith in
         let q : m + suc r ≡ m + r + 1 = omega arith in
-        ap at p ∙ one .2 ∙ ap (flip (one .0)) same ∙ ap (λ (x : ℕ). flip x (at (m + r))) i ∙ sym (other .2) ∙ sym (ap at q)
+        cc
 
     frame : stops (go (at t)) ≡ true → (k m : ℕ) → k < m → m ≤ t → at k ≢ at m
     unfolding stops

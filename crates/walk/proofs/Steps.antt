@@ -1,5 +1,6 @@
--- The walk as a loop takes it. What holds each time round is one record: the message stands where the walk is after its hops, no decision so far ended it,
--- and the row holds the nodes up to here. The laws: it holds at the start, a hop keeps it, and each way out of the loop gives the walk's answer.
+-- What the node after each hop and the hop count are; and the walk as a loop takes it. What holds each time round is one record: the message stands where the
+-- walk is after its hops, no decision so far ended it, and the row holds the nodes up to here. The laws: it holds at the start, a hop keeps it, and each way
+-- out of the loop gives the walk's answer.
 use mathlib.Core.Path.{_≡_, refl, sym, ap, ap₂, _∙_}
 use mathlib.Core.Bool.{true, false, cond}
 use mathlib.Core.List.{List}

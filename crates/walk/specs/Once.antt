@@ -18,5 +18,5 @@ pub record Once (go : ℕ → Decision) : Type 0 where
   -- a frame that is forwarded t times, and for which no hop is decided then, was at no node twice;
   pub frame :
       (at : ℕ → ℕ) (t : ℕ) → Forwarded (λ x a. go x ≡ a) at t → stops (go (at t)) ≡ true → (k m : ℕ) → k < m → m ≤ t → at k ≢ at m
-  -- nor was a walk that ends
+  -- so neither was a walk that is delivered or halted
   pub walk : (n s : ℕ) → stops (last n go s) ≡ true → (k m : ℕ) → k < m → m ≤ hops n go s → spot go s k ≢ spot go s m
