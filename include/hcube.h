@@ -210,10 +210,11 @@ uint32_t hcube_hop(uint32_t n, uint32_t job, uint32_t c, uint32_t d,
  * Walks for a job from node s to node d, one hcube_hop after the other, over a
  * half of any label bytes 0 to 4; the other half may hold any bytes at all. d
  * may be draining. Whatever the half, every node of the walk before its last
- * works, and none is visited twice. So a frame that is sent on by hcube_hop, each
- * node asking it with the same labels, passes no node twice. On labels that
- * hcube_label did not write it may go round for ever instead; then the walk is
- * refused with 8.
+ * works, and none is visited twice. So a frame that is sent on by hcube_hop,
+ * each node asking it with the same labels, has passed no node twice when it
+ * arrives or halts. With the labels that hcube_label wrote it always does one of
+ * the two; with others it may go round for ever, and then the walk is refused
+ * with 8.
  *
  * Refusals, in order:
  *   1   n is not 1 to 12
