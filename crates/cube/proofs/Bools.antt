@@ -40,6 +40,10 @@ pub or-right : (a : Bool) {b : Bool} → b ≡ true → (a || b) ≡ true
 or-right true q = refl
 or-right false q = q
 
+pub or-none : (a : Bool) {b : Bool} → b ≡ false → (a || b) ≡ a
+or-none true q = refl
+or-none false q = q
+
 pub not-itself : (b : Bool) → not b ≡ b → ⊥
 not-itself true e = clash refl (sym e)
 not-itself false e = clash refl e

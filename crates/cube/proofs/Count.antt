@@ -1,4 +1,4 @@
--- Laws of counting: what `count` says of two tests, and how a loop that goes up by one learns it.
+-- Laws of counting: what `count` says of two tests, of a test with one place fewer, and how a loop that goes up by one learns it.
 use mathlib.Core.Path.{_≡_, refl, sym, ap, _∙_, subst}
 use mathlib.Core.Logic.{_⊎_, inl, inr, ⊎-elim, _≢_}
 use mathlib.Core.Bool.{Bool, true, false, not, _&&_, _||_}
@@ -7,9 +7,9 @@ use native.Mathlib.Omega.{arith}
 use native.Mathlib.Nat.{eq-or-lt-of-le, le-of-suc-le-suc}
 use native.Mathlib.Numerals.{add-one}
 use lib.Dec.{eqb}
-use borrow.Author.Tests.{eq-eqb, ne-eqb}
+use borrow.Author.Tests.{eqb-false, ne-eqb, not-true}
 use Rattle.cube.specs.Count.{count}
-use Rattle.cube.proofs.Bools.{and-both, clash, either}
+use Rattle.cube.proofs.Bools.{and-both, and-true, clash, either, is-false}
 
 pub below-suc : {i n : ℕ} → i < suc n → (i ≡ n) ⊎ (i < n)
 below-suc h = eq-or-lt-of-le (le-of-suc-le-suc h)
@@ -33,6 +33,10 @@ count-bound (suc n) p = go (count-bound n p) (either (p n))
     go : count n p ≤ n → (p n ≡ true) ⊎ (p n ≡ false) → count (suc n) p ≤ suc n
     go ih (inl e) = omega (arith, count-yes n p e)
     go ih (inr e) = omega (arith, count-no n p e)
+
+pub count-all : (n : ℕ) → count n (λ _. true) ≡ n
+count-all zero = count-zero (λ _. true)
+count-all (suc n) = count-yes n (λ _. true) refl ∙ ap suc (count-all n)
 
 -- in more places no fewer
 pub count-up : (j i : ℕ) (p : ℕ → Bool) → j ≤ i → count j p ≤ count i p
@@ -78,6 +82,10 @@ count-pos (suc n) p i h e = go (λ k. count-pos n p i k e) (either (p n)) (below
 pub count-none : (n : ℕ) (p : ℕ → Bool) → ((i : ℕ) → i < n → p i ≡ false) → count n p ≡ 0
 count-none zero p f = count-zero p
 count-none (suc n) p f = count-no n p (f n (omega arith)) ∙ count-none n p (λ i h. f i (omega arith))
+
+-- what is counted is somewhere
+pub counted : (n : ℕ) (p : ℕ → Bool) → 0 < count n p → (i : ℕ) × (i < n) × (p i ≡ true)
+counted n p h = let r = pigeon n (λ _. false) p (omega (arith, count-none n (λ _. false) (λ _ _. refl))) in (r .0, r .1, r .2)
 
 pub count-same : (n : ℕ) (p q : ℕ → Bool) → ((i : ℕ) → i < n → p i ≡ q i) → count n p ≡ count n q
 count-same n p q f = omega (arith, count-le n p q (λ i h e. sym (f i h) ∙ e), count-le n q p (λ i h e. f i h ∙ e))
@@ -131,20 +139,53 @@ count-union (suc n) p q r f = go (count-union n p q r (λ i h. f i (omega arith)
     go ih (inl e) = held ih e (f n (omega arith) e)
     go ih (inr e) = omega (arith, count-no n p e, more q, more r)
 
+-- ---- one place fewer
+
+-- p, but not at i
+unfoldable pub without : (ℕ → Bool) → ℕ → ℕ → Bool
+without p i j = not (eqb j i) && p j
+
+pub without-says : (p : ℕ → Bool) (i j : ℕ) → without p i j ≡ true → (p j ≡ true) × (j ≢ i)
+unfolding without
+without-says p i j e = let a = and-true (not (eqb j i)) (p j) e in (a .1, eqb-false j i (not-true (eqb j i) (a .0)))
+
+pub without-is : (p : ℕ → Bool) (i j : ℕ) → p j ≡ true → j ≢ i → without p i j ≡ true
+unfolding without
+without-is p i j e d = and-both (ap not (ne-eqb j i d)) e
+
+pub without-self : (p : ℕ → Bool) (i : ℕ) → without p i i ≡ false
+without-self p i = is-false (λ t. without-says p i i t .1 refl)
+
+pub count-without : (n : ℕ) (p : ℕ → Bool) (i : ℕ) → i < n → p i ≡ true → count n p ≡ suc (count n (without p i))
+unfolding without
+count-without n p i h e = count-more n i (without p i) p h (without-self p i) e (λ j _ d. rw (ne-eqb j i d))
+
+-- q holds wherever p does, but perhaps not at i
+pub count-but-one : (n : ℕ) (p q : ℕ → Bool) (i : ℕ) → i < n → ((j : ℕ) → j < n → j ≢ i → p j ≡ true → q j ≡ true) → count n p ≤ suc (count n q)
+count-but-one n p q i h f = go (either (p i))
+  where
+    others : count n (without p i) ≤ count n q
+    others = count-le n (without p i) q (λ j l e. let a = without-says p i j e in f j l (a .1) (a .0))
+
+    go : (p i ≡ true) ⊎ (p i ≡ false) → count n p ≤ suc (count n q)
+    go (inl e) = omega (arith, others, count-without n p i h e)
+    go (inr e) = omega (arith, count-le n p q (λ j l t. f j l (λ k. clash t (ap p k ∙ e)) t))
+
+-- p holds at i at most
+pub count-alone : (n : ℕ) (p : ℕ → Bool) (i : ℕ) → i < n → ((j : ℕ) → j < n → j ≢ i → p j ≡ true → ⊥) → count n p ≤ 1
+count-alone n p i h f =
+    omega (arith, count-but-one n p (λ _. false) i h (λ j l d t. absurd (f j l d t)), count-none n (λ _. false) (λ _ _. refl))
+
 -- where f takes the places below m that have p to places below n that have q, no two to the same, p is counted no oftener than q
 pub count-into : (m n : ℕ) (p q : ℕ → Bool) (f : ℕ → ℕ) → ((i : ℕ) → i < m → p i ≡ true → (f i < n) × (q (f i) ≡ true))
     → ((i j : ℕ) → i < m → j < m → f i ≡ f j → i ≡ j) → count m p ≤ count n q
 count-into zero n p q f into one = omega (arith, count-zero p)
 count-into (suc m) n p q f into one = go (count-into m n p) (either (p m))
   where
-    -- q, but not where f takes m
-    rest : ℕ → Bool
-    rest y = not (eqb y (f m)) && q y
-
-    others : p m ≡ true → (i : ℕ) → i < m → p i ≡ true → (f i < n) × (rest (f i) ≡ true)
+    others : p m ≡ true → (i : ℕ) → i < m → p i ≡ true → (f i < n) × (without q (f m) (f i) ≡ true)
     others t i h e =
         let a = into i (omega arith) e in
-        (a .0, and-both (ap not (ne-eqb (f i) (f m) (λ s. let z = one i m (omega arith) (omega arith) s in omega arith))) (a .1))
+        (a .0, without-is q (f m) (f i) (a .1) (λ s. let z = one i m (omega arith) (omega arith) s in omega arith))
 
     go : ((r : ℕ → Bool) (g : ℕ → ℕ) → ((i : ℕ) → i < m → p i ≡ true → (g i < n) × (r (g i) ≡ true))
         → ((i j : ℕ) → i < m → j < m → g i ≡ g j → i ≡ j) → count m p ≤ count n r)
@@ -154,8 +195,8 @@ count-into (suc m) n p q f into one = go (count-into m n p) (either (p m))
         omega (
           arith,
           count-yes m p t,
-          ih rest f (others t) (λ i j h k. one i j (omega arith) (omega arith)),
-          count-more n (f m) rest q (a .0) (rw (eq-eqb (f m) (f m) refl)) (a .1) (λ y h d. rw (ne-eqb y (f m) d)),
+          ih (without q (f m)) f (others t) (λ i j h k. one i j (omega arith) (omega arith)),
+          count-without n q (f m) (a .0) (a .1),
         )
     go ih (inr t) =
         omega (arith, count-no m p t, ih q f (λ i h. into i (omega arith)) (λ i j h k. one i j (omega arith) (omega arith)))

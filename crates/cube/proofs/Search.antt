@@ -1,14 +1,14 @@
 -- Laws of searching: what `least`, `some` and `largest` say, and how a loop that goes up by one learns them.
 use mathlib.Core.Path.{_≡_, refl, sym, ap, _∙_}
 use mathlib.Core.Logic.{_⊎_, inl, inr, ⊎-elim}
-use mathlib.Core.Bool.{Bool, true, false, _||_}
+use mathlib.Core.Bool.{Bool, true, false, _&&_, _||_}
 use Prim.Native.Nat.{ℕ, zero, suc, _+_, _≤_, _<_}
 use native.Mathlib.Omega.{arith}
 use native.Mathlib.Numerals.{add-one}
 use lib.Dec.{ltb}
 use borrow.Author.Tests.{ltb-true, ltb-false, lt-ltb, le-ltb}
 use Rattle.cube.specs.Count.{larger, largest, least, some}
-use Rattle.cube.proofs.Bools.{either, clash, or-left, or-right}
+use Rattle.cube.proofs.Bools.{and-both, and-true, either, clash, or-left, or-right}
 use Rattle.cube.proofs.Count.{below-suc}
 
 least-old : (n : ℕ) (p : ℕ → Bool) → least n p < n → least (suc n) p ≡ least n p
@@ -117,6 +117,13 @@ some-none n p f = le-ltb (least n p) n (omega (arith, least-none n p f))
 pub some-found : (n : ℕ) (p : ℕ → Bool) → some n p ≡ true → (i : ℕ) × (i < n) × (p i ≡ true)
 unfolding some
 some-found n p e = let l = ltb-true (least n p) n e in (least n p, l, the-least n p .hit l)
+
+-- of two tests
+pub both-hit : (n : ℕ) (p q : ℕ → Bool) (i : ℕ) → i < n → p i ≡ true → q i ≡ true → some n (λ j. p j && q j) ≡ true
+both-hit n p q i h e f = some-hit n (λ j. p j && q j) i h (and-both e f)
+
+pub both-found : (n : ℕ) (p q : ℕ → Bool) → some n (λ j. p j && q j) ≡ true → (i : ℕ) × (i < n) × (p i ≡ true) × (q i ≡ true)
+both-found n p q e = let (i, h, t) = some-found n (λ j. p j && q j) e in let r = and-true (p i) (q i) t in (i, h, r .0, r .1)
 
 pub none-some : (n : ℕ) (p : ℕ → Bool) → some n p ≡ false → (i : ℕ) → i < n → p i ≡ false
 unfolding some

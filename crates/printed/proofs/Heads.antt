@@ -1,14 +1,17 @@
 -- What is printed for the notice, as the code comes to it. The fault table t has the length that the notice asks for, so the reader's answer is the
 -- notice itself; an accepted notice leaves a good fault table, so labelling does not refuse it.
-use mathlib.Core.Path.{_≡_, refl, sym, ap, _∙_}
+use mathlib.Core.Path.{_≡_, refl, sym, ap, subst, _∙_}
 use mathlib.Core.List.{List, _++_}
-use Prim.Native.Nat.{ℕ, _^_, _≤_}
+use mathlib.Core.Logic.{inl}
+use Prim.Native.Nat.{ℕ, _^_, _≤_, _<_}
 use native.Mathlib.Omega.{arith}
+use lib.Dec.{eqb}
 use lib.ListN.{drop, length, length-replicate, replicate, take}
 use lib.Seq.{take-at}
 use borrow.Author.Tests.{eq-eqb}
 use Rattle.cube.specs.Refusal.{first}
-use Rattle.cube.specs.Tables.{emptyTable, tableLen}
+use Rattle.cube.specs.Tables.{emptyTable, labelIn, nodeBit, tableLen}
+use Rattle.cube.proofs.Count.{count-pos, count-same}
 use Rattle.cube.proofs.Tables.{nodes-few, table-few, zeros-behind, zeros-unused}
 use Rattle.groups.specs.Number.{onNumber}
 use Rattle.groups.specs.declared.Number.{Number}
@@ -25,8 +28,11 @@ use Rattle.notice.specs.declared.Noticed.the-variants.{Notice, Refused}
 use Rattle.notice.proofs.Cases.{on-number, tested-passes, tested-refused}
 use Rattle.notice.proofs.Laws.{notice-laws}
 use Rattle.notice.proofs.Opened.{opened-dimension, opened-notice}
-use Rattle.rule.specs.Cabinet.{Cabinet, cabinet, labelsOf}
-use Rattle.lines.specs.Lines.{noticeRefused, room}
+use Rattle.rule.specs.Cabinet.{Cabinet, labelsOf, out, plain}
+use Rattle.rule.proofs.Cabinet.{labels-length, plain-out}
+use Rattle.enough.specs.Enough.{outOfWork}
+use Rattle.enough.proofs.Enough.{few-out-safe}
+use Rattle.lines.specs.Lines.{labelCount, noticeRefused, room}
 use Rattle.printed.specs.Printed.{Headed, cabinetOf, firstLine, headLine, labelsIn, wantedLen}
 
 -- a number that is no dimension, or one of the table's length, passes the test of the length
@@ -84,18 +90,17 @@ module _ (s t : List ℕ) (sized : length t ≡ wantedLen s) where
 
     module _ {faults : List ℕ} (after : faults ≡ tableAfter s t) where
       abbrev K : Cabinet
-      K = cabinet n 3 faults (emptyTable n) (emptyTable n)
+      K = plain n 3 faults
 
       same-cabinet : K ≡ cabinetOf s n
       unfolding tableAfter
       same-cabinet =
-          ap (λ (t : List ℕ). cabinet n 3 t (emptyTable n) (emptyTable n)) after
-          ∙ rw e (ap (λ (k : ℕ). cabinet n 3 (withBits (replicate k 0) (addressesOf s)) (emptyTable n) (emptyTable n)) same-length)
+          ap (plain n 3) after ∙ rw e (ap (λ (k : ℕ). plain n 3 (withBits (replicate k 0) (addressesOf s))) same-length)
 
       pub labels-fit : {bytes : ℕ} → bytes ≡ labelBytes n → labelRefusal K 0 bytes ≡ 0
       labels-fit full =
           rw after
-          (fits (cabinet n 3 (tableAfter s t) (emptyTable n) (emptyTable n)) 0 _ (read .dimension) (omega arith, omega arith) (omega arith) (table .sized)
+          (fits (plain n 3 (tableAfter s t)) 0 _ (read .dimension) (omega arith, omega arith) (omega arith) (table .sized)
           (length-replicate (tableLen n) 0) (length-replicate (tableLen n) 0) (table .unused) (zeros-unused n (tableLen n)) (zeros-unused n (tableLen n)) full)
 
       -- the labels as those of job 0, and the zeros that stood there
@@ -106,6 +111,16 @@ module _ (s t : List ℕ) (sized : length t ≡ wantedLen s) where
           (with-first (2 ^ n) before (labelsOf K)
           ∙ ap (λ (l : List ℕ). labelsOf K ++ drop (2 ^ n) l) zeros
           ∙ ap (λ (l : List ℕ). labelsOf K ++ l) (zeros-behind (2 ^ n) (labelBytes n) (2 ^ n) (omega arith)))
+
+      -- fewer faulty nodes than dimensions leave a safe one
+      out-few : m < n → outOfWork K < n
+      out-few h =
+          omega (arith, h, table .total, count-same (2 ^ n) (out K) (nodeBit (tableAfter s t)) (λ x _. plain-out n 3 faults x ∙ ap (λ l. nodeBit l x) after))
+
+      safe-left : m < n → 0 < labelCount (labelsOf K) 0
+      safe-left h =
+          let (x, hx, z) = few-out-safe K (inl (refl, out-few h)) in
+          count-pos (length (labelsOf K)) (λ y. eqb (labelIn (labelsOf K) y) 0) x (omega (arith, labels-length K)) (eq-eqb (labelIn (labelsOf K) x) 0 z)
 
       pub cube-head : {bytes end : ℕ} (before labels rest out : List ℕ) → bytes ≡ labelBytes n → before ≡ replicate (labelBytes n) 0
           → (take end out ≡ firstLine m K) × ((end ≤ room) × (labels ≡ labelsAfter K 0 before))
@@ -121,3 +136,18 @@ module _ (s t : List ℕ) (sized : length t ≡ wantedLen s) where
             labelled = take-at labels rest bytes (long ∙ sym full) ∙ kept ∙ rw (is-notice, same-cabinet);
             few = omega (arith, full, few-nodes .1);
           }
+
+-- an accepted notice is read into an empty table as into any other
+pub no-alarm : (s : List ℕ) (n m taken : ℕ) → noticeOf s ≡ Notice n m taken → m < n → 0 < labelCount (labelsOf (cabinetOf s n)) 0
+unfolding noticeOf
+no-alarm s n m taken e h =
+    subst (λ (K : Cabinet). 0 < labelCount (labelsOf K) 0) (same-cabinet s t sized read refl) (safe-left s t sized read refl h)
+  where
+    t : List ℕ
+    t = emptyTable n
+
+    sized : length t ≡ wantedLen s
+    sized = length-replicate (tableLen n) 0 ∙ table-wanted s (sym (opened-notice (dimensionAt s) s n m taken e .dimension))
+
+    read : noticed s t ≡ Notice n m taken
+    read = same s t sized ∙ e

@@ -32,6 +32,7 @@ use Rattle.walk.specs.Walk.{hops, last, onto, refused, row, spot, stops, turn, 
 use Rattle.lines.specs.Lines.{cubeLine, inputRefused, noticeRefused, pairLine, rowText, tooLong}
 use Rattle.printed.specs.Printed.{cabinetOf, firstLine, headLine, labelsIn, lineAt, lineFrom, listing, nextAt, nextFrom, pairLines, pairsOf}
 use Rattle.lines.specs.Text.{decimal, text, width}
+use Rattle.printed.proofs.Heads.{no-alarm}
 use Rattle.printed.proofs.Pairs.{first-read, first-refused, next-beyond, second-refused}
 use Rattle.printed.specs.Laws.{ListingLaws, sampleBytes, sampleLines}
 
@@ -173,6 +174,7 @@ pub listing-laws : ListingLaws
 listing-laws = record {
   too-long = too-long;
   refused = refused-only;
+  no-alarm = no-alarm;
   to-end = to-end;
   source-refused = source-refused;
   destination-refused = destination-refused;

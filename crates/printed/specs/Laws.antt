@@ -7,9 +7,10 @@ use lib.ListN.{length}
 use Rattle.groups.specs.Number.{numberAt}
 use Rattle.groups.specs.declared.Number.the-variants as number
 use Rattle.notice.specs.Notice.{noticeOf, tailAt}
-use Rattle.notice.specs.declared.Noticed.the-variants.{Refused}
-use Rattle.lines.specs.Lines.{inputRefused, noticeRefused, tooLong}
-use Rattle.printed.specs.Printed.{listing, pairLines, pairsOf}
+use Rattle.notice.specs.declared.Noticed.the-variants.{Notice, Refused}
+use Rattle.rule.specs.Cabinet.{labelsOf}
+use Rattle.lines.specs.Lines.{inputRefused, labelCount, noticeRefused, tooLong}
+use Rattle.printed.specs.Printed.{cabinetOf, listing, pairLines, pairsOf}
 use Rattle.lines.specs.Text.{text}
 
 -- "For the input bytes (hex) `04 04 02 01 03 06 0D 00 06 00 02 00`"
@@ -28,6 +29,8 @@ pub record ListingLaws : Type 0 where
   pub too-long : (s : List ℕ) → 16384 < length s → listing s ≡ tooLong
   -- "A refused notice prints only `notice refused K`", and the place of the refusal
   pub refused : (s : List ℕ) (k at : ℕ) → length s ≤ 16384 → noticeOf s ≡ Refused k at → listing s ≡ noticeRefused k at
+  -- where fewer nodes are faulty than the cube has dimensions, the number behind `safe` on the first line is not 0 (theorem 4 of Chiu and Wu 1994)
+  pub no-alarm : (s : List ℕ) (n m taken : ℕ) → noticeOf s ≡ Notice n m taken → m < n → 0 < labelCount (labelsOf (cabinetOf s n)) 0
   -- "pairs of numbers .. to the end": with more steps no more is printed, so no pair is left out
   pub to-end : (n : ℕ) (labels s : List ℕ) (steps : ℕ) → length s ≤ steps → pairLines steps n labels s (tailAt s) ≡ pairsOf n labels s
   -- "A pair cut short or ill written prints `input refused 9` or `input refused 10` as the last line", and the place where that number begins, "counted

@@ -11,7 +11,7 @@ use Rattle.groups.specs.Number.{numberAt, onNumber}
 use Rattle.lines.specs.Lines.{cubeLine, inputRefused, noticeRefused, pairLine, room, tooLong}
 use Rattle.notice.specs.Addresses.{withBits}
 use Rattle.notice.specs.Notice.{addressesOf, dimensionAt, dimensionOf, noticeOf, onNoticed, tailAt}
-use Rattle.rule.specs.Cabinet.{Cabinet, cabinet, exchangesOf, labelsOf}
+use Rattle.rule.specs.Cabinet.{Cabinet, exchangesOf, labelsOf, plain}
 use Rattle.walk.specs.Walk.{rowBytes, walked}
 use Rattle.walk.specs.declared.Walked.{Walked}
 use Rattle.printed.specs.declared.Head.{Head}
@@ -24,7 +24,7 @@ wantedLen s = onNumber (dimensionAt s) (λ k at. 1) (λ n at. tableLen n)
 
 -- the cabinet of an accepted notice of dimension n: the listing labels by document 01's rule, no node drains, and none is closed
 abbrev pub cabinetOf : (s : List ℕ) (n : ℕ) → Cabinet
-cabinetOf s n = cabinet n 3 (withBits (emptyTable n) (addressesOf s)) (emptyTable n) (emptyTable n)
+cabinetOf s n = plain n 3 (withBits (emptyTable n) (addressesOf s))
 
 -- the label buffer that the program keeps: its labels as those of job 0, for whom the listing asks, and zeros for the other; a refused notice has none
 unfoldable pub labelsIn : List ℕ → List ℕ

@@ -6,9 +6,13 @@ use Prim.Native.Nat.{ℕ, _+_, _*_, _^_, _≤_}
 use native.Mathlib.Omega.{arith}
 use lib.ListN.{length}
 use Rattle.cube.specs.Cube.{dist}
-use Rattle.cube.specs.Tables.{labelIn}
+use Rattle.cube.specs.Tables.{labelIn, nodeBit}
+use Rattle.cube.proofs.Count.{count-same}
 use Rattle.jobs.specs.Jobs.{half, labelBytes, labelFor}
-use Rattle.rule.specs.Cabinet.{Cabinet, byRule, cabinet, exchangesOf, labelsOf}
+use Rattle.rule.specs.Cabinet.{Cabinet, byRule, cabinet, exchangesOf, labelsOf, out, plain}
+use Rattle.rule.proofs.Cabinet.{plain-out}
+use Rattle.enough.specs.Enough.{FewOut, outOfWork}
+use Rattle.enough.proofs.Enough.{few-out-safe}
 use Rattle.notice.specs.Laws.{TableOf}
 use Rattle.notice.specs.Notice as N
 use Rattle.notice.specs.declared.Noticed.the-variants as noticed
@@ -22,7 +26,7 @@ use Rattle.hop.proofs.Local.{hop-local}
 use Rattle.walk.specs.Walk as W
 use Rattle.walk.specs.declared.Ending.the-variants as ending
 use Rattle.walk.specs.declared.Walked.{Walked}
-use Rattle.theorems.specs.Before.{labelledThen, labelsAfterThen, plain}
+use Rattle.theorems.specs.Before.{labelledThen, labelsAfterThen}
 use Rattle.theorems.specs.Demand2.{Demand2}
 use Rattle.theorems.specs.Demand3.{Walks}
 use Rattle.theorems.specs.HowLong.{HowLong}
@@ -31,6 +35,7 @@ use Rattle.theorems.specs.TwoRules.{NoneStrong, OnlyBetter, more}
 use Rattle.theorems.specs.Words.{Accepted, SomeSafe, Takes, Works, labelAt, walkOf}
 use Rattle.theorems.proofs.Before.{as-before}
 use Rattle.theorems.proofs.Decision.{picked}
+use Rattle.theorems.proofs.Delivers.{delivers}
 use Rattle.theorems.proofs.Demand2.{demand2}
 use Rattle.theorems.proofs.Demand3.{demand3}
 use Rattle.theorems.proofs.HowLong.{how-long}
@@ -72,6 +77,12 @@ module _ (lib : Library) (F : Faithful lib) where
       let l = left m in
       subst (P (labelFor (K .n) j buffer)) (l .count) (subst (λ (t : List ℕ). P (labelIn t) (exchangesOf K)) (l .bytes) p)
 
+  -- what an accepted notice left
+  table : {bytes old faults : List ℕ} {n m taken : ℕ} → lib .reads bytes old (noticed.Notice n m taken) faults → TableOf n m (N.addressesOf bytes) faults
+  table {bytes} {old} {faults} {n} {m} {taken} r =
+      let f = F .reads r in
+      subst (TableOf n m (N.addressesOf bytes)) (sym (f .1)) (notice-laws .written bytes old n m taken (sym (f .0)))
+
   notice-labels :
       {bytes faults draining closed before after old : List ℕ} {n rule j m taken : ℕ} {x : Labelled} → lib .reads bytes old (noticed.Notice n m taken) faults
       → Rule rule → Job j → WellFormed n draining → WellFormed n closed → BothHalves n (length before)
@@ -81,7 +92,7 @@ module _ (lib : Library) (F : Faithful lib) where
       let f = F .reads r in
       let K = cabinet n rule faults draining closed in
       let d = notice-laws .accepted bytes old n m taken (sym (f .0)) .dimension in
-      let t = subst (TableOf n m (N.addressesOf bytes)) (sym (f .1)) (notice-laws .written bytes old n m taken (sym (f .0))) in (
+      let t = table r in (
         exchangesOf K,
         F .labels l .0
             ∙ answered K j (length before)
@@ -145,6 +156,17 @@ module _ (lib : Library) (F : Faithful lib) where
       let k = W .even (W .arrives some .ending) in
       omega (arith, none-strong K a some s hs, k .1, k .2)
 
+  -- ---- enough nodes work
+
+  some-safe : {K : Cabinet} {j exchanges : ℕ} {before buffer : List ℕ} → lib .labels K j before (labelled.Exchanges exchanges) buffer
+      → FewOut K → SomeSafe (K .n) (labelFor (K .n) j buffer)
+  some-safe {K} m few = of-left (λ (lab : ℕ → ℕ) _. SomeSafe (K .n) lab) m (few-out-safe K few)
+
+  notice-counts : {bytes old faults : List ℕ} {n m taken : ℕ} → lib .reads bytes old (noticed.Notice n m taken) faults
+      → (rule : ℕ) → outOfWork (plain n rule faults) ≡ m
+  notice-counts {bytes} {old} {faults} {n} r rule =
+      count-same (2 ^ n) (out (plain n rule faults)) (nodeBit faults) (λ x _. plain-out n rule faults x) ∙ table r .total
+
   -- ---- as before
 
   label-before :
@@ -174,8 +196,7 @@ module _ (lib : Library) (F : Faithful lib) where
         table-kept = λ {bytes} {before} m. let f = F .reads m in f .1 ∙ notice-laws .kept bytes before _ _ (sym (f .0));
         walk-blank = λ v e. blank lib F v e;
         notice-read = λ {bytes} {before} m. notice-laws .accepted bytes before _ _ _ (sym (F .reads m .0));
-        table-written = λ {bytes} {before} {after} {n} {m} {taken} r. let f = F .reads r in
-            subst (TableOf n m (N.addressesOf bytes)) (sym (f .1)) (notice-laws .written bytes before n m taken (sym (f .0)));
+        table-written = table;
         labels-written = λ m. sym (left m .bytes);
         labels = λ {K} m. of-left (Demand2 K) m (demand2 K);
         how-long = λ {K} {j} m. of-left (HowLong K) m (how-long K j (left m .accepted));
@@ -201,6 +222,10 @@ module _ (lib : Library) (F : Faithful lib) where
         still-arrives = still-arrives;
         none-strong = none-strong;
         two-more = two-more;
+        some-safe = some-safe;
+        delivers = λ {K} {j} {exchanges} {s} {d} {before} {buffer} {w} m few hs hd v.
+            delivers K (labelFor (K .n) j buffer) s d w (walks m hs hd v) (some-safe m few);
+        notice-counts = notice-counts;
         label-before = label-before;
         no-four = λ {n} {rule} {j} {e} {faults} {closed} m x.
             of-left (λ (lab : ℕ → ℕ) _. lab x ≢ 4) m (as-before 0 (omega arith) .no-four n rule faults closed x);

@@ -10,6 +10,7 @@ use Rattle.rule.proofs.Largest.{safe-largest}
 use Rattle.rule.proofs.Nodes.{nodes}
 use Rattle.rule.proofs.Rounds.{marks, rested}
 use Rattle.rule.proofs.Rules.{rules}
+use Rattle.enough.proofs.Enough.{enough, few-out-safe}
 use Rattle.scans.proofs.Hit.{table-hits}
 use Rattle.scans.proofs.Progress.{scans-progress}
 use Rattle.hop.proofs.Local.{hop-local}
@@ -18,6 +19,7 @@ use Rattle.walk.proofs.Local.{walk-local}
 use Rattle.walk.proofs.Once.{once}
 use Rattle.theorems.proofs.Before.{as-before}
 use Rattle.theorems.proofs.Decision.{hop-picked}
+use Rattle.theorems.proofs.Delivers.{few-out-delivers}
 use Rattle.theorems.proofs.Demand2.{demand2}
 use Rattle.theorems.proofs.Demand3.{demand3}
 use Rattle.theorems.proofs.HowLong.{how-long}
@@ -60,6 +62,9 @@ promises =
       good = labels-good;
       rules = rules;
       two-rules = two-rules;
+      enough = enough;
+      few-out-safe = few-out-safe;
+      few-out-delivers = few-out-delivers;
       as-before = as-before;
       progress = scans-progress;
       refusals = refusals;

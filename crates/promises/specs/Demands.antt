@@ -9,7 +9,8 @@ use lib.ListN.{length, replicate}
 use Rattle.cube.specs.Cube.{dist, flip}
 use Rattle.cube.specs.Tables.{emptyTable}
 use Rattle.jobs.specs.Jobs.{half, labelFor}
-use Rattle.rule.specs.Cabinet.{Cabinet, byRule, cabinet, labelsOf}
+use Rattle.rule.specs.Cabinet.{Cabinet, byRule, cabinet, labelsOf, plain}
+use Rattle.enough.specs.Enough.{FewOut, outOfWork}
 use Rattle.notice.specs.Laws.{ReadNotice, TableOf}
 use Rattle.notice.specs.Notice as N
 use Rattle.notice.specs.declared.Noticed.{Noticed}
@@ -26,7 +27,8 @@ use Rattle.walk.specs.Once.{Forwarded}
 use Rattle.walk.specs.Walk as W
 use Rattle.walk.specs.declared.Ending.the-variants as ending
 use Rattle.walk.specs.declared.Walked.{Walked}
-use Rattle.theorems.specs.Before.{hoppedThen, labelledThen, labelsAfterThen, plain, walkedThen}
+use Rattle.theorems.specs.Before.{hoppedThen, labelledThen, labelsAfterThen, walkedThen}
+use Rattle.theorems.specs.Delivers.{Delivers}
 use Rattle.theorems.specs.Demand2.{Demand2}
 use Rattle.theorems.specs.Demand3.{Walks}
 use Rattle.theorems.specs.HowLong.{HowLong}
@@ -154,6 +156,20 @@ pub record Demands (lib : Library) : Type 0 where
       (K : Cabinet) {j e s d : ℕ} {before buffer : List ℕ} {w : Walked} → lib .labels (byRule 2 K) j before (labelled.Exchanges e) buffer
       → SomeSafe (K .n) (labelFor (K .n) j buffer) → Works K s → Takes K d → lib .walks (K .n) j s d buffer W.rowBytes w
       → w .hops ≤ dist s d + 2
+  -- ---- enough nodes work (theorem 4 of Chiu and Wu 1994)
+
+  -- where so few are out of work, labelling leaves a safe node,
+  pub some-safe :
+      {K : Cabinet} {j exchanges : ℕ} {before buffer : List ℕ} → lib .labels K j before (labelled.Exchanges exchanges) buffer
+      → FewOut K → SomeSafe (K .n) (labelFor (K .n) j buffer)
+  -- and every walk from a working node to one that works or drains is delivered, within demand 3's bounds
+  pub delivers :
+      {K : Cabinet} {j exchanges s d : ℕ} {before buffer : List ℕ} {w : Walked} → lib .labels K j before (labelled.Exchanges exchanges) buffer
+      → FewOut K → Works K s → Takes K d → lib .walks (K .n) j s d buffer W.rowBytes w → Delivers K (labelFor (K .n) j buffer) s d w
+  -- where no node drains and the job closes none, as many are out of work as the notice says
+  pub notice-counts :
+      {bytes old faults : List ℕ} {n m taken : ℕ} → lib .reads bytes old (noticed.Notice n m taken) faults
+      → (rule : ℕ) → outOfWork (plain n rule faults) ≡ m
   -- ---- boards on which no node drains and the job closes none (document 02, A4 and A10): every answer is what it was, in the job's half of a buffer of two
   -- tables of m bytes
 

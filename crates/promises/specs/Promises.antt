@@ -13,6 +13,7 @@ use Rattle.rule.specs.Good.{LabelsGood}
 use Rattle.rule.specs.Nodes.{Nodes}
 use Rattle.rule.specs.Rounds.{Marks, Rested}
 use Rattle.rule.specs.Rules.{Rules}
+use Rattle.enough.specs.Enough.{Enough, FewOutSafe}
 use Rattle.scans.specs.Hit.{TableHits}
 use Rattle.scans.specs.Progress.{ScansProgress}
 use Rattle.hop.specs.Local.{HopLocal}
@@ -21,6 +22,7 @@ use Rattle.walk.specs.Laws.{MessageLaws}
 use Rattle.walk.specs.Local.{WalkLocal}
 use Rattle.walk.specs.Once.{Once}
 use Rattle.theorems.specs.Before.{AsBefore}
+use Rattle.theorems.specs.Delivers.{FewOutDelivers}
 use Rattle.theorems.specs.Demand2.{Demand2}
 use Rattle.theorems.specs.Demand3.{Demand3}
 use Rattle.theorems.specs.HowLong.{HowLong}
@@ -68,6 +70,9 @@ pub record Promises : Type 2 where
   pub good : LabelsGood
   pub rules : (n : ℕ) (F : ℕ → Bool) → Rules n F
   pub two-rules : TwoRules
+  pub enough : (n : ℕ) (F : ℕ → Bool) → Enough n F
+  pub few-out-safe : FewOutSafe
+  pub few-out-delivers : FewOutDelivers
   pub as-before : (j : ℕ) → j < 2 → AsBefore j
   pub progress : ScansProgress
   -- document 01's words

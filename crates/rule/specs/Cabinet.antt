@@ -4,7 +4,7 @@ use mathlib.Core.Bool.{Bool, cond, not, _&&_, _||_}
 use mathlib.Core.List.{List}
 use Prim.Native.Nat.{ℕ, _^_}
 use lib.Dec.{leb}
-use Rattle.cube.specs.Tables.{nodeBit, tab}
+use Rattle.cube.specs.Tables.{emptyTable, nodeBit, tab}
 use Rattle.rule.specs.Rule.{exchanges, label}
 
 pub record Cabinet : Type 0 where
@@ -21,6 +21,10 @@ pub record Cabinet : Type 0 where
 
 abbrev pub cabinet : (n rule : ℕ) (faults draining closed : List ℕ) → Cabinet
 cabinet n rule faults draining closed = record { n = n; rule = rule; faults = faults; draining = draining; closed = closed }
+
+-- one on which no node drains and the job closes none
+abbrev pub plain : (n rule : ℕ) (faults : List ℕ) → Cabinet
+plain n rule faults = cabinet n rule faults (emptyTable n) (emptyTable n)
 
 -- the same cabinet by the rule k
 abbrev pub byRule : (k : ℕ) → Cabinet → Cabinet

@@ -1,6 +1,6 @@
 -- Where no node drains and the job closes none, labelling answers and leaves what it did. An empty table names no node, so the nodes that do not work are the
 -- faulty ones, each with byte 3, and its tests pass. Two tables of m bytes are a label buffer exactly where m is the number of nodes.
-use mathlib.Core.Bool.{Bool, true, false, _||_}
+use mathlib.Core.Bool.{Bool, true, false}
 use mathlib.Core.List.{List}
 use mathlib.Core.Logic.{_⊎_, inl, inr, ⊎-elim, _≢_}
 use mathlib.Core.Path.{_≡_, refl, sym, ap, fun-ext, _∙_}
@@ -12,18 +12,18 @@ use lib.ListN.{length, length-replicate, List·getD-eq-default}
 use borrow.Author.Tests.{eq-eqb, eqb-true, eqb-false, ne-eqb, ltb-true, ltb-false}
 use Rattle.cube.specs.Refusal.{first}
 use Rattle.cube.specs.Tables.{emptyTable, labelIn, nodeBit, tab, tableLen}
-use Rattle.cube.proofs.Bools.{either}
+use Rattle.cube.proofs.Bools.{either, or-none}
 use Rattle.cube.proofs.Front.{tab-cong}
 use Rattle.cube.proofs.Tables.{zeros-none, zeros-unused}
 use Rattle.jobs.specs.Jobs.{half, labelBytes}
 use Rattle.jobs.proofs.Halves.{is-job}
 use Rattle.jobs.proofs.Laws.{half-long}
-use Rattle.rule.specs.Cabinet.{Cabinet, cabinet, exchangesOf, faulty, labelsOf, out, outByte}
+use Rattle.rule.specs.Cabinet.{Cabinet, cabinet, exchangesOf, faulty, labelsOf, out, outByte, plain}
 use Rattle.rule.specs.Rule.{exchanges, label, labelOf}
-use Rattle.rule.proofs.Cabinet.{labels-length}
+use Rattle.rule.proofs.Cabinet.{labels-length, plain-faulty, plain-out}
 use Rattle.labels.specs.Labelling.{labelRefusal, labelled, labelsAfter}
 use Rattle.labels.proofs.Refusal.{buffer-sized, labels-written, says-refused}
-use Rattle.theorems.specs.Before.{labelTestsThen, labelledThen, labelsAfterThen, plain}
+use Rattle.theorems.specs.Before.{labelTestsThen, labelledThen, labelsAfterThen}
 use Rattle.theorems.specs.Words.{labelAt}
 use Rattle.theorems.proofs.Demand2.{is-faulty, works}
 
@@ -37,19 +37,12 @@ twice-same n m =
 
 -- ---- labelling, lent two empty tables
 
-or-none : (a b : Bool) → b ≡ false → (a || b) ≡ a
-or-none true b e = refl
-or-none false b e = e
-
 module _ (n rule : ℕ) (faults : List ℕ) where
   abbrev K : Cabinet
   K = plain n rule faults
 
-  faulty-same : (x : ℕ) → faulty K x ≡ nodeBit faults x
-  faulty-same x = or-none (nodeBit faults x) (nodeBit (emptyTable n) x) (zeros-none (tableLen n) x)
-
   out-same : out K ≡ nodeBit faults
-  out-same = fun-ext (λ x. or-none (faulty K x) (nodeBit (emptyTable n) x) (zeros-none (tableLen n) x) ∙ faulty-same x)
+  out-same = fun-ext (plain-out n rule faults)
 
   exchanges-same : exchangesOf K ≡ exchanges n rule (nodeBit faults)
   unfolding exchangesOf
@@ -59,7 +52,8 @@ module _ (n rule : ℕ) (faults : List ℕ) where
   byte-same : (x : ℕ) → label n rule (nodeBit faults) (outByte K) x ≡ label n rule (nodeBit faults) (λ _. 3) x
   unfolding label labelOf
   byte-same x =
-      ⊎-elim (λ (t : nodeBit faults x ≡ true). rw (faulty-same x, t)) (λ (t : nodeBit faults x ≡ false). rw (faulty-same x, t)) (either (nodeBit faults x))
+      let f = plain-faulty n rule faults x in
+      ⊎-elim (λ (t : nodeBit faults x ≡ true). rw (f, t)) (λ (t : nodeBit faults x ≡ false). rw (f, t)) (either (nodeBit faults x))
 
   abbrev then : ℕ → ℕ
   then = label n rule (nodeBit faults) (λ _. 3)
@@ -120,5 +114,5 @@ no-four n rule faults closed x e = go (either (ltb x (2 ^ n))) (either (faulty K
 
     go : (ltb x (2 ^ n) ≡ true) ⊎ (ltb x (2 ^ n) ≡ false) → (faulty K x ≡ true) ⊎ (faulty K x ≡ false) → ⊥
     go (inl a) (inl f) = omega (arith, e, is-faulty K x (ltb-true x (2 ^ n) a) f)
-    go (inl a) (inr f) = omega (arith, e, works K x (ltb-true x (2 ^ n) a) (or-none (faulty K x) (nodeBit (emptyTable n) x) (zeros-none (tableLen n) x) ∙ f))
+    go (inl a) (inr f) = omega (arith, e, works K x (ltb-true x (2 ^ n) a) (or-none (faulty K x) (zeros-none (tableLen n) x) ∙ f))
     go (inr a) _ = omega (arith, e, List·getD-eq-default (labelsOf K) 0 {n = x} (omega (arith, labels-length K, ltb-false x (2 ^ n) a)))

@@ -16,8 +16,8 @@ use Rattle.rule.specs.Cabinet.{Cabinet, drains, exchangesOf, faulty, out, outBy
 use Rattle.rule.specs.Closed.{Closed, Largest}
 use Rattle.rule.specs.Exchanges.{Exchanges}
 use Rattle.rule.specs.Rule.{label, marked, rounds, exchanges, safe}
-use Rattle.rule.proofs.Bytes.{byte-out, ordinary-near, out-byte, safe-zero, strong-none, zero-safe}
-use Rattle.rule.proofs.Cabinet.{label-in, out-high}
+use Rattle.rule.proofs.Bytes.{byte-out, ordinary-near, out-byte, strong-none}
+use Rattle.rule.proofs.Cabinet.{is-zero, label-in, out-high, zero-is}
 use Rattle.rule.proofs.Exchanges.{exchanged}
 use Rattle.rule.proofs.Largest.{safe-largest}
 use Rattle.rule.proofs.Rounds.{rested}
@@ -41,18 +41,10 @@ module _ (K : Cabinet) where
   abbrev E : Exchanges n (K .rule) (out K)
   E = exchanged n (K .rule) (out K)
 
-  pub zero-is : (x : ℕ) → x < 2 ^ n → labelAt K x ≡ 0 → S x ≡ true
-  unfolding label
-  zero-is x h e = zero-safe n (out K) (outByte K) S (C .works) (out-high K) x (sym (label-in K x h) ∙ e)
-
-  is-zero : (x : ℕ) → x < 2 ^ n → S x ≡ true → labelAt K x ≡ 0
-  unfolding label
-  is-zero x h e = label-in K x h ∙ safe-zero n (out K) (outByte K) S (C .works) (out-high K) x h e
-
   zero-same : (x : ℕ) → x < 2 ^ n → eqb (labelAt K x) 0 ≡ S x
   zero-same x h =
-      ⊎-elim (λ (t : S x ≡ true). eq-eqb (labelAt K x) 0 (is-zero x h t) ∙ sym t)
-      (λ (t : S x ≡ false). is-false (λ u. clash (zero-is x h (eqb-true (labelAt K x) 0 u)) t) ∙ sym t)
+      ⊎-elim (λ (t : S x ≡ true). eq-eqb (labelAt K x) 0 (is-zero K x h t) ∙ sym t)
+      (λ (t : S x ≡ false). is-false (λ u. clash (zero-is K x h (eqb-true (labelAt K x) 0 u)) t) ∙ sym t)
       (either (S x))
 
   pub out-label : (x : ℕ) → x < 2 ^ n → out K x ≡ true → labelAt K x ≡ outByte K x
@@ -87,12 +79,12 @@ module _ (K : Cabinet) where
   unfolding label
   ordinary x h e =
       let r = ordinary-near n (out K) (outByte K) S (C .works) (out-high K) x (sym (label-in K x h) ∙ e) in
-      (r .0, r .1, is-zero (flip (r .0) x) (flip-lt n (r .0) x (r .1) h) (r .2))
+      (r .0, r .1, is-zero K (flip (r .0) x) (flip-lt n (r .0) x (r .1) h) (r .2))
 
   strong : (x i : ℕ) → x < 2 ^ n → i < n → labelAt K x ≡ 2 → labelAt K (flip i x) ≡ 0 → ⊥
   unfolding label
   strong x i h l e z =
-      clash (zero-is (flip i x) (flip-lt n i x l h) z)
+      clash (zero-is K (flip i x) (flip-lt n i x l h) z)
       (strong-none n (out K) (outByte K) S (C .works) (out-high K) x (sym (label-in K x h) ∙ e) i l)
 
   -- the quiet exchange leaves the marks of the last round as they are
@@ -125,14 +117,14 @@ module _ (K : Cabinet) where
             count-same n (λ i. not (eqb (labelAt K (flip i x)) 0)) (λ i. not (S (flip i x))) (λ i l. ap not (zero-same (flip i x) (flip-lt n i x l h))),
           );
         };
-        largest = λ H closed x h e. is-zero x h (L .largest H closed x h e);
+        largest = λ H closed x h e. is-zero K x h (L .largest H closed x h e);
         faulty = is-faulty;
         drains = is-draining;
         works = works;
         shut = is-closed;
         ordinary = ordinary;
         strong = strong;
-        safe = λ x h. (λ e. unmarked x h (zero-is x h e), λ e. is-zero x h (makes-safe x h (e .0) (e .1)));
+        safe = λ x h. (λ e. unmarked x h (zero-is K x h e), λ e. is-zero K x h (makes-safe x h (e .0) (e .1)));
         counted = E .counted;
         still = E .still;
       }

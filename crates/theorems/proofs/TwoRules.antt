@@ -12,7 +12,7 @@ use Rattle.cube.proofs.Bools.{either, is-false}
 use Rattle.cube.proofs.Cube.{flip-lt}
 use Rattle.cube.proofs.Search.{find}
 use Rattle.rule.specs.Cabinet.{Cabinet, byRule, out, outByte}
-use Rattle.rule.proofs.Cabinet.{label-in}
+use Rattle.rule.proofs.Cabinet.{label-in, zero-is}
 use Rattle.rule.proofs.Rules.{rules}
 use Rattle.jobs.specs.Jobs.{labelBytes}
 use Rattle.walk.specs.Walk.{rowBytes}
@@ -22,7 +22,7 @@ use Rattle.walk.proofs.Local.{walk-local}
 use Rattle.theorems.specs.Demand3.{Walks}
 use Rattle.theorems.specs.TwoRules.{OnlyBetter, TwoRules, more}
 use Rattle.theorems.specs.Words.{Accepted, SomeSafe, Takes, Works, labelAt, walkOf}
-use Rattle.theorems.proofs.Demand2.{demand2, out-label, works, zero-is}
+use Rattle.theorems.proofs.Demand2.{demand2, out-label, works}
 use Rattle.theorems.proofs.Demand3.{demand3}
 
 -- a label is never negative, so where none is larger a safe node stays safe and no bound grows

@@ -13,7 +13,7 @@ use Rattle.cube.specs.Cube.{apart, dist, flip}
 use Rattle.cube.specs.Refusal.{Test, first, _⇒_}
 use Rattle.cube.specs.Tables.{emptyTable, isDimension, nodeBit, tab, tableLen, unusedSet}
 use Rattle.jobs.specs.Jobs.{half}
-use Rattle.rule.specs.Cabinet.{Cabinet, cabinet, isRule}
+use Rattle.rule.specs.Cabinet.{cabinet, isRule, plain}
 use Rattle.rule.specs.Rule.{exchanges, label}
 use Rattle.scans.specs.Scans.{forward, noScan, spare}
 use Rattle.labels.specs.Labelling.{labelled, labelsAfter}
@@ -119,10 +119,6 @@ walkedThen n s d m room lab =
     let k : ℕ = first (walkTestsThen n s d m room lab) in cond (eqb k 0) (walkFrom n (routeThen n lab d) s) (refused k)
 
 -- ---- as before
-
--- no node drains, and the job closes none
-abbrev pub plain : (n rule : ℕ) (faults : List ℕ) → Cabinet
-plain n rule faults = cabinet n rule faults (emptyTable n) (emptyTable n)
 
 -- j is a job, and where a label table of m bytes was lent, a buffer of two such tables is lent now
 pub record AsBefore (j : ℕ) : Type 0 where

@@ -1,0 +1,6 @@
+pub mod Safe
+pub mod Shadow
+pub mod Twins
+pub mod Far
+pub mod Half
+pub mod Enough

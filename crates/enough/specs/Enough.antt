@@ -1,0 +1,34 @@
+-- How many nodes may be out of work and some node still be safe: theorem 4 of Chiu and Wu 1994, which is for rule 3, and what the older rule allows. Proved in
+-- proofs/Enough.antt.
+use mathlib.Core.Bool.{Bool, true}
+use mathlib.Core.Logic.{_⊎_}
+use mathlib.Core.Path.{_≡_}
+use Prim.Native.Nat.{ℕ, _+_, _*_, _^_, _<_}
+use Rattle.cube.specs.Count.{count}
+use Rattle.cube.specs.Tables.{labelIn}
+use Rattle.rule.specs.Cabinet.{Cabinet, labelsOf, out}
+use Rattle.rule.specs.Rule.{safe}
+
+-- F are the nodes that do not work, whichever they are. By the rule k some node is safe
+abbrev pub LeavesSafe : (n k : ℕ) (F : ℕ → Bool) → Type 0
+LeavesSafe n k F = (x : ℕ) × (x < 2 ^ n) × (safe n k F x ≡ true)
+
+pub record Enough (n : ℕ) (F : ℕ → Bool) : Type 0 where
+  -- by rule 3, if fewer than n do not work;
+  pub three : count (2 ^ n) F < n → LeavesSafe n 3 F
+  -- by rule 2, if twice as many are fewer than n + 2
+  pub two : 2 * count (2 ^ n) F < n + 2 → LeavesSafe n 2 F
+
+-- ---- a cabinet, as one job has it
+
+-- how many nodes are out of work: faulty, draining, or closed by the job
+abbrev pub outOfWork : Cabinet → ℕ
+outOfWork K = count (2 ^ K .n) (out K)
+
+-- so few that some node is safe, by its rule
+abbrev pub FewOut : Cabinet → Type 0
+FewOut K = ((K .rule ≡ 3) × (outOfWork K < K .n)) ⊎ ((K .rule ≡ 2) × (2 * outOfWork K < K .n + 2))
+
+-- and then a byte of its label table is 0
+abbrev pub FewOutSafe : Type 0
+FewOutSafe = (K : Cabinet) → FewOut K → (x : ℕ) × (x < 2 ^ K .n) × (labelIn (labelsOf K) x ≡ 0)
