@@ -4,6 +4,8 @@
  * falls with each of them (document 02, A8). What is expected stands here once
  * more and is not asked of the reference.
  */
+#include "bounds.h"
+
 #include <string.h>
 
 #include "cabinet.h"
@@ -73,8 +75,7 @@ static void falls(uint32_t n, uint32_t s, uint32_t d, int some, uint32_t hops,
     expect(all, "n = %u: nothing falls from %u to %u", n, s, d);
 }
 
-/* From a node that works to one that works or is draining. */
-static void bounds_of(uint32_t n, uint32_t s, uint32_t d, int some)
+void check_bounds_of(uint32_t n, uint32_t s, uint32_t d, int some)
 {
     uint8_t row[ROW_BYTES];
     uint32_t answer = walk_by(labels, n, s, d, row);
@@ -90,7 +91,7 @@ static void bounds_of(uint32_t n, uint32_t s, uint32_t d, int some)
            s, d);
 }
 
-static int has_safe_node(uint32_t n)
+int has_safe_node(uint32_t n)
 {
     return memchr(labels, HCUBE_SAFE, (size_t)1 << n) != NULL;
 }
@@ -99,8 +100,8 @@ static void bounds_of_some(uint32_t n)
 {
     int some = has_safe_node(n);
     for (unsigned k = 0; k < 12; k++) {
-        bounds_of(n, random_below(1u << n), random_below(1u << n), some);
-        bounds_of(n, random_below(1u << n), some_draining(n), some);
+        check_bounds_of(n, random_below(1u << n), random_below(1u << n), some);
+        check_bounds_of(n, random_below(1u << n), some_draining(n), some);
     }
 }
 
@@ -109,7 +110,7 @@ static void bounds_of_all(uint32_t n)
     int some = has_safe_node(n);
     for (uint32_t s = 0; s < 1u << n; s++)
         for (uint32_t d = 0; d < 1u << n; d++)
-            bounds_of(n, s, d, some);
+            check_bounds_of(n, s, d, some);
 }
 
 void check_bounds(void)

@@ -15,6 +15,8 @@ void check_label_buffer(void);
 void check_draining(void);        /* draining.c */
 void check_draining_ends(void);
 void check_bounds(void);          /* bounds.c */
+void check_enough(void);          /* enough.c */
+void check_not_enough(void);
 void check_long_walks(void);      /* long_walks.c */
 void check_frames(void);          /* frames.c */
 void check_jobs(void);            /* jobs.c */

@@ -96,6 +96,8 @@ int main(void)
     check_draining();
     check_draining_ends();
     check_bounds();
+    check_enough();
+    check_not_enough();
     check_closed();
     check_jobs();
     check_halves();

@@ -173,6 +173,19 @@ static void long_walks(void)
     }
 }
 
+/* The n neighbours of node 0 are faulty, and no node is safe. */
+static void none_safe(void)
+{
+    for (uint32_t n = 2; n <= 12; n++) {
+        uint16_t nodes[12];
+        for (uint32_t i = 0; i < n; i++)
+            nodes[i] = (uint16_t)(1u << i);
+        start_faulty(n, nodes, n);
+        add_pairs(n, 5);
+        make("none-safe");
+    }
+}
+
 /* The most exchanges known for n = 12. */
 static void many_exchanges(void)
 {
@@ -241,6 +254,7 @@ static int make_all(const char *where)
     good_inputs();
     worked_cubes();
     long_walks();
+    none_safe();
     many_exchanges();
     refused_inputs();
     far_pairs();

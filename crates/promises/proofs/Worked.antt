@@ -23,7 +23,7 @@ use Rattle.hop.specs.declared.Hopped.{Hopped}
 use Rattle.walk.specs.Walk.{onto, stops, spot, turn, hops, last, row, rowBytes, refused, walkFrom, walkRefusal, walked}
 use Rattle.walk.specs.declared.Walked.{Walked}
 use Rattle.theorems.specs.Words.{labelAt, walkOf}
-use Rattle.promises.specs.Worked.{k4, k4-by, k4-closes, k4-closes-both, k4-drains, k4-nine, q3, those, visited, Worked}
+use Rattle.promises.specs.Worked.{k4, k4-by, k4-closes, k4-closes-both, k4-drains, k4-nine, p2, q3, those, visited, Worked}
 use Rattle.promises.proofs.Outcomes.{answered}
 
 k4-labels : labelsOf k4 ≡ 1 ∷ 0 ∷ 3 ∷ 0 ∷ 3 ∷ 0 ∷ 1 ∷ 0 ∷ 3 ∷ 0 ∷ 1 ∷ 0 ∷ 1 ∷ 0 ∷ 2 ∷ 3 ∷ []
@@ -53,6 +53,10 @@ k4-closes-labels = refl
 k4-shut-labels : labelsOf k4-closes-both ≡ 1 ∷ 0 ∷ 3 ∷ 0 ∷ 3 ∷ 0 ∷ 1 ∷ 0 ∷ 3 ∷ 3 ∷ 2 ∷ 1 ∷ 2 ∷ 1 ∷ 2 ∷ 3 ∷ []
 unfolding labelsOf label labelOf safe rounds working quiet newly meets marked count least some flip tab nodeBit bit
 k4-shut-labels = refl
+
+p2-labels : labelsOf p2 ≡ 3 ∷ 2 ∷ 2 ∷ 3 ∷ []
+unfolding labelsOf label labelOf safe rounds working quiet newly meets marked count least some flip tab nodeBit bit
+p2-labels = refl
 
 -- a hop by the labels of a cabinet is the hop by what they compute to
 hop-on : {x : Hopped} (K : Cabinet) (j c d m : ℕ) (labels : List ℕ) → labelsOf K ≡ labels → hopped (K .n) j c d m (labelIn labels) ≡ x
@@ -135,6 +139,12 @@ worked =
       d2-exchanges = refl;
       d2-labels = refl;
       d2-late = refl;
+      q3-out = refl;
+      q3-each-out = refl;
+      q3-each-labels = refl;
+      p2-out = refl;
+      p2-labels = p2-labels;
+      p2-1-2 = on p2 0 1 2 _ p2-labels refl;
       r3-at-1 = refl;
       r3-at-0 = refl;
       r3-1-7 = refl;
