@@ -216,6 +216,19 @@ uint32_t hcube_hop(uint32_t n, uint32_t job, uint32_t c, uint32_t d,
  * the two; with others it may go round for ever, and then the walk is refused
  * with 8.
  *
+ * With the labels that hcube_label wrote, from a node that works to one that
+ * works or is draining, l bits apart: if any node is safe the walk is delivered,
+ * in l hops where s or d is safe, otherwise in at most l + 2 from an ordinarily
+ * unsafe s and at most l + 4 from a strongly unsafe one. If no node is safe it
+ * is delivered in l hops, or halts where each neighbour nearer d is faulty or
+ * draining.
+ *
+ * Some node is safe, so that every such walk is delivered, while fewer than n
+ * nodes are out of work (faulty, draining or closed by the job; a node in two
+ * tables counts once). By HCUBE_RULE_LEE_HAYES it is so while twice as many are
+ * fewer than n + 2. One more may leave no node safe: by HCUBE_RULE_CHIU_WU the
+ * n neighbours of one node do, for n of 2 and more.
+ *
  * Refusals, in order:
  *   1   n is not 1 to 12
  *   19  job is not 0 or 1

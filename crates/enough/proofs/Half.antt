@@ -127,7 +127,7 @@ module _ (n : ℕ) (D F : ℕ → Bool) (i : ℕ) (hi : i < n) (di : D i ≡ tru
           arith,
           C .few-outside x hx e,
           count-but-one n (λ j. not (H (flip j x) && s (flip j x))) (λ j. not (H (flip j x))) i hi
-          (λ j _ d. not-left (H (flip j x)) (s (flip j x)) (same-side i b j x d ∙ t)),
+              (λ j _ d. not-left (H (flip j x)) (s (flip j x)) (same-side i b j x d ∙ t)),
         )
 
   closed : Closed n 3 (shadow n D F) (λ x. H x && s x)

@@ -4,3 +4,4 @@ pub mod Twins
 pub mod Far
 pub mod Half
 pub mod Enough
+pub mod NotEnough

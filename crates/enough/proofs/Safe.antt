@@ -49,7 +49,7 @@ module _ (n k : ℕ) (F : ℕ → Bool) where
           few-out = λ x h e. omega (
             arith,
             count-same n (λ j. F (flip j x)) (λ j. F (flip j (flip i x)))
-            (λ j l. sym (same (flip j x) (flip-lt n j x l h)) ∙ ap F (flip-swap n i j x hi l h)),
+                (λ j l. sym (same (flip j x) (flip-lt n j x l h)) ∙ ap F (flip-swap n i j x hi l h)),
             C .few-out (flip i x) (over x h) e,
           );
           few-outside = λ x h e. omega (

@@ -1,10 +1,12 @@
 -- How many nodes may be out of work and some node still be safe: theorem 4 of Chiu and Wu 1994, which is for rule 3, and what the older rule allows. Proved in
--- proofs/Enough.antt.
+-- proofs/Enough.antt and proofs/NotEnough.antt.
 use mathlib.Core.Bool.{Bool, true}
 use mathlib.Core.Logic.{_⊎_}
 use mathlib.Core.Path.{_≡_}
-use Prim.Native.Nat.{ℕ, _+_, _*_, _^_, _<_}
-use Rattle.cube.specs.Count.{count}
+use Prim.Native.Nat.{ℕ, _+_, _*_, _^_, _≤_, _<_}
+use lib.Dec.{eqb}
+use Rattle.cube.specs.Count.{count, some}
+use Rattle.cube.specs.Cube.{flip}
 use Rattle.cube.specs.Tables.{labelIn}
 use Rattle.rule.specs.Cabinet.{Cabinet, labelsOf, out}
 use Rattle.rule.specs.Rule.{safe}
@@ -18,6 +20,15 @@ pub record Enough (n : ℕ) (F : ℕ → Bool) : Type 0 where
   pub three : count (2 ^ n) F < n → LeavesSafe n 3 F
   -- by rule 2, if twice as many are fewer than n + 2
   pub two : 2 * count (2 ^ n) F < n + 2 → LeavesSafe n 2 F
+
+-- the n neighbours of node 0
+unfoldable pub besideZero : (n : ℕ) (x : ℕ) → Bool
+besideZero n x = some n (λ i. eqb x (flip i 0))
+
+-- rule 3 bears no more: n nodes that do not work may leave none safe, in every cube from n = 2 on
+pub record NotEnough (n : ℕ) : Type 0 where
+  pub as-many : 2 ≤ n → count (2 ^ n) (besideZero n) ≡ n
+  pub none : 2 ≤ n → LeavesSafe n 3 (besideZero n) → ⊥
 
 -- ---- a cabinet, as one job has it
 

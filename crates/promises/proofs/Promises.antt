@@ -11,6 +11,7 @@ use Rattle.rule.proofs.Nodes.{nodes}
 use Rattle.rule.proofs.Rounds.{marks, rested}
 use Rattle.rule.proofs.Rules.{rules}
 use Rattle.enough.proofs.Enough.{enough, few-out-safe}
+use Rattle.enough.proofs.NotEnough.{not-enough}
 use Rattle.scans.proofs.Hit.{table-hits}
 use Rattle.scans.proofs.Progress.{scans-progress}
 use Rattle.hop.proofs.Local.{hop-local}
@@ -63,6 +64,7 @@ promises =
       rules = rules;
       two-rules = two-rules;
       enough = enough;
+      not-enough = not-enough;
       few-out-safe = few-out-safe;
       few-out-delivers = few-out-delivers;
       as-before = as-before;

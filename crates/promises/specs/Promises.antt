@@ -13,7 +13,7 @@ use Rattle.rule.specs.Good.{LabelsGood}
 use Rattle.rule.specs.Nodes.{Nodes}
 use Rattle.rule.specs.Rounds.{Marks, Rested}
 use Rattle.rule.specs.Rules.{Rules}
-use Rattle.enough.specs.Enough.{Enough, FewOutSafe}
+use Rattle.enough.specs.Enough.{Enough, FewOutSafe, NotEnough}
 use Rattle.scans.specs.Hit.{TableHits}
 use Rattle.scans.specs.Progress.{ScansProgress}
 use Rattle.hop.specs.Local.{HopLocal}
@@ -71,6 +71,7 @@ pub record Promises : Type 2 where
   pub rules : (n : ℕ) (F : ℕ → Bool) → Rules n F
   pub two-rules : TwoRules
   pub enough : (n : ℕ) (F : ℕ → Bool) → Enough n F
+  pub not-enough : (n : ℕ) → NotEnough n
   pub few-out-safe : FewOutSafe
   pub few-out-delivers : FewOutDelivers
   pub as-before : (j : ℕ) → j < 2 → AsBefore j
