@@ -179,6 +179,20 @@ static void small_drained(void)
     walk(5, 2, 3, "5762");
 }
 
+/* As many out of work as leave a safe node for certain, by either rule, and one
+ * more than rule 2 bears; no_node_safe has one more than rule 3 bears. */
+static void enough(void)
+{
+    for (uint32_t rule = 2; rule <= 3; rule++) {
+        label_with(rule, 3, 0x02, 0x04, 2);
+        labels_are("13410000");
+        walk(0, 3, 4, "04573");
+    }
+    label_by(2, 2, 0x09, 2);
+    labels_are("3223");
+    walk(1, 2, HALTED(0), "1");
+}
+
 static void small_cubes(void)
 {
     label(1, 0x01, 1);
@@ -247,6 +261,7 @@ void check_worked_numbers(void)
     last_node_drained();
     one_more_drained();
     small_drained();
+    enough();
     small_cubes();
     swinging();
     none_and_all();

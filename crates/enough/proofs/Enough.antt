@@ -1,4 +1,4 @@
--- The theorem, of the shadow of F in the dimensions D, by induction on the nodes of F. Where they are far apart (Far.antt) some node is safe by either rule. Where
+-- The theorem, of the shadow of F in the dimensions D, by induction on how many nodes F has. Where they are far apart (Far.antt) some node is safe by either rule. Where
 -- there are twins but for one dimension or two, these are dropped and one twin left out.
 -- Rule 2: each two dimensions that are dropped take a node of F with them, so half as many nodes as dimensions can be borne.
 -- Rule 3: dropping one dimension leaves twins but for one, and as many nodes as dimensions at most. That is borne too: drop the other dimension with a twin; if

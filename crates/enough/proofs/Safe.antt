@@ -1,10 +1,9 @@
 -- The safe nodes of two sets of nodes that do not work. Where fewer do not work, a set that was closed still is, so what was safe still is. And where the nodes
 -- that do not work are the same on both sides of dimension i, so are the safe ones: the mirror image of a closed set is closed.
 use mathlib.Core.Path.{_≡_, sym, ap, _∙_}
-use mathlib.Core.Bool.{Bool, true, false, not}
-use Prim.Native.Nat.{ℕ, _^_, _≤_, _<_}
+use mathlib.Core.Bool.{Bool, true, not}
+use Prim.Native.Nat.{ℕ, _^_, _<_}
 use native.Mathlib.Omega.{arith}
-use Rattle.cube.specs.Count.{count}
 use Rattle.cube.specs.Cube.{flip}
 use Rattle.cube.proofs.Bools.{clash, is-false}
 use Rattle.cube.proofs.Count.{count-le, count-same}

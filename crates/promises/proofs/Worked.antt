@@ -1,6 +1,7 @@
 -- The worked numbers: the definitions computed. The labels are computed once for each cube, and the walks from the computed labels.
 use mathlib.Core.Bool.{true, false}
 use mathlib.Core.List.{List, [], _∷_}
+use mathlib.Core.Logic.{inl, inr}
 use mathlib.Core.Path.{_≡_, refl, ap, _∙_}
 use Prim.Native.Nat.{ℕ, _^_, _<_}
 use native.Mathlib.Omega.{arith}
@@ -139,6 +140,9 @@ worked =
       d2-exchanges = refl;
       d2-labels = refl;
       d2-late = refl;
+      m3-few = inl (refl, omega arith);
+      m3-older-few = inr (refl, omega arith);
+      m3-labels = refl;
       q3-out = refl;
       q3-each-out = refl;
       q3-each-labels = refl;

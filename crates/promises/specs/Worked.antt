@@ -2,19 +2,19 @@
 -- n = 3 with faulty 1, 2, 4. And numbers of our own: for the older rule (A13) of k4, and of c3 and c4, n = 3 and n = 4 with faulty 0, 3, 4; for draining nodes
 -- (A4) of k4 with 15 draining instead of faulty, with 15 in both tables, and with 9 draining besides; for two jobs (A10) of k4 with 15 draining, where one
 -- of them closes 9; for the ceilings of A11 of l2 and d2, n = 2 with faulty 0, 1, 3 and with faulty 1, 2; for A8 of r3, labels of a 3-cube in which node 1 is safe
--- though two of its neighbours are faulty; for the bounds of crates/enough of q3, of q3-each, where of the same nodes one is faulty, one draining and one closed, and of
--- p2, n = 2 with faulty 0 and 3.
+-- though two of its neighbours are faulty; for the bounds of crates/enough of m3, n = 3 with 1 faulty and 2 draining, of q3, of q3-each, where of
+-- the same nodes one is faulty, one draining and one closed, and of p2, n = 2 with faulty 0 and 3.
 use mathlib.Core.Bool.{Bool, true, false, cond}
 use mathlib.Core.List.{List, [], _∷_, _++_}
 use mathlib.Core.Path.{_≡_}
-use Prim.Native.Nat.{ℕ, zero, suc, _+_, _*_, _^_, _<_}
+use Prim.Native.Nat.{ℕ, zero, suc, _^_, _<_}
 use lib.Dec.{eqb}
 use lib.ListN.{replicate}
 use Rattle.cube.specs.Tables.{labelIn, nodeBit}
 use Rattle.rule.specs.Cabinet.{Cabinet, cabinet, labelsOf, out}
 use Rattle.rule.specs.Exchanges.{late}
 use Rattle.rule.specs.Rule.{marked, safe, working}
-use Rattle.enough.specs.Enough.{outOfWork}
+use Rattle.enough.specs.Enough.{FewOut, outOfWork}
 use Rattle.labels.specs.Labelling.{labelRefusal, labelled, labelsAfter}
 use Rattle.labels.specs.declared.Labelled.the-variants.{Exchanges}
 use Rattle.hop.specs.Hop.{hopped}
@@ -63,6 +63,9 @@ l2 = cabinet 2 3 (11 ∷ []) (0 ∷ []) (0 ∷ [])
 
 abbrev pub d2 : Cabinet
 d2 = cabinet 2 3 (6 ∷ []) (0 ∷ []) (0 ∷ [])
+
+abbrev pub m3-by : (rule : ℕ) → Cabinet
+m3-by rule = cabinet 3 rule (2 ∷ []) (4 ∷ []) (0 ∷ [])
 
 abbrev pub q3-each : Cabinet
 q3-each = cabinet 3 3 (2 ∷ []) (4 ∷ []) (16 ∷ [])
@@ -164,14 +167,18 @@ pub record Worked : Type 0 where
   pub d2-exchanges : labelled d2 0 8 ≡ Exchanges 2
   pub d2-labels : labelsOf d2 ≡ 2 ∷ 3 ∷ 3 ∷ 2 ∷ []
   pub d2-late : late 2 (λ x. isUnsafe (labelAt d2 x)) (λ x. isOut (labelAt d2 x)) ≡ 0
-  -- ---- one node more out of work than leave a safe one for certain, and none is safe
+  -- ---- as many nodes out of work as leave a safe one for certain, and one more
 
-  -- by rule 3, of n = 3 nodes that do not work, whichever table names them (q3-safe, and walks of q3 halt)
+  -- two of a 3-cube, by either rule
+  pub m3-few : FewOut (m3-by 3)
+  pub m3-older-few : FewOut (m3-by 2)
+  pub m3-labels : labelsOf (m3-by 3) ≡ 1 ∷ 3 ∷ 4 ∷ 1 ∷ 0 ∷ 0 ∷ 0 ∷ 0 ∷ []
+  -- three of it, by rule 3, whichever table names them, and none is safe (q3-safe, and walks of q3 halt)
   pub q3-out : outOfWork q3 ≡ 3
   pub q3-each-out : outOfWork q3-each ≡ 3
   pub q3-each-labels : labelsOf q3-each ≡ 2 ∷ 3 ∷ 4 ∷ 2 ∷ 3 ∷ 2 ∷ 2 ∷ 2 ∷ []
-  -- by rule 2, where twice as many as do not work are n + 2
-  pub p2-out : 2 * outOfWork p2 ≡ 2 + 2
+  -- by rule 2, two of a 2-cube
+  pub p2-out : outOfWork p2 ≡ 2
   pub p2-labels : labelsOf p2 ≡ 3 ∷ 2 ∷ 2 ∷ 3 ∷ []
   pub p2-1-2 : walkOf p2 0 1 2 ≡ visited (1 ∷ []) 0 16 Halted
   -- ---- labels that no tables give
