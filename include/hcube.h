@@ -227,7 +227,7 @@ uint32_t hcube_hop(uint32_t n, uint32_t job, uint32_t c, uint32_t d,
  * nodes are out of work (faulty, draining or closed by the job; a node in two
  * tables counts once). By HCUBE_RULE_LEE_HAYES it is so while twice as many are
  * fewer than n + 2. One more may leave no node safe: by HCUBE_RULE_CHIU_WU the
- * n neighbours of one node do, for n of 2 and more.
+ * n neighbours of node 0 do, for n of 2 and more.
  *
  * Refusals, in order:
  *   1   n is not 1 to 12

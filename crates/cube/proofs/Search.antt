@@ -5,11 +5,11 @@ use mathlib.Core.Bool.{Bool, true, false, _&&_, _||_}
 use Prim.Native.Nat.{ℕ, zero, suc, _+_, _≤_, _<_}
 use native.Mathlib.Omega.{arith}
 use native.Mathlib.Numerals.{add-one}
-use lib.Dec.{ltb}
-use borrow.Author.Tests.{ltb-true, ltb-false, lt-ltb, le-ltb}
-use Rattle.cube.specs.Count.{larger, largest, least, some}
-use Rattle.cube.proofs.Bools.{and-both, and-true, either, clash, or-left, or-right}
-use Rattle.cube.proofs.Count.{below-suc}
+use lib.Dec.{eqb, ltb}
+use borrow.Author.Tests.{eqb-true, ltb-true, ltb-false, lt-ltb, le-ltb}
+use Rattle.cube.specs.Count.{count, larger, largest, least, some}
+use Rattle.cube.proofs.Bools.{and-both, and-true, either, clash, or-left, or-right, or-true}
+use Rattle.cube.proofs.Count.{below-suc, count-alone, count-none, count-union}
 
 least-old : (n : ℕ) (p : ℕ → Bool) → least n p < n → least (suc n) p ≡ least n p
 unfolding least
@@ -142,6 +142,19 @@ some-suc n p = go (either (some n p)) (either (p n))
     go (inr a) (inl b) = some-hit (suc n) p n (omega arith) b ∙ sym (or-right (some n p) b)
     go (inr a) (inr b) =
         some-none (suc n) p (λ j h. ⊎-elim (λ (k : j ≡ n). rw k b) (λ (k : j < n). none-some n p a j k) (below-suc h)) ∙ rw (a, b)
+
+-- m numbers are no more than m places
+pub count-named : (n m : ℕ) (g : ℕ → ℕ) → ((i : ℕ) → i < m → g i < n) → count n (λ x. some m (λ i. eqb x (g i))) ≤ m
+count-named n zero g h =
+    omega (arith, count-none n (λ x. some zero (λ i. eqb x (g i))) (λ x _. some-none zero (λ i. eqb x (g i)) (λ i l. absurd (omega arith))))
+count-named n (suc m) g h =
+    omega (
+      arith,
+      count-union n (λ x. some (suc m) (λ i. eqb x (g i))) (λ x. some m (λ i. eqb x (g i))) (λ x. eqb x (g m))
+          (λ x _ e. or-true (some m (λ i. eqb x (g i))) (eqb x (g m)) (sym (some-suc m (λ i. eqb x (g i))) ∙ e)),
+      count-named n m g (λ i l. h i (omega arith)),
+      count-alone n (λ x. eqb x (g m)) (g m) (h m (omega arith)) (λ x _ d e. d (eqb-true x (g m) e)),
+    )
 
 -- ---- the largest
 

@@ -4,4 +4,6 @@ pub mod Twins
 pub mod Far
 pub mod Half
 pub mod Enough
+pub mod Beside
+pub mod Stones
 pub mod NotEnough

@@ -1,10 +1,10 @@
 -- How many nodes may be out of work and some node still be safe: theorem 4 of Chiu and Wu 1994, which is for rule 3, and what the older rule allows. Proved in
 -- proofs/Enough.antt and proofs/NotEnough.antt.
-use mathlib.Core.Bool.{Bool, true}
+use mathlib.Core.Bool.{Bool, true, cond}
 use mathlib.Core.Logic.{_⊎_}
 use mathlib.Core.Path.{_≡_}
-use Prim.Native.Nat.{ℕ, _+_, _*_, _^_, _≤_, _<_}
-use lib.Dec.{eqb}
+use Prim.Native.Nat.{ℕ, zero, suc, _+_, _*_, _/_, _^_, _≤_, _<_}
+use lib.Dec.{eqb, ltb}
 use Rattle.cube.specs.Count.{count, some}
 use Rattle.cube.specs.Cube.{flip}
 use Rattle.cube.specs.Tables.{labelIn}
@@ -21,14 +21,27 @@ pub record Enough (n : ℕ) (F : ℕ → Bool) : Type 0 where
   -- by rule 2, if twice as many are fewer than n + 2
   pub two : 2 * count (2 ^ n) F < n + 2 → LeavesSafe n 2 F
 
+-- ---- and with one more there may be none
+
 -- the n neighbours of node 0
 unfoldable pub besideZero : (n : ℕ) (x : ℕ) → Bool
 besideZero n x = some n (λ i. eqb x (flip i 0))
 
--- rule 3 bears no more: n nodes that do not work may leave none safe, in every cube from n = 2 on
+-- node 0, and for each two dimensions the node across both from it, for the last of an odd n the node across that one: 0, 3, 12, 48, ..
+unfoldable pub stone : (n k : ℕ) → ℕ
+stone n zero = 0
+stone n (suc k) = cond (ltb (suc (2 * k)) n) (flip (suc (2 * k)) (flip (2 * k) 0)) (flip (2 * k) 0)
+
+unfoldable pub stones : (n : ℕ) (x : ℕ) → Bool
+stones n x = some (suc ((n + 1) / 2)) (λ k. eqb x (stone n k))
+
 pub record NotEnough (n : ℕ) : Type 0 where
-  pub as-many : 2 ≤ n → count (2 ^ n) (besideZero n) ≡ n
-  pub none : 2 ≤ n → LeavesSafe n 3 (besideZero n) → ⊥
+  -- by rule 3: n of them, in every cube from n = 2 on;
+  pub three-out : 2 ≤ n → count (2 ^ n) (besideZero n) ≡ n
+  pub three : 2 ≤ n → LeavesSafe n 3 (besideZero n) → ⊥
+  -- by rule 2: as few as are not fewer, in every cube
+  pub two-out : (n + 2 ≤ 2 * count (2 ^ n) (stones n)) × (2 * count (2 ^ n) (stones n) ≤ n + 3)
+  pub two : LeavesSafe n 2 (stones n) → ⊥
 
 -- ---- a cabinet, as one job has it
 
