@@ -39,7 +39,7 @@ pub record NotEnough (n : ℕ) : Type 0 where
   -- by rule 3: n of them, in every cube from n = 2 on;
   pub three-out : 2 ≤ n → count (2 ^ n) (besideZero n) ≡ n
   pub three : 2 ≤ n → LeavesSafe n 3 (besideZero n) → ⊥
-  -- by rule 2: as few as are not fewer, in every cube
+  -- by rule 2: the least number of them whose double is not below n + 2, in every cube
   pub two-out : (n + 2 ≤ 2 * count (2 ^ n) (stones n)) × (2 * count (2 ^ n) (stones n) ≤ n + 3)
   pub two : LeavesSafe n 2 (stones n) → ⊥
 
