@@ -108,17 +108,6 @@ unfolding xor
 xor-true true = refl
 xor-true false = refl
 
-xor-swap : (a b c : Bool) → xor (xor a b) c ≡ xor (xor a c) b
-unfolding xor
-xor-swap true true true = refl
-xor-swap true true false = refl
-xor-swap true false true = refl
-xor-swap true false false = refl
-xor-swap false true true = refl
-xor-swap false true false = refl
-xor-swap false false true = refl
-xor-swap false false false = refl
-
 pub xor-eq : (a b : Bool) → xor a b ≡ false → a ≡ b
 unfolding xor
 xor-eq true true e = refl
@@ -149,13 +138,6 @@ flip-flip n i x h hx = bits-same n (flip i (flip i x)) x (flip-lt n i (flip i x)
           | yes e ↦ rw (e, bit-flip-same, bit-flip-same) (xor-true (bit i x))
           | no d ↦ bit-flip-other j i (flip i x) d ∙ bit-flip-other j i x d
         ]
-
--- two hops across two dimensions, in either order
-pub flip-swap : (n i j x : ℕ) → i < n → j < n → x < 2 ^ n → flip i (flip j x) ≡ flip j (flip i x)
-unfolding flip
-flip-swap n i j x hi hj hx =
-    bits-same n (flip i (flip j x)) (flip j (flip i x)) (flip-lt n i (flip j x) hi (flip-lt n j x hj hx)) (flip-lt n j (flip i x) hj (flip-lt n i x hi hx))
-    (λ l _. rw (bit-xor, bit-xor) (xor-swap (bit l x) (bit l (2 ^ j)) (bit l (2 ^ i)) ∙ sym (rw (bit-xor, bit-xor))))
 
 pub apart-bits : (i x y : ℕ) → apart i x y ≡ xor (bit i x) (bit i y)
 unfolding apart

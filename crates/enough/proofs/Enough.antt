@@ -1,9 +1,9 @@
--- The theorem, of the shadow of F in the dimensions D, by induction on how many nodes F has. Where they are far apart (Far.antt) some node is safe by either rule. Where
--- there are twins but for one dimension or two, these are dropped and one twin left out.
+-- The theorem, of the shadow of F in the dimensions D, by induction on how many nodes F has. Where they are far apart (Far.antt) some node is safe by either
+-- rule. Where there are twins but for one dimension or two, these are dropped and one twin left out.
 -- Rule 2: each two dimensions that are dropped take a node of F with them, so half as many nodes as dimensions can be borne.
--- Rule 3: dropping one dimension leaves twins but for one, and as many nodes as dimensions at most. That is borne too: drop the other dimension with a twin; if
--- again there are twins but for one, go on so; if not, no two neighbours are in the shadow, and the half with fewer nodes of F, at most half of them, has a safe
--- node by rule 2 (Half.antt).
+-- Rule 3: dropping one dimension leaves twins but for one, and as many nodes as dimensions at most. That is borne too: drop the other dimension with a twin;
+-- if again there are twins but for one, go on so; if not, no two neighbours are in the shadow, and the half with fewer nodes of F, at most half of them, has a
+-- safe node by rule 2 (Half.antt).
 use mathlib.Core.Path.{_≡_, refl, sym, subst}
 use mathlib.Core.Logic.{_⊎_, inl, inr, by-cases}
 use mathlib.Core.Bool.{Bool, true, false}

@@ -7,7 +7,8 @@ use native.Mathlib.Omega.{arith}
 use Rattle.cube.specs.Cube.{flip}
 use Rattle.cube.proofs.Bools.{clash, is-false}
 use Rattle.cube.proofs.Count.{count-le, count-same}
-use Rattle.cube.proofs.Cube.{flip-flip, flip-lt, flip-swap}
+use Rattle.cube.proofs.Cube.{flip-flip, flip-lt}
+use Rattle.cube.proofs.Neighbours.{flip-swap}
 use Rattle.rule.specs.Closed.{Closed}
 use Rattle.rule.specs.Rule.{safe}
 use Rattle.rule.proofs.Largest.{safe-closed, safe-largest}

@@ -114,7 +114,8 @@ module _ (n : ℕ) where
   stone-out : (k : ℕ) → k < suc half → H (stone n k) ≡ false
   unfolding stones
   stone-out k l =
-      is-false (λ t. clash (some-hit (suc half) (λ j. eqb (stone n k) (stone n j)) k l (eq-eqb (stone n k) (stone n k) refl)) (C .works (stone n k) (stone-below k l) t))
+      let one : F (stone n k) ≡ true = some-hit (suc half) (λ j. eqb (stone n k) (stone n j)) k l (eq-eqb (stone n k) (stone n k) refl) in
+      is-false (λ t. clash one (C .works (stone n k) (stone-below k l) t))
 
   -- a node that is across m from one whose bits from m on are clear
   front-flip : (m x : ℕ) → Front n m x → Front n (suc m) (flip m x)

@@ -1,6 +1,6 @@
--- Nodes of F that fall together in the dimensions D: F has twins if one of its nodes is like another of them. That one can be left out, and the shadow of F stays
--- as it was. F has twins but for one dimension, or but for two, if it has them once so many are dropped. Two neighbours in the shadow, across a dimension of D,
--- show twins but for that dimension.
+-- Nodes of F that fall together in the dimensions D: F has twins if one of its nodes is like another of them. That one can be left out, and the shadow of F
+-- stays as it was. F has twins but for one dimension, or but for two, if it has them once so many are dropped. Two neighbours in the shadow, across a dimension
+-- of D, show twins but for that dimension.
 use mathlib.Core.Path.{_≡_, sym, ap, _∙_, subst}
 use mathlib.Core.Logic.{by-cases, _≢_}
 use mathlib.Core.Bool.{Bool, true, _&&_}
