@@ -57,16 +57,45 @@
 extern "C" {
 #endif
 
+/* A small function of this header itself; the archive has none of these. */
+#if defined(__cplusplus) || defined(__KERNEL__) ||                             \
+    (defined(__STDC_VERSION__) && __STDC_VERSION__ >= 199901L)
+#define HCUBE_INLINE static inline
+#else
+#define HCUBE_INLINE static __inline__ /* C89, of compilers that have it */
+#endif
+
+/* The version of this interface. Whatever a program that was right with an
+ * earlier one would notice raises MAJOR, what is new MINOR, all else PATCH. */
+#define HCUBE_VERSION_MAJOR 1
+#define HCUBE_VERSION_MINOR 0
+#define HCUBE_VERSION_PATCH 0
+#define HCUBE_VERSION                                                          \
+    (HCUBE_VERSION_MAJOR * 10000 + HCUBE_VERSION_MINOR * 100 +                 \
+     HCUBE_VERSION_PATCH)
+
+/* The largest cube, and its sizes in bytes, as plain numbers: #if takes them. */
+#define HCUBE_DIMENSION_MAX 12
+#define HCUBE_NODES_MAX 4096
+#define HCUBE_LABEL_BYTES_MAX 8192
+#define HCUBE_FAULT_BYTES_MAX 512
+
 /* Sizes in bytes: of one job's labels, a label buffer with both jobs' halves, a
- * fault, draining or closed table, a walk's row. */
+ * fault, draining or closed table, a walk's row. Test n first, or take it from
+ * an answer that was accepted: C leaves a shift open that is as wide as size_t
+ * or wider, so with any other n these may be any number. */
+#ifdef __cplusplus
+#define HCUBE_NODES(n) (static_cast<size_t>(1) << (n))
+#else
 #define HCUBE_NODES(n) ((size_t)1 << (n))
+#endif
 #define HCUBE_LABEL_BYTES(n) (2 * HCUBE_NODES(n))
 #define HCUBE_FAULT_BYTES(n) ((HCUBE_NODES(n) + 7) / 8)
 #define HCUBE_ROW_BYTES 34
 
 /* Where the half of job 0 or 1 begins in a label buffer, in bytes: the label of
  * node k is labels[HCUBE_HALF(n, job) + k]. */
-#define HCUBE_HALF(n, job) ((size_t)(job) * HCUBE_NODES(n))
+#define HCUBE_HALF(n, job) ((job) * HCUBE_NODES(n))
 
 /* No labelling of an n-cube takes more exchanges, whichever nodes work and by
  * either rule (see hcube_label). */
@@ -110,6 +139,45 @@ extern "C" {
 /* Kinds of a walk's answer. */
 #define HCUBE_WALK_DELIVERED 0
 #define HCUBE_WALK_HALTED 1
+
+/* A refusal in words, for logs. */
+HCUBE_INLINE const char *hcube_refusal_text(uint32_t number)
+{
+    switch (number) {
+    case HCUBE_ACCEPTED:
+        return "accepted";
+    case HCUBE_BAD_DIMENSION:
+        return "the dimension is not 1 to 12";
+    case HCUBE_BAD_LENGTH:
+        return "a lent buffer is not exactly its length";
+    case HCUBE_UNUSED_BIT:
+        return "an unused bit of a table is set";
+    case HCUBE_BAD_LABEL:
+        return "a label byte is above 4";
+    case HCUBE_BAD_NODE:
+        return "a node number is 2^n or more";
+    case HCUBE_FAULTY_SOURCE:
+        return "the source or current node does not work";
+    case HCUBE_FAULTY_TARGET:
+        return "the destination is faulty";
+    case HCUBE_TOO_MANY_HOPS:
+        return "the walk needs more than n + 4 hops";
+    case HCUBE_CUT_SHORT:
+        return "the bytes end before a number is complete";
+    case HCUBE_BAD_GROUP:
+        return "a number's second group is zero or has its high bit set";
+    case HCUBE_BAD_COUNT:
+        return "the count is above 2^n";
+    case HCUBE_BAD_ADDRESS:
+        return "an address is 2^n or more";
+    case HCUBE_BAD_RULE:
+        return "the rule's number is not 2 or 3";
+    case HCUBE_BAD_JOB:
+        return "the job's number is not 0 or 1";
+    default:
+        return "no such refusal";
+    }
+}
 
 /* Parts of every answer, in its low 32 bits:
  * refusal * 16777216 + kind * 65536 + value. */
@@ -247,6 +315,28 @@ uint32_t hcube_walk(uint32_t n, uint32_t job, uint32_t s, uint32_t d,
                     const uint8_t *labels, size_t labels_len,
                     uint8_t *row, size_t row_len);
 
+/* The node at a place of a walk's row, 0 to 16: place 0 has the source, the
+ * place of the hop count the node where the walk ended. */
+HCUBE_INLINE uint32_t hcube_row_node(const uint8_t *row, size_t place)
+{
+    return row[2 * place] + 256u * row[2 * place + 1];
+}
+
+/*
+ * Reads the dimension at the start of a notice, and nothing behind it: so a
+ * caller can size the fault table before hcube_read_notice fills it.
+ *
+ * Refusals, in order; what a number is, hcube_read_notice says:
+ *   9   `bytes` ends before the number is complete
+ *   10  its second group is zero or has its high bit set
+ *   1   the dimension is not 1 to 12
+ * The value of a refusal is the place where the number begins, which is 0.
+ * Accepted: kind 0, value the dimension. hcube_read_notice with the same bytes
+ * answers this dimension or a refusal of something behind it, and it refuses
+ * with 9, 10 or 1 at place 0 where this does, whichever table it is lent.
+ */
+uint32_t hcube_notice_dimension(const uint8_t *bytes, size_t bytes_len);
+
 /*
  * Reads the notice at the start of `bytes` into the fault table `faults`.
  *
@@ -271,6 +361,13 @@ uint32_t hcube_walk(uint32_t n, uint32_t job, uint32_t s, uint32_t d,
  * 04 02 81 00 and a fault table of 2 bytes give refusal 10 and value 2.
  * Accepted: dimension and count, kind 0, and as value how many bytes the notice
  * took. All of `faults` is overwritten.
+ *
+ * Where the dimension is not known beforehand, the table is sized by it:
+ *   uint8_t faults[HCUBE_FAULT_BYTES_MAX];
+ *   uint32_t first = hcube_notice_dimension(bytes, bytes_len);
+ *   if (HCUBE_REFUSAL(first) == HCUBE_ACCEPTED)
+ *       read = hcube_read_notice(bytes, bytes_len, faults,
+ *                                HCUBE_FAULT_BYTES(HCUBE_VALUE(first)));
  */
 uint64_t hcube_read_notice(const uint8_t *bytes, size_t bytes_len,
                            uint8_t *faults, size_t faults_len);
