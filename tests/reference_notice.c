@@ -52,6 +52,16 @@ static uint64_t refused(uint64_t refusal, uint64_t place)
     return refusal * 16777216u + place;
 }
 
+uint32_t ref_notice_dimension(const uint8_t *bytes, size_t len)
+{
+    size_t place = 0;
+    uint32_t n = 0;
+    unsigned refusal = ref_number(bytes, len, &place, &n);
+    if (!refusal && (n < 1 || n > 12))
+        refusal = 1;
+    return refusal ? (uint32_t)refused(refusal, 0) : n;
+}
+
 uint64_t ref_read_notice(const uint8_t *bytes, size_t len,
                          uint8_t *faults, size_t faults_len)
 {

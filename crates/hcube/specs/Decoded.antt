@@ -20,10 +20,12 @@ use Rattle.walk.specs.Walk.{refused}
 use Rattle.walk.specs.declared.Ending.{Ending}
 use Rattle.walk.specs.declared.Ending.the-variants as ending
 use Rattle.walk.specs.declared.Walked.{Walked}
-use Rattle.notice.specs.Notice.{noticed}
+use Rattle.groups.specs.Number.{refusalIn}
+use Rattle.groups.specs.declared.Number.{Number}
+use Rattle.notice.specs.Notice.{dimensionAt, dimensionValue, noticed}
 use Rattle.notice.specs.declared.Noticed.{Noticed}
 use Rattle.notice.specs.declared.Noticed.the-variants as noticed
-use Rattle.hcube.specs.Answers.{hopNumber, labelNumber, noticeNumber, rowAfter, walkNumber, walkedBy}
+use Rattle.hcube.specs.Answers.{dimensionNumber, hopNumber, labelNumber, noticeNumber, rowAfter, walkNumber, walkedBy}
 
 -- HCUBE_REFUSAL, HCUBE_KIND and HCUBE_VALUE: each takes its own bits, so they serve answers of 32 and of 64 bits
 abbrev pub refusalPart : ℕ → ℕ
@@ -68,6 +70,11 @@ unfoldable pub noticedFrom : ℕ → Noticed
 noticedFrom r =
     cond (eqb (refusalPart r) 0) (noticed.Notice (dimensionPart r) (countPart r) (valuePart r)) (noticed.Refused (refusalPart r) (valuePart r))
 
+-- the dimension of a notice by itself, as it is told: its refusal, 0 for none, and its value, which is the dimension or the place of the refusal
+pub record Told (x : Number) (k v : ℕ) : Type 0 where
+  pub refusal : k ≡ refusalIn x
+  pub value : v ≡ dimensionValue x
+
 -- the three parts of r are those of low
 pub record Shows (r low : ℕ) : Type 0 where
   pub refusal : refusalPart r ≡ refusalPart low
@@ -81,6 +88,9 @@ pub record Decodes : Type 0 where
   pub walk :
       (n j s d : ℕ) (labels before : List ℕ)
       → walkedFrom (walkNumber (walkedBy n j s d labels before)) (rowAfter (walkedBy n j s d labels before) before) ≡ walkedBy n j s d labels before
+  pub dimension :
+      (bytes : List ℕ)
+      → Told (dimensionAt bytes) (refusalPart (dimensionNumber (dimensionAt bytes))) (valuePart (dimensionNumber (dimensionAt bytes)))
   pub notice : (bytes before : List ℕ) → noticedFrom (noticeNumber (noticed bytes before)) ≡ noticed bytes before
   -- and an answer that is cut to 32 bits still shows its refusal, its kind and its value
   pub cut : (r : ℕ) → Shows r (r % 4294967296)

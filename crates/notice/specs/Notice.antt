@@ -45,6 +45,10 @@ onNoticed (Refused k at) refused good = refused k at
 
 -- ---- the questions
 
+-- the dimension by itself is `dimensionAt`, whatever stands behind it; its value, or the place of its refusal
+abbrev pub dimensionValue : Number → ℕ
+dimensionValue x = onNumber x (λ k at. at) (λ n next. n)
+
 -- what the reader answers on bytes s and a fault table t: the table has to be exactly its length, which is the dimension's matter
 unfoldable pub noticed : (s t : List ℕ) → Noticed
 noticed s t = noticeFrom (tested (lengthTests t) 0 (dimensionAt s)) s
