@@ -1,3 +1,4 @@
+// SPDX-License-Identifier: GPL-2.0-only OR MIT
 /*
  * Two jobs with one label buffer, each on a processor of its own, for kernel/test; a driver needs nothing of it. Of
  * each stored cube, job 0 is labelled over and over, its closed table changing, while job 1 asks hop and walk; then
