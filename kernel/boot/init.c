@@ -57,6 +57,13 @@ static int work(const char *path, unsigned seed)
 	return file < 0;
 }
 
+static int is_file(const char *path)
+{
+	int file = open(path, O_WRONLY);
+
+	return file >= 0 && close(file) == 0;
+}
+
 static int load(void)
 {
 	int file = open("/module.ko", O_RDONLY);
@@ -98,7 +105,7 @@ int main(int count, char **words)
 	snprintf(path, sizeof path, "/proc/%s", name);
 	say("start", 0);
 	if (load()) {
-		if (access(path, W_OK) == 0)
+		if (is_file(path))
 			run(path);
 		else
 			say("no workers, since the module has no file to write to, error", errno);
