@@ -68,6 +68,8 @@ pub record NoticeLaws : Type 0 where
   pub refused : (s t : List ℕ) (k at : ℕ) → noticed s t ≡ Refused k at → RefusedNotice s k at
   -- the dimension by itself: what it refuses, the reader refuses alike, whatever table it is lent,
   pub dimension-refused : (s t : List ℕ) (k at : ℕ) → dimensionAt s ≡ number.Refused k at → noticed s t ≡ Refused k at
+  -- at the first byte,
+  pub dimension-place : (s : List ℕ) (k at : ℕ) → dimensionAt s ≡ number.Refused k at → at ≡ 0
   -- a table that was sized by it is not refused for its length,
   pub dimension-sizes :
       (s t : List ℕ) (n next k at : ℕ) → dimensionAt s ≡ Value n next → length t ≡ tableLen n → noticed s t ≡ Refused k at → 9 ≤ k

@@ -36,7 +36,7 @@ use Rattle.theorems.specs.Picked.{Picked}
 use Rattle.theorems.specs.TwoRules.{NoneStrong, OnlyBetter, more}
 use Rattle.theorems.specs.Words.{NoneTwice, SomeSafe, Takes, Works, place}
 use Rattle.promises.specs.Library.{Library}
-use Rattle.promises.specs.Refusals.{BothHalves, HopGiven, Job, LabelGiven, NoticeGiven, Rule, TableLength, Unused, WalkGiven}
+use Rattle.promises.specs.Refusals.{BothHalves, Dimension, DimensionGiven, HopGiven, Job, LabelGiven, NoticeGiven, Rule, TableLength, Unused, WalkGiven}
 
 -- a table of nodes is well formed: it has its length, and no unused bit is set
 abbrev pub WellFormed : (n : ℕ) (table : List ℕ) → Type 0
@@ -56,6 +56,8 @@ pub record Demands (lib : Library) : Type 0 where
   -- and with a notice's refusal the place of the number that it is about
   pub notice-refusal :
       {bytes before after : List ℕ} {x : Noticed} → lib .reads bytes before x after → NoticeGiven bytes before (N.refusalOf x) (N.placeOf x)
+  -- likewise the dimension by itself, which is lent no table
+  pub dimension-refusal : {bytes : List ℕ} {k v : ℕ} → lib .sizes bytes k v → DimensionGiven bytes k v
   -- a refusal writes nothing into any buffer it was lent
   pub labels-kept : {K : Cabinet} {j : ℕ} {before after : List ℕ} {k : ℕ} → lib .labels K j before (labelled.Refused k) after → after ≡ before
   pub table-kept : {bytes before after : List ℕ} {k at : ℕ} → lib .reads bytes before (noticed.Refused k at) after → after ≡ before
@@ -67,6 +69,17 @@ pub record Demands (lib : Library) : Type 0 where
   pub notice-read : {bytes before after : List ℕ} {n m taken : ℕ} → lib .reads bytes before (noticed.Notice n m taken) after → ReadNotice bytes n m taken
   pub table-written :
       {bytes before after : List ℕ} {n m taken : ℕ} → lib .reads bytes before (noticed.Notice n m taken) after → TableOf n m (N.addressesOf bytes) after
+  -- the dimension by itself is one, and that of the notice;
+  pub dimension-sized : {bytes : List ℕ} {n : ℕ} → lib .sizes bytes 0 n → Dimension n
+  pub dimension-read :
+      {bytes before after : List ℕ} {n n′ m taken : ℕ} → lib .sizes bytes 0 n → lib .reads bytes before (noticed.Notice n′ m taken) after → n′ ≡ n
+  -- a fault table that was sized by it is refused only for what stands behind it;
+  pub sized-table :
+      {bytes before after : List ℕ} {n k at : ℕ} → lib .sizes bytes 0 n → TableLength n (length before)
+      → lib .reads bytes before (noticed.Refused k at) after → 9 ≤ k
+  -- and where the dimension is refused, the notice is refused alike, whatever table is lent
+  pub dimension-refused :
+      {bytes before after : List ℕ} {k v : ℕ} {x : Noticed} → lib .sizes bytes k v → k ≢ 0 → lib .reads bytes before x after → x ≡ noticed.Refused k v
   -- ---- 2. The labels are the paper's
 
   -- all 2^n label bytes of the job's half are written

@@ -5,6 +5,7 @@ use mathlib.Core.Path.{_≡_}
 use Prim.Native.Nat.{ℕ, _+_, _*_, _/_, _%_, _<_}
 use lib.ListN.{getD, length}
 use Rattle.cube.specs.Contracts.{May}
+use Rattle.groups.specs.declared.Number.the-variants as number
 use Rattle.notice.specs.declared.Noticed.the-variants as noticed
 use Rattle.notice.proofs.Functions as notice
 use Rattle.labels.specs.declared.Labelled.the-variants as labelled
@@ -49,6 +50,12 @@ pub record InC : Type 0 where
   pub walk-refuses :
       {n j s d r k : ℕ} {buffer before after : List ℕ} {w : Walked} → May hcube.walk (n, j, s, d, buffer, before) r after
       → May walk.walk-for (n, j, s, d, buffer, length before) w tt → w .ending ≡ ending.Refused k → (r ≡ k * 16777216) × (after ≡ before)
+  -- the dimension of a notice by itself: the dimension, or refusal × 16,777,216, its place being 0
+  pub dimension-reads :
+      {r n next : ℕ} {bytes : List ℕ} → May hcube.notice-dimension bytes r tt → May notice.dimension bytes (number.Value n next) tt → r ≡ n
+  pub dimension-refuses :
+      {r k at : ℕ} {bytes : List ℕ} → May hcube.notice-dimension bytes r tt → May notice.dimension bytes (number.Refused k at) tt
+      → (r ≡ k * 16777216) × (at ≡ 0)
   -- a notice: dimension × 2^48 + count × 2^32 + bytes taken, or refusal × 16,777,216 + place, which fits its 16 bits
   pub notice-reads :
       {r n m taken : ℕ} {bytes before after after′ : List ℕ} → May hcube.read-notice (bytes, before) r after

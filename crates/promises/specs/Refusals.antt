@@ -162,15 +162,21 @@ NoticeGiven bytes table =
     Due bytes 0 (DimensionWhen table) (1 ∷ 2 ∷ [])
     (λ n at. Due bytes at (CountWhen n) (11 ∷ []) (λ m start. Addresses m n bytes start 0))
 
+-- the dimension by itself: no table is lent, so 2 is not in its order, and nothing is due behind it. Not refused, its value is the dimension
+abbrev pub DimensionGiven : (bytes : List ℕ) → (k v : ℕ) → Type 0
+DimensionGiven bytes = Due bytes 0 (DimensionWhen []) (1 ∷ []) (λ n at k v. (k ≡ 0) × (v ≡ n))
+
 -- ---- each is given then and not otherwise
 
 pub record Refusals : Type 1 where
   -- no two numbers are given by one order, and no two, or two places, for one notice
   pub one : (When : ℕ → Type 0) (order : List ℕ) (j k : ℕ) → Given When order j → Given When order k → j ≡ k
   pub one-notice : (bytes table : List ℕ) (j p k q : ℕ) → NoticeGiven bytes table j p → NoticeGiven bytes table k q → (j ≡ k) × (p ≡ q)
+  pub one-dimension : (bytes : List ℕ) (j p k q : ℕ) → DimensionGiven bytes j p → DimensionGiven bytes k q → (j ≡ k) × (p ≡ q)
   -- each question's refusal, 0 for none, is the number given, and a notice's place the one given with it
   pub labelling : (K : Cabinet) (j m : ℕ) → LabelGiven K j m (L.refusalOf (L.labelled K j m))
   pub hop : (n j c d m : ℕ) (lab : ℕ → ℕ) → HopGiven n j c d m lab (H.refusalOf (H.hopped n j c d m lab))
   pub walk : (n j s d m room : ℕ) (lab : ℕ → ℕ) → WalkGiven n j s d m room lab (W.refusalOf (W.walked n j s d m room lab .ending))
   pub number : (bytes : List ℕ) (at : ℕ) → NumberGiven bytes at (refusalIn (numberAt bytes at))
   pub notice : (bytes table : List ℕ) → NoticeGiven bytes table (N.refusalOf (N.noticed bytes table)) (N.placeOf (N.noticed bytes table))
+  pub dimension : (bytes : List ℕ) → DimensionGiven bytes (refusalIn (N.dimensionAt bytes)) (N.dimensionValue (N.dimensionAt bytes))
