@@ -27,6 +27,7 @@ void check_damaged(void);         /* refusals.c */
 void check_plain_numbers(void);
 void check_combinations(void);    /* combinations.c */
 void check_orders(void);          /* orders.c */
+void check_dimensions(void);      /* dimensions.c */
 void check_notices(void);         /* notices.c */
 void check_notice_orders(void);
 void check_cut_notices(void);

@@ -50,7 +50,7 @@ static void check_coverage(void)
 {
     begin_group("coverage of refusals");
     for (unsigned question = 0; question < QUESTIONS; question++)
-        for (unsigned job = 0; job < (question == NOTICE ? 1 : NO_JOB); job++)
+        for (unsigned job = 0; job < (question < NOTICE ? NO_JOB : 1); job++)
             refusals_came_up(question, job);
     CAME_UP("refusal of label, no job", refusal[LABEL][NO_JOB], 18, 19);
     CAME_UP("refusal of hop, no job", refusal[HOP][NO_JOB], 19, 19);
@@ -76,6 +76,7 @@ static void check_coverage(void)
         CAME_UP("walk at n", cube[WALK][job], 1, 12);
     }
     CAME_UP("notice of n", cube[NOTICE][0], 1, 12);
+    CAME_UP("dimension n", cube[DIMENSION][0], 1, 12);
     end_group();
 }
 
@@ -108,6 +109,7 @@ int main(void)
     check_hop_reads();
     check_label_buffer();
     check_damaged();
+    check_dimensions();
     check_notices();
     check_cut_notices();
     check_notice_bounds();

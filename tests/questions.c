@@ -11,6 +11,7 @@ const struct question questions[QUESTIONS] = {
     [HOP] = {"hop", {1, 19, 2, 5, 4, 6}},
     [WALK] = {"walk", {1, 19, 2, 5, 4, 6, 7, 8}},
     [NOTICE] = {"notice", {9, 10, 1, 2, 11, 12}},
+    [DIMENSION] = {"dimension", {9, 10, 1}},
 };
 
 static const uint8_t none[MOST_LENT];

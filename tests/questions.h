@@ -17,10 +17,11 @@
 #define MOST_LABEL 4
 #define MOST_REFUSAL 19
 
-enum { LABEL, HOP, WALK, NOTICE, QUESTIONS };
+enum { LABEL, HOP, WALK, NOTICE, DIMENSION, QUESTIONS };
 
 /* Name and refusals of each question; 0 ends the row. Labelling, hop and walk
- * test theirs in this order; a notice is read from left to right. */
+ * test theirs in this order; a notice, or its dimension alone, is read from left
+ * to right. */
 extern const struct question {
     const char *name;
     unsigned refusals[MOST_REFUSAL + 1];
