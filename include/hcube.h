@@ -1,6 +1,10 @@
 /*
  * hcube.h: fault-tolerant routing in a hypercube, as C calls it.
  *
+ * docs/RULES.md has the rules in whole: Labels for hcube_label, One hop for
+ * hcube_hop, Walk for hcube_walk, Tables and the notice for the functions that
+ * read a notice, Refusal numbers for all refusals, To C for the answers.
+ *
  * A cube of dimension n, 1 to 12, has the nodes 0 to 2^n - 1. Nodes whose
  * numbers differ in bit i alone are neighbours across dimension i.
  *
