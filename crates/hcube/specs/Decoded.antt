@@ -1,5 +1,5 @@
--- What C takes out of an answer, by the header's own macros, and of a row, two bytes a node: so the answers that C has are the library's own. Proved in
--- proofs/Decoded.antt.
+-- What C takes out of an answer, by the header's own macros, and of a row, two bytes a node (RULES, To C): so the answers that C has are the library's own.
+-- Proved in proofs/Decoded.antt.
 use mathlib.Core.Bool.{cond}
 use mathlib.Core.List.{List}
 use mathlib.Core.Path.{_≡_}

@@ -1,5 +1,5 @@
--- A notice, left to right: its dimension, its count, its addresses. The reader and the tail question share it; only the reader has a lent fault table,
--- so it alone tests the table's length, right after the dimension.
+-- A notice (RULES, Tables and the notice), left to right: its dimension, its count, its addresses. The reader and the tail question share it; only the reader
+-- has a lent fault table, so it alone tests the table's length, right after the dimension.
 use mathlib.Core.List.{List, []}
 use mathlib.Core.Path.{_≡_}
 use Prim.Native.Nat.{ℕ, _^_}
@@ -67,7 +67,7 @@ tableAfter s t = onNoticed (noticed s t) (λ k at. t) (λ n m taken. withBits (r
 unfoldable pub tailAt : List ℕ → ℕ
 tailAt s = onNoticed (noticeOf s) (λ k at. length s) (λ n m taken. taken)
 
--- document 01's numbers for the reader's answer
+-- the numbers for the reader's answer (RULES, To C)
 abbrev pub refusalOf : Noticed → ℕ
 refusalOf x = onNoticed x (λ k at. k) (λ n m taken. 0)
 

@@ -48,7 +48,7 @@ fn wanted_len(bytes: &[u8]) -> usize
     table_len(n)
 }
 
-// Labels the nodes of an accepted notice as job 0 by document 01's rule, 3, and makes its first line. A notice names no draining node, and no node is closed.
+// Labels the nodes of an accepted notice as job 0 by rule 3, and makes its first line. A notice names no draining node, and no node is closed.
 // Labelling never refuses such a table, so 0 is never answered.
 fn first_line(n: usize, faulty: usize, faults: &[u8], labels: &mut [u8], out: &mut [u8]) -> usize
     requires { ⌜ labelRefusal (cabinet n 3 (now faults) (emptyTable n) (emptyTable n)) 0 (length (now labels)) ≡ 0 ⌝ }

@@ -1,5 +1,5 @@
--- Each question's refusal is the number that document 01's words give. A refusal is the first test that holds, so test by test: it says what its case
--- says, both ways.
+-- Each question's refusal is the number that the words give (specs/Refusals.antt). A refusal is the first test that holds, so test by test: it says what its
+-- case says, both ways.
 use mathlib.Core.Path.{_≡_, refl, sym, ap, _∙_}
 use mathlib.Core.Logic.{_⊎_, inl, inr, ⊎-elim, _↔_, _≢_}
 use mathlib.Core.Bool.{Bool, true, false, not, _&&_, _||_}

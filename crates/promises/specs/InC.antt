@@ -1,4 +1,4 @@
--- What C has in hand, of whatever the contracts of the C functions allow: the number of an answer, in plain numbers, and every byte of the row.
+-- What C has in hand (RULES, To C), of whatever the contracts of the C functions allow: the number of an answer, in plain numbers, and every byte of the row.
 use mathlib.Core.List.{List}
 use mathlib.Core.Logic.{_≢_}
 use mathlib.Core.Path.{_≡_}
@@ -23,7 +23,7 @@ use Rattle.hcube.proofs.Functions as hcube
 
 pub record InC : Type 0 where
   -- "to C each answers one number: refusal × 16,777,216 + kind × 65,536 + value": that of the answer that the library's own function gives.
-  -- "Labelling: kind 0, value is the round count", which is the number of exchanges now
+  -- "Labelling: kind 0, value is the number of exchanges"
   pub label-exchanges :
       {n rule j r v : ℕ} {faults draining closed before after after′ : List ℕ} → May hcube.label (n, rule, j, faults, draining, closed, before) r after
       → May labels.label (n, rule, j, faults, draining, closed, before) (labelled.Exchanges v) after′ → r ≡ v
@@ -70,7 +70,7 @@ pub record InC : Type 0 where
   pub row-bytes :
       {n j s d r : ℕ} {buffer before after : List ℕ} → May hcube.walk (n, j, s, d, buffer, before) r after → refusalPart r ≡ 0 → (k : ℕ) → k < 17
       → (getD after (2 * k) 0 ≡ nodeAt after k % 256) × (getD after (2 * k + 1) 0 ≡ nodeAt after k / 256)
-  -- "no node stands twice among the places of a walk's row that are used (the first ones, one more than its hop count)", whatever the labels (document 02, A8)
+  -- "no node stands twice among the places of a walk's row that are used (the first ones, one more than its hop count)", whatever the labels (No node twice)
   pub row-once :
       {n j s d r : ℕ} {buffer before after : List ℕ} → May hcube.walk (n, j, s, d, buffer, before) r after → refusalPart r ≡ 0
       → (k m : ℕ) → k < m → m < valuePart r + 1 → nodeAt after k ≢ nodeAt after m
