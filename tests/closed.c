@@ -192,12 +192,20 @@ void check_closed(void)
     begin_group("closed nodes, all tables of n = 1 and 2, all closed of n = 3");
     all_small_tables();
     end_group();
+}
+
+void check_neighbours_out(void)
+{
     begin_group("a node's neighbours out, across each two dimensions");
     for (uint32_t n = 1; n <= 12; n++) {
         one_node(n, 0);
         one_node(n, 1);
     }
     end_group();
+}
+
+void check_worked_jobs(void)
+{
     begin_group("worked numbers of two jobs");
     worked_jobs();
     worked_draining();

@@ -184,6 +184,10 @@ void check_jobs(void)
     for (unsigned k = 0; k < 720; k++)
         interleaved(1 + k % 12, 24);
     end_group();
+}
+
+void check_job_orders(void)
+{
     begin_group("two jobs labelled in either order");
     for (unsigned k = 0; k < 360; k++)
         either_order(1 + k % 12);

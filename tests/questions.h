@@ -80,6 +80,9 @@ void put_anything(uint8_t *bytes, size_t len);
 uint32_t ask_label(struct label_question asked);
 uint32_t ask_hop(struct hop_question asked);
 uint32_t ask_walk(struct walk_question asked);
+uint32_t ask_dimension(const uint8_t *bytes, size_t len);
+uint64_t ask_notice(const uint8_t *bytes, size_t len, uint8_t *faults,
+                    size_t faults_len);
 
 /* The node at this place of an accepted walk's row. */
 uint32_t row_place(const uint8_t *row, uint32_t k);
