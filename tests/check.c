@@ -1,73 +1,10 @@
-/* check.c: groups, and comparison with the reference. */
-#define _DEFAULT_SOURCE /* write */
+/* check.c: the library's answers and bytes against the reference's. */
 #include "check.h"
 
-#include <signal.h>
-#include <stdarg.h>
-#include <stdio.h>
 #include <string.h>
-#include <unistd.h>
 
 #include "cases.h"
 #include "lent.h"
-
-/* ---- groups */
-
-static const char *group;
-static unsigned long cases, failures;
-static int failed;
-
-/* A touched guard page ends the program; say in which group. */
-static void on_fault(int signal)
-{
-    (void)signal;
-    (void)!write(1, "FAIL library ", 13);
-    (void)!write(1, group, strlen(group));
-    (void)!write(1, ": memory outside a lent buffer was touched\n", 43);
-    _exit(1);
-}
-
-void begin_group(const char *name)
-{
-    group = name;
-    cases = failures = 0;
-    signal(SIGSEGV, on_fault);
-    signal(SIGBUS, on_fault);
-}
-
-void end_group(void)
-{
-    if (failures || cases == 0) {
-        printf("FAIL library %s: %lu of %lu cases\n", group, failures, cases);
-        failed++;
-    } else {
-        printf("ok library %s: %lu cases\n", group, cases);
-    }
-    fflush(stdout);
-}
-
-int failed_groups(void)
-{
-    return failed;
-}
-
-void expect(int holds, const char *why, ...)
-{
-    va_list values;
-    cases++;
-    if (holds)
-        return;
-    failures++;
-    if (failures > 3)
-        return;
-    printf("  %s: ", group);
-    va_start(values, why);
-    vprintf(why, values);
-    va_end(values);
-    printf("\n");
-}
-
-/* ---- library against reference */
 
 static struct lent read_only, draining, closed, writable;
 static uint8_t wanted[MOST_LENT];
@@ -166,6 +103,37 @@ uint32_t check_walk(struct walk_question asked)
     return answer;
 }
 
+uint32_t check_dimension(const uint8_t *bytes, size_t len)
+{
+    uint32_t answer, want = ref_notice_dimension(bytes, len);
+    lend(&read_only, bytes, len);
+    answer = ask_dimension(read_only.bytes, len);
+    expect(answer == want, "dimension of %lu bytes: %08x, not %08x",
+           (unsigned long)len, answer, want);
+    expect(lent_is(&read_only, bytes), "dimension of %lu bytes: a byte changed",
+           (unsigned long)len);
+    saw_dimension(want);
+    return answer;
+}
+
+/* What the dimension alone refuses, the notice is refused for alike. Otherwise it
+ * has this dimension, or a table of another length is refused with 2, or a number
+ * behind the dimension with 9 to 12. */
+static void check_sized(uint32_t dimension, uint64_t notice, size_t faults_len)
+{
+    uint32_t n = HCUBE_VALUE(dimension);
+    uint64_t refusal = HCUBE_REFUSAL(notice);
+    int agrees;
+    if (HCUBE_REFUSAL(dimension))
+        agrees = notice == dimension;
+    else if (faults_len != HCUBE_FAULT_BYTES(n))
+        agrees = notice == NOTICE_REFUSED(2, 0);
+    else
+        agrees = refusal ? refusal >= 9 : HCUBE_NOTICE_DIMENSION(notice) == n;
+    expect(agrees, "dimension %08x, but notice %016llx", dimension,
+           (unsigned long long)notice);
+}
+
 uint64_t check_notice(const uint8_t *bytes, size_t len,
                       uint8_t *faults, size_t faults_len)
 {
@@ -175,7 +143,7 @@ uint64_t check_notice(const uint8_t *bytes, size_t len,
     lend(&writable, faults, faults_len);
     memcpy(wanted, faults, faults_len);
     want = ref_read_notice(bytes, len, wanted, faults_len);
-    answer = hcube_read_notice(read_only.bytes, len, writable.bytes, faults_len);
+    answer = ask_notice(read_only.bytes, len, writable.bytes, faults_len);
     expect(answer == want, "notice of %lu bytes: %016llx, not %016llx",
            (unsigned long)len, (unsigned long long)answer,
            (unsigned long long)want);
@@ -183,6 +151,7 @@ uint64_t check_notice(const uint8_t *bytes, size_t len,
     expect(same, "notice of %lu bytes (%016llx): wrong bytes",
            (unsigned long)len, (unsigned long long)want);
     saw_notice(want);
+    check_sized(check_dimension(bytes, len), answer, faults_len);
     memcpy(faults, writable.bytes, faults_len);
     return answer;
 }

@@ -1,6 +1,7 @@
 /*
  * check.h: lends guarded buffers to the library, holds each call against the
- * reference, and counts what was seen (seen.h).
+ * reference, and counts what was seen (seen.h). Each comparison is a case of the
+ * group at hand (report.h).
  */
 #ifndef CHECK_H
 #define CHECK_H
@@ -9,14 +10,8 @@
 #include <stdint.h>
 
 #include "questions.h"
+#include "report.h"
 #include "seen.h"
-
-/* A named group of checks. end_group prints `ok NAME: N cases` or `FAIL ...`. */
-void begin_group(const char *name);
-void end_group(void);
-int failed_groups(void);
-/* One more case of the group; when it does not hold, the text says why. */
-void expect(int holds, const char *why, ...);
 
 /* Each asks library and reference on guarded copies of the buffers and expects
  * the same answer, the same bytes in each buffer, and every other byte kept; of a
@@ -26,6 +21,8 @@ void expect(int holds, const char *why, ...);
 uint32_t check_label(struct label_question asked);
 uint32_t check_hop(struct hop_question asked);
 uint32_t check_walk(struct walk_question asked);
+uint32_t check_dimension(const uint8_t *bytes, size_t len);
+/* Also that the dimension of the bytes alone agrees with the whole notice. */
 uint64_t check_notice(const uint8_t *bytes, size_t len,
                       uint8_t *faults, size_t faults_len);
 /* The same, over a fault table of random bytes that is not kept. */

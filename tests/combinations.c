@@ -1,8 +1,8 @@
 /*
  * combinations.c: labelling, hop and walk with all that they refuse, in every
- * combination. Which refusal is due stands here once more, in document 02's order,
- * and is not asked of the reference. That nothing is written then is checked by
- * check.c.
+ * combination. Which refusal is due stands here once more, in the order of RULES
+ * (Refusal numbers), and is not asked of the reference. That nothing is written
+ * then is checked by check.c.
  */
 #include <string.h>
 
@@ -231,20 +231,32 @@ static unsigned all_walks(unsigned from)
 }
 
 /* Asks the combinations from 0 on, up to the one that has a part too many. */
-static void check_all(const char *group, unsigned (*ask)(unsigned from))
+static void check_all(const char *title, unsigned (*ask)(unsigned from))
 {
     unsigned from = 0;
-    begin_group(group);
+    begin_group(title);
+    random_bytes(row, sizeof row);
     while (ask(from) == 0)
         from++;
     end_group();
 }
 
-void check_combinations(void)
+void check_label_combinations(void)
 {
-    random_bytes(row, sizeof row);
     check_all("labelling, all that is refused in every combination", all_labels);
+}
+
+void check_job_combinations(void)
+{
     check_all("labelling, every job and length with what is refused", all_jobs);
+}
+
+void check_hop_combinations(void)
+{
     check_all("hop, all that is refused in every combination", all_hops);
+}
+
+void check_walk_combinations(void)
+{
     check_all("walk, all that is refused in every combination", all_walks);
 }

@@ -7,6 +7,7 @@ void check_most_exchanges(void);  /* exchanges.c */
 void check_one_exchange(void);
 void check_ceilings(void);
 void check_small_cubes(void);     /* tables.c */
+void check_small_labels(void);
 void check_moved(void);
 void check_random_tables(void);
 void check_random_labels(void);
@@ -20,18 +21,28 @@ void check_not_enough(void);
 void check_long_walks(void);      /* long_walks.c */
 void check_frames(void);          /* frames.c */
 void check_jobs(void);            /* jobs.c */
+void check_job_orders(void);
 void check_halves(void);          /* halves.c */
 void check_closed(void);          /* closed.c */
+void check_neighbours_out(void);
+void check_worked_jobs(void);
 void check_lengths(void);         /* lengths.c */
 void check_damaged(void);         /* refusals.c */
 void check_plain_numbers(void);
-void check_combinations(void);    /* combinations.c */
+void check_label_combinations(void); /* combinations.c */
+void check_job_combinations(void);
+void check_hop_combinations(void);
+void check_walk_combinations(void);
 void check_orders(void);          /* orders.c */
+void check_dimensions(void);      /* dimensions.c */
 void check_notices(void);         /* notices.c */
+void check_damaged_notices(void);
 void check_notice_orders(void);
 void check_cut_notices(void);
 void check_notice_bounds(void);
 void check_places(void);          /* places.c */
+void check_cut_answers(void);
 void check_long_notices(void);    /* long_notices.c */
+void check_last_place(void);
 
 #endif

@@ -1,6 +1,7 @@
 # host.sh: what the scripts need to know of this machine. Sourced from the
-# repository's root. The archive and the programs are for x86-64: there they run
-# directly, on another processor under the kit's emulator.
+# repository's root, as tests/work.sh, which it brings along. The archive and the
+# programs are for x86-64: there they run directly, on another processor under the
+# kit's emulator.
 #
 #   kit           the kit's folder
 #   kit_tools     its compiler, linker and C library for this machine
@@ -8,10 +9,26 @@
 #   c_flags       words that this compiler needs to link
 #   run_c         words that run a C program compiled so
 #   run_proved    words that run a program of target/bin
+#   library_files reads_files listing_files
+#                 the C files of these programs
+#   given         words that give ARCHIVE and LISTING once more as the caller did
 # A variable that the caller has set stays as it is.
-kit=${RATTLE_HOME:-$(dirname "$(dirname "$(rt doc)")")}
+# shellcheck shell=sh disable=SC2034
+. tests/work.sh
+
+# The kit comes with the machine. Its paths are used as words, so they have no blanks.
+if [ -n "${RATTLE_HOME:-}" ]; then
+    kit=$RATTLE_HOME
+else
+    command -v rt >/dev/null 2>&1 ||
+        give_up 'rt is not on the PATH: the Rattle kit is needed, and these scripts do not install it'
+    kit=$(rt doc) || give_up 'rt doc does not say where the Rattle kit is'
+    kit=$(dirname "$(dirname "$kit")")
+fi
 machine=$(uname -m)
 kit_tools=$kit/on/$machine/toolchain
+[ -d "$kit_tools" ] || give_up "the Rattle kit has no $kit_tools"
+case $kit_tools in *[[:space:]]*) give_up "the Rattle kit's path has blanks, by which these scripts part words: $kit" ;; esac
 emulator=''
 [ ! -x "$kit_tools/bin/qemu-x86_64" ] || emulator=$kit_tools/bin/qemu-x86_64
 
@@ -22,8 +39,7 @@ need() { # COMMAND PACKAGE...
     command -v "$wanted" >/dev/null 2>&1 && return
     { apt-get install -qq -y "$@" || { apt-get update -qq && apt-get install -qq -y "$@"; }; } >/dev/null 2>&1
     command -v "$wanted" >/dev/null 2>&1 && return
-    echo "host.sh: $wanted is missing, and $* could not be installed" >&2
-    exit 2
+    give_up "$wanted is missing, and $* could not be installed"
 }
 
 # a static program needs no C library of x86-64 beside the emulator
@@ -37,6 +53,13 @@ OBJDUMP=${OBJDUMP:-${prefix}objdump}
 run_c=$emulator
 run_proved="$emulator $kit_tools/lib/ld-linux-x86-64.so.2 --library-path $kit_tools/lib"
 
+library_files='tests/library.c tests/report.c tests/asked.c tests/check.c tests/seen.c tests/questions.c tests/lent.c tests/cabinet.c
+    tests/worked.c tests/orders.c tests/orders_label.c tests/combinations.c tests/refusals.c tests/lengths.c tests/tables.c
+    tests/exchanges.c tests/draining.c tests/bounds.c tests/enough.c tests/closed.c tests/jobs.c tests/halves.c tests/long_walks.c
+    tests/frames.c tests/dimensions.c tests/notices.c tests/places.c tests/long_notices.c tests/cases.c tests/reference.c tests/reference_notice.c'
+reads_files='tests/reads.c tests/reads_asked.c tests/noted.c tests/watch.c tests/cases.c'
+listing_files='tests/listing_cases.c tests/listing_refused.c tests/cases.c tests/reference.c tests/reference_notice.c'
+
 # Whether a file that is built from the crates is missing or older than they are.
 stale() { # FILE
     [ ! -f "$1" ] || [ -n "$(find crates crates.txt -newer "$1" -print 2>/dev/null | head -n 1)" ]
@@ -47,7 +70,41 @@ build() { # FILE COMMAND...
     stale "$1" || return 0
     built=$1
     shift
-    said=$("$@" 2>&1) && touch "$built" && return 0
+    if [ "${child-none}" = none ]; then # the script has no work_folder
+        said=$("$@" 2>&1)
+    else
+        run_child "$@" >"$work/said" 2>&1 || { said=$(cat "$work/said"); false; }
+    fi && touch "$built" && return 0
     printf '%s\n' "$said" >&2
     return 1
+}
+
+# The caller's ARCHIVE and LISTING, taken from the folder that the user is in.
+given=''
+if [ -n "${ARCHIVE:-}" ]; then
+    ARCHIVE=$(absolute "$ARCHIVE")
+    given="ARCHIVE=$(quoted "$ARCHIVE") "
+fi
+if [ -n "${LISTING:-}" ]; then
+    LISTING=$(absolute "$LISTING")
+    given="${given}LISTING=$(quoted "$LISTING") "
+fi
+
+# Sets ARCHIVE to the archive that is tested: the caller's, or that of target/, which
+# is built if it is missing or older than the crates.
+find_archive() {
+    if [ -z "${ARCHIVE:-}" ]; then
+        ARCHIVE=target/staticlib/libhcube.a
+        build "$ARCHIVE" rt staticlib hcube || give_up "$ARCHIVE could not be built"
+    fi
+    [ -f "$ARCHIVE" ] || give_up "ARCHIVE is no file: $ARCHIVE"
+}
+
+# The same for LISTING, the listing program.
+find_listing() {
+    if [ -z "${LISTING:-}" ]; then
+        LISTING=target/bin/listing
+        build "$LISTING" rt check listing || give_up "$LISTING could not be built"
+    fi
+    [ -f "$LISTING" ] || give_up "LISTING is no file: $LISTING"
 }

@@ -1,9 +1,17 @@
 /*
  * library.c: holds the library, linked as an archive, against the reference.
- * Prints a line for each group of checks; the last groups say that every
- * refusal, ending and scan came up.
+ *
+ *   library               runs all groups of checks; the last two say that every
+ *                         refusal, ending and scan came up
+ *   library GROUP         runs one, by its word in the table below
+ *   library GROUP CASE    runs one case of it, the first being 1, and prints it
+ *
+ * Prints a line for each group. Status 1: one failed. 2: there is no such one.
  */
+#include <ctype.h>
 #include <stdio.h>
+#include <stdlib.h>
+#include <string.h>
 
 #include "cases.h"
 #include "check.h"
@@ -46,16 +54,20 @@ static void counts_came_up(const char *what, const unsigned long *counts,
 #define CAME_UP(what, counts, first, last)                                     \
     counts_came_up(what, seen.counts, COUNT(seen.counts), first, last)
 
-static void check_coverage(void)
+static void check_refusals_seen(void)
 {
     begin_group("coverage of refusals");
     for (unsigned question = 0; question < QUESTIONS; question++)
-        for (unsigned job = 0; job < (question == NOTICE ? 1 : NO_JOB); job++)
+        for (unsigned job = 0; job < (question < NOTICE ? NO_JOB : 1); job++)
             refusals_came_up(question, job);
     CAME_UP("refusal of label, no job", refusal[LABEL][NO_JOB], 18, 19);
     CAME_UP("refusal of hop, no job", refusal[HOP][NO_JOB], 19, 19);
     CAME_UP("refusal of walk, no job", refusal[WALK][NO_JOB], 19, 19);
     end_group();
+}
+
+static void check_endings_seen(void)
+{
     begin_group("coverage of endings, scans and exchanges");
     CAME_UP("kind of hop", hop_kind, 0, 2);
     CAME_UP("hop at a working node, label", hop_at, 0, 2);
@@ -76,43 +88,90 @@ static void check_coverage(void)
         CAME_UP("walk at n", cube[WALK][job], 1, 12);
     }
     CAME_UP("notice of n", cube[NOTICE][0], 1, 12);
+    CAME_UP("dimension n", cube[DIMENSION][0], 1, 12);
     end_group();
 }
 
-int main(void)
+/* The words are also read by tests/run. */
+static const struct group groups[] = {
+    {"worked_numbers", check_worked_numbers},
+    {"orders", check_orders},
+    {"label_combinations", check_label_combinations},
+    {"job_combinations", check_job_combinations},
+    {"hop_combinations", check_hop_combinations},
+    {"walk_combinations", check_walk_combinations},
+    {"notice_orders", check_notice_orders},
+    {"plain_numbers", check_plain_numbers},
+    {"lengths", check_lengths},
+    {"small_cubes", check_small_cubes},
+    {"small_labels", check_small_labels},
+    {"most_exchanges", check_most_exchanges},
+    {"one_exchange", check_one_exchange},
+    {"ceilings", check_ceilings},
+    {"moved", check_moved},
+    {"draining", check_draining},
+    {"draining_ends", check_draining_ends},
+    {"bounds", check_bounds},
+    {"enough", check_enough},
+    {"not_enough", check_not_enough},
+    {"closed", check_closed},
+    {"neighbours_out", check_neighbours_out},
+    {"worked_jobs", check_worked_jobs},
+    {"jobs", check_jobs},
+    {"job_orders", check_job_orders},
+    {"halves", check_halves},
+    {"random_tables", check_random_tables},
+    {"random_labels", check_random_labels},
+    {"long_walks", check_long_walks},
+    {"frames", check_frames},
+    {"hop_reads", check_hop_reads},
+    {"label_buffer", check_label_buffer},
+    {"damaged", check_damaged},
+    {"dimensions", check_dimensions},
+    {"notices", check_notices},
+    {"damaged_notices", check_damaged_notices},
+    {"cut_notices", check_cut_notices},
+    {"notice_bounds", check_notice_bounds},
+    {"places", check_places},
+    {"cut_answers", check_cut_answers},
+    {"long_notices", check_long_notices},
+    {"last_place", check_last_place},
+};
+
+/* They speak of all that came before them, so that no word runs them alone. */
+static const struct group coverage[] = {
+    {NULL, check_refusals_seen},
+    {NULL, check_endings_seen},
+};
+
+static int run_all(void)
 {
-    random_seed(20);
-    check_worked_numbers();
-    check_orders();
-    check_combinations();
-    check_notice_orders();
-    check_plain_numbers();
-    check_lengths();
-    check_small_cubes();
-    check_most_exchanges();
-    check_one_exchange();
-    check_ceilings();
-    check_moved();
-    check_draining();
-    check_draining_ends();
-    check_bounds();
-    check_enough();
-    check_not_enough();
-    check_closed();
-    check_jobs();
-    check_halves();
-    check_random_tables();
-    check_random_labels();
-    check_long_walks();
-    check_frames();
-    check_hop_reads();
-    check_label_buffer();
-    check_damaged();
-    check_notices();
-    check_cut_notices();
-    check_notice_bounds();
-    check_places();
-    check_long_notices();
-    check_coverage();
-    return failed_groups() != 0;
+    int failed = 0;
+    for (size_t k = 0; k < COUNT(groups); k++)
+        failed |= run_group(&groups[k]);
+    for (size_t k = 0; k < COUNT(coverage); k++)
+        failed |= run_group(&coverage[k]);
+    return failed;
+}
+
+/* A number of digits alone, from 1 on; else 0. */
+static unsigned long case_number(const char *digits)
+{
+    return isdigit((unsigned char)*digits) ? strtoul(digits, NULL, 10) : 0;
+}
+
+int main(int count, char **words)
+{
+    if (count == 1)
+        return run_all();
+    for (size_t k = 0; k < COUNT(groups); k++) {
+        if (strcmp(words[1], groups[k].word) != 0)
+            continue;
+        if (count == 2)
+            return run_group(&groups[k]);
+        if (count == 3 && case_number(words[2]) != 0)
+            return run_case(&groups[k], case_number(words[2]));
+    }
+    fprintf(stderr, "usage: library [GROUP [CASE]]\n");
+    return 2;
 }

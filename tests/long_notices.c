@@ -97,7 +97,7 @@ static void bad_value(size_t k, uint32_t value)
     damaged(k, groups, len, 40, k == 0 ? 1 : k == 1 ? 11 : 12);
 }
 
-static void damage_each(void)
+void check_long_notices(void)
 {
     begin_group("notice of 300 numbers, damaged at each in turn");
     put_whole();
@@ -128,7 +128,7 @@ static uint64_t ends_with(const char *end, size_t len)
     return check_notice_alone(bytes, LAST + len, TABLE);
 }
 
-static void damage_last(void)
+void check_last_place(void)
 {
     begin_group("last place of the longest notice");
     expect(ends_with("", 0) == NOTICE_REFUSED(9, LAST), "nothing");
@@ -139,10 +139,4 @@ static void damage_last(void)
     expect(ends_with("\xff\x7f", 2) == NOTICE_REFUSED(12, LAST), "FF 7F");
     expect(ends_with("\x00", 1) == NOTICE_READ(12, NODES, LAST + 1), "00");
     end_group();
-}
-
-void check_long_notices(void)
-{
-    damage_each();
-    damage_last();
 }

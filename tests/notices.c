@@ -64,6 +64,10 @@ void check_notices(void)
     expect(check_notice(bytes, MOST_LENT, read, 1) == NOTICE_READ(3, 1, 3),
            "long input");
     end_group();
+}
+
+void check_damaged_notices(void)
+{
     begin_group("damaged notices");
     for (unsigned k = 0; k < 24000; k++)
         bad_notice(1 + k % 12);

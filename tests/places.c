@@ -82,7 +82,7 @@ static int has_row(unsigned refusal)
     return 0;
 }
 
-static void check_rows(void)
+void check_places(void)
 {
     begin_group("place of each refusal of a notice");
     for (size_t k = 0; k < COUNT(rows); k++) {
@@ -113,7 +113,7 @@ static void parts_are(uint64_t answer, unsigned refusal, size_t value)
            (unsigned)value);
 }
 
-static void check_parts(void)
+void check_cut_answers(void)
 {
     begin_group("notices' answers cut to 32 bits");
     for (size_t k = 0; k < COUNT(rows); k++) {
@@ -134,10 +134,4 @@ static void check_parts(void)
                "n = %u: %016llx", n, (unsigned long long)answer);
     }
     end_group();
-}
-
-void check_places(void)
-{
-    check_rows();
-    check_parts();
 }

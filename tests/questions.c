@@ -3,6 +3,7 @@
 
 #include <string.h>
 
+#include "asked.h"
 #include "cases.h"
 #include "lent.h"
 
@@ -11,6 +12,7 @@ const struct question questions[QUESTIONS] = {
     [HOP] = {"hop", {1, 19, 2, 5, 4, 6}},
     [WALK] = {"walk", {1, 19, 2, 5, 4, 6, 7, 8}},
     [NOTICE] = {"notice", {9, 10, 1, 2, 11, 12}},
+    [DIMENSION] = {"dimension", {9, 10, 1}},
 };
 
 static const uint8_t none[MOST_LENT];
@@ -107,6 +109,7 @@ void keep_half(struct label_question asked, uint8_t *half)
 
 uint32_t ask_label(struct label_question asked)
 {
+    keep_label(asked);
     return hcube_label(asked.n, asked.rule, asked.job, asked.faults,
                        asked.faults_len, asked.draining, asked.draining_len,
                        asked.closed, asked.closed_len, asked.labels,
@@ -115,14 +118,29 @@ uint32_t ask_label(struct label_question asked)
 
 uint32_t ask_hop(struct hop_question asked)
 {
+    keep_hop(asked);
     return hcube_hop(asked.n, asked.job, asked.c, asked.d, asked.labels,
                      asked.labels_len);
 }
 
 uint32_t ask_walk(struct walk_question asked)
 {
+    keep_walk(asked);
     return hcube_walk(asked.n, asked.job, asked.s, asked.d, asked.labels,
                       asked.labels_len, asked.row, asked.row_len);
+}
+
+uint32_t ask_dimension(const uint8_t *bytes, size_t len)
+{
+    keep_dimension(bytes, len);
+    return hcube_notice_dimension(bytes, len);
+}
+
+uint64_t ask_notice(const uint8_t *bytes, size_t len, uint8_t *faults,
+                    size_t faults_len)
+{
+    keep_notice(bytes, len, faults, faults_len);
+    return hcube_read_notice(bytes, len, faults, faults_len);
 }
 
 uint32_t row_place(const uint8_t *row, uint32_t k)

@@ -1,12 +1,16 @@
 /*
  * reads.c: which labels the archive reads, watched while its machine code runs,
- * against document 02's request A6: the test of a node reads its neighbours'
- * labels one by one, lowest dimension first, and no more of them than settle it;
- * and against A10: a call for one job reads and writes no byte of the other's half.
+ * against RULES. Labels: the test of a node reads its neighbours' labels one by
+ * one, lowest dimension first, and no more of them than settle it. Which nodes work:
+ * a call for one job reads and writes no byte of the other's half.
  * Here all that is expected is worked out anew from the three tables.
  *
  *   reads [MOST]    checks up to dimension MOST, or 12; prints `ok ..` and `FAIL ..`
+ *   reads N JOB     checks this dimension and job alone, as among all
  *   reads table     how many labels were read, for docs/PERFORMANCE.md
+ *
+ * Behind FAIL stands a line `replay: ..`, if the environment has the first words of
+ * it in REPLAY.
  */
 #include <stdio.h>
 #include <stdlib.h>
@@ -148,10 +152,13 @@ static int failed;
 
 void result(const char *what, unsigned cases)
 {
+    const char *replay = getenv("REPLAY");
     if (*wrong)
         printf("FAIL reads of %s, n = %u, job %u: %s\n", what, n, job, wrong);
     else
         printf("ok reads of %s, n = %u, job %u: %u cases\n", what, n, job, cases);
+    if (*wrong && replay)
+        printf("    replay: %s:%u:%u\n", replay, n, job);
     failed |= *wrong != 0;
 }
 
@@ -189,24 +196,43 @@ static void print_row(unsigned per_mille)
            (double)reads_before / (double)tests);
 }
 
-int main(int count, char **words)
+static void print_table(void)
 {
     random_seed(6);
-    if (count == 1 || strcmp(words[1], "table") != 0) {
-        unsigned most = count == 1 ? 12 : (unsigned)atoi(words[1]);
-        for (unsigned k = 0; k < 2 * most; k++) {
-            n = 1 + k / 2;
-            job = k % 2;
-            check_labelling();
-            check_hops();
-            check_walks();
-            check_refused();
-        }
-        return failed;
-    }
     printf(" n faults exchanges     tests  watched  definition  before A6\n");
     for (n = 4; n <= 12; n += 4)
         for (unsigned k = 0; k < COUNT(printed); k++)
             print_row(printed[k]);
+}
+
+/* By random numbers of its own, so that it can be done alone. */
+static void check_cube(uint32_t dimension, uint32_t number)
+{
+    n = dimension;
+    job = number;
+    random_seed(2 * n + job);
+    check_labelling();
+    check_hops();
+    check_walks();
+    check_refused();
+}
+
+int main(int count, char **words)
+{
+    uint32_t most = count > 1 ? (uint32_t)atoi(words[1]) : 12;
+    uint32_t number = count > 2 ? (uint32_t)atoi(words[2]) : 0;
+    if (count == 2 && !strcmp(words[1], "table")) {
+        print_table();
+        return failed;
+    }
+    if (most < 1 || most > 12 || number > 1 || count > 3) {
+        fprintf(stderr, "usage: reads [MOST], reads N JOB, or reads table\n");
+        return 2;
+    }
+    if (count == 3)
+        check_cube(most, number);
+    else
+        for (uint32_t k = 0; k < 2 * most; k++)
+            check_cube(1 + k / 2, k % 2);
     return failed;
 }

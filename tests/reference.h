@@ -1,8 +1,7 @@
 /*
- * reference.h: the rules of document 01, with the older one of document 02's
- * request A13 beside its own, the draining nodes of A4 and the two jobs of A10,
- * once more, in plain C, to hold the library and the listing program against.
- * The first five functions have the same interface as the library's.
+ * reference.h: the rules of docs/RULES.md once more, in plain C, to hold the
+ * library and the listing program against. The first five functions have the same
+ * interface as the library's.
  */
 #ifndef REFERENCE_H
 #define REFERENCE_H

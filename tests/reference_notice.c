@@ -1,6 +1,6 @@
 /*
- * reference_notice.c: the notice and the listing program's output, by documents
- * 01 and 02, in the most direct C.
+ * reference_notice.c: the notice and the listing program's output, by
+ * docs/RULES.md, in the most direct C.
  */
 #include "reference.h"
 

@@ -41,16 +41,20 @@ static void small_cabinet(uint32_t n, unsigned pair)
 }
 
 /* Every fault table with every draining table up to n = 3 with every pair, and
- * every byte that is none since an unused bit is set; every label table up to
- * n = 2 with every pair. */
+ * every byte that is none since an unused bit is set. */
 void check_small_cubes(void)
 {
-    memset(closed, 0, sizeof closed);
     begin_group("all pairs of tables to n = 3, both rules, all pairs");
+    memset(closed, 0, sizeof closed);
     for (uint32_t n = 1; n <= 3; n++)
         for (unsigned pair = 0; pair < 65536; pair++)
             small_cabinet(n, pair);
     end_group();
+}
+
+/* Every label table up to n = 2 with every pair. */
+void check_small_labels(void)
+{
     begin_group("all label tables to n = 2, all pairs");
     for (uint32_t n = 1; n <= 2; n++)
         for (unsigned number = 0; put_labels(n, number); number++)

@@ -48,7 +48,6 @@ use Rattle.hcube.specs.Answers.{
 use Rattle.hcube.specs.Fits.{WalkFits}
 use Rattle.hcube.specs.Decoded.{
   Decodes,
-  Told,
   decisionFrom,
   endingFrom,
   hoppedFrom,
@@ -213,7 +212,7 @@ module _ (n j s d : ℕ) (labels before : List ℕ) where
 -- ---- the notice, its dimension first
 
 dimension-decoded : (bytes : List ℕ)
-    → Told (N.dimensionAt bytes) (refusalPart (dimensionNumber (N.dimensionAt bytes))) (valuePart (dimensionNumber (N.dimensionAt bytes)))
+    → N.Told (N.dimensionAt bytes) (refusalPart (dimensionNumber (N.dimensionAt bytes))) (valuePart (dimensionNumber (N.dimensionAt bytes)))
 dimension-decoded bytes =
     let f = dimension-small bytes (N.dimensionAt bytes) refl in
     record {

@@ -1,4 +1,4 @@
--- What C is answered, and what the row's buffer then holds: document 01's number of the answer that the library's own function gives.
+-- What C is answered, and what the row's buffer then holds: the number (RULES, To C) of the answer that the library's own function gives.
 use mathlib.Core.Bool.{Bool, true, false, cond}
 use mathlib.Core.List.{List}
 use Prim.Native.Nat.{ℕ, _+_, _*_, _/_, _%_}

@@ -1,5 +1,5 @@
--- What C takes out of an answer, by the header's own macros, and of a row, two bytes a node: so the answers that C has are the library's own. Proved in
--- proofs/Decoded.antt.
+-- What C takes out of an answer, by the header's own macros, and of a row, two bytes a node (RULES, To C): so the answers that C has are the library's own.
+-- Proved in proofs/Decoded.antt.
 use mathlib.Core.Bool.{cond}
 use mathlib.Core.List.{List}
 use mathlib.Core.Path.{_≡_}
@@ -20,9 +20,7 @@ use Rattle.walk.specs.Walk.{refused}
 use Rattle.walk.specs.declared.Ending.{Ending}
 use Rattle.walk.specs.declared.Ending.the-variants as ending
 use Rattle.walk.specs.declared.Walked.{Walked}
-use Rattle.groups.specs.Number.{refusalIn}
-use Rattle.groups.specs.declared.Number.{Number}
-use Rattle.notice.specs.Notice.{dimensionAt, dimensionValue, noticed}
+use Rattle.notice.specs.Notice.{Told, dimensionAt, noticed}
 use Rattle.notice.specs.declared.Noticed.{Noticed}
 use Rattle.notice.specs.declared.Noticed.the-variants as noticed
 use Rattle.hcube.specs.Answers.{dimensionNumber, hopNumber, labelNumber, noticeNumber, rowAfter, walkNumber, walkedBy}
@@ -69,11 +67,6 @@ walkedFrom r row =
 unfoldable pub noticedFrom : ℕ → Noticed
 noticedFrom r =
     cond (eqb (refusalPart r) 0) (noticed.Notice (dimensionPart r) (countPart r) (valuePart r)) (noticed.Refused (refusalPart r) (valuePart r))
-
--- the dimension of a notice by itself, as it is told: its refusal, 0 for none, and its value, which is the dimension or the place of the refusal
-pub record Told (x : Number) (k v : ℕ) : Type 0 where
-  pub refusal : k ≡ refusalIn x
-  pub value : v ≡ dimensionValue x
 
 -- the three parts of r are those of low
 pub record Shows (r low : ℕ) : Type 0 where

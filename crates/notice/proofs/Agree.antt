@@ -2,19 +2,24 @@
 -- is one of the bytes alone, and the tail is what it did not take.
 use mathlib.Core.Path.{_≡_, refl, sym, ap, _∙_}
 use mathlib.Core.Logic.{_⊎_, inl, inr, ⊎-elim, _≢_}
+use mathlib.Core.Bool.{not}
 use mathlib.Core.List.{List, []}
 use Prim.Native.Nat.{ℕ, _≤_}
 use native.Mathlib.Omega.{arith}
 use lib.ListN.{length, drop}
 use lib.Seq.{drop-length}
+use Rattle.cube.specs.Tables.{isDimension}
 use Rattle.cube.proofs.Refusal.{first-only}
 use Rattle.cube.proofs.Tables.{nodes-few}
+use Rattle.groups.specs.Number.{numberAt}
 use Rattle.groups.specs.declared.Number.the-variants as number
+use Rattle.groups.proofs.Groups.{refused-place}
 use Rattle.notice.specs.Tests.{lengthTests, tested}
 use Rattle.notice.specs.Notice.{dimensionAt, noticeFrom, noticeOf, noticed, refusalOf, tailAt}
 use Rattle.notice.specs.Laws.{ReadNotice}
 use Rattle.notice.specs.declared.Noticed.{Noticed}
 use Rattle.notice.specs.declared.Noticed.the-variants.{Notice, Refused}
+use Rattle.notice.proofs.Bad.{tested-bad}
 use Rattle.notice.proofs.Cases.{on-tested}
 use Rattle.notice.proofs.Opened.{opened-notice, opened-sized, read-notice}
 use Rattle.notice.proofs.Outcomes.{outcome-number, tail-refused, tail-good}
@@ -31,6 +36,12 @@ pub record Parts (n m taken : ℕ) : Type 0 where
   pub dimension : n ≤ 12
   pub count : m ≤ 4096
   pub short : taken ≤ 4099
+
+-- the dimension is refused at the first byte, whatever is wrong with it
+pub dimension-place : (s : List ℕ) (k at : ℕ) → dimensionAt s ≡ number.Refused k at → at ≡ 0
+unfolding dimensionAt
+dimension-place s k at e =
+    tested-bad (λ n. not (isDimension n)) 1 0 (numberAt s 0) (at ≡ 0) e (λ own. refused-place s 0 k at own) (λ _ _ _ _ _ z. sym z)
 
 module _ (s t : List ℕ) where
   -- with a table of any length the answer is that of the tail question, or 2

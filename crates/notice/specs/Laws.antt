@@ -1,5 +1,5 @@
--- What document 01 says of a notice, as laws of its definitions: an accepted notice names what the table then holds, a refused one writes nothing, and
--- the tail question agrees with the reader; and how far in a refusal's place (document 02, A1) can be. Proved in proofs/Laws.antt.
+-- What RULES says of a notice (Tables and the notice, Refusal numbers), as laws of its definitions: an accepted notice names what the table then holds, a
+-- refused one writes nothing, and the tail question agrees with the reader; and how far in a refusal's place can be. Proved in proofs/Laws.antt.
 use mathlib.Core.Path.{_≡_}
 use mathlib.Core.Logic.{_≢_}
 use mathlib.Core.Bool.{true, false}
@@ -56,7 +56,7 @@ abbrev pub listingBytes : List ℕ
 listingBytes = 0x04 ∷ 0x04 ∷ 0x02 ∷ 0x01 ∷ 0x03 ∷ 0x06 ∷ 0x0D ∷ 0x00 ∷ []
 
 pub record NoticeLaws : Type 0 where
-  -- "Accepted: the notice reader overwrites all of the fault table and returns dimension, count and the number of bytes the notice took"
+  -- accepted, "the notice reader overwrites all of the fault table and returns dimension, count and the number of bytes the notice took"
   pub accepted : (s t : List ℕ) (n m taken : ℕ) → noticed s t ≡ Notice n m taken → ReadNotice s n m taken
   pub written : (s t : List ℕ) (n m taken : ℕ) → noticed s t ≡ Notice n m taken → TableOf n m (addressesOf s) (tableAfter s t)
   -- "a count of zero ends the notice"
@@ -68,6 +68,8 @@ pub record NoticeLaws : Type 0 where
   pub refused : (s t : List ℕ) (k at : ℕ) → noticed s t ≡ Refused k at → RefusedNotice s k at
   -- the dimension by itself: what it refuses, the reader refuses alike, whatever table it is lent,
   pub dimension-refused : (s t : List ℕ) (k at : ℕ) → dimensionAt s ≡ number.Refused k at → noticed s t ≡ Refused k at
+  -- at the first byte,
+  pub dimension-place : (s : List ℕ) (k at : ℕ) → dimensionAt s ≡ number.Refused k at → at ≡ 0
   -- a table that was sized by it is not refused for its length,
   pub dimension-sizes :
       (s t : List ℕ) (n next k at : ℕ) → dimensionAt s ≡ Value n next → length t ≡ tableLen n → noticed s t ≡ Refused k at → 9 ≤ k

@@ -1,0 +1,113 @@
+/* asked.c: keeps the last question, and prints it. */
+#include "asked.h"
+
+#include <stdio.h>
+#include <string.h>
+
+#include "report.h"
+
+#define MOST_SHOWN MOST_LABEL_BYTES /* of a buffer; a longer one is too long */
+#define MOST_BUFFERS 4
+#define A_LINE 32u /* bytes */
+
+/* The call's name and numbers, and its buffers. */
+static struct asked {
+    char call[80];
+    unsigned count;
+    struct {
+        const char *name;
+        size_t len;
+        uint8_t bytes[MOST_SHOWN];
+    } buffers[MOST_BUFFERS];
+} *last;
+
+void keep_questions(void)
+{
+    last = shared_memory(sizeof *last);
+}
+
+static void keep_bytes(const char *name, const uint8_t *bytes, size_t len)
+{
+    last->buffers[last->count].name = name;
+    last->buffers[last->count].len = len;
+    if (len <= MOST_SHOWN)
+        memcpy(last->buffers[last->count].bytes, bytes, len);
+    last->count++;
+}
+
+void keep_label(struct label_question asked)
+{
+    if (!last)
+        return;
+    snprintf(last->call, sizeof last->call, "hcube_label, n %u, rule %u, job %u",
+             asked.n, asked.rule, asked.job);
+    last->count = 0;
+    keep_bytes("faults", asked.faults, asked.faults_len);
+    keep_bytes("draining", asked.draining, asked.draining_len);
+    keep_bytes("closed", asked.closed, asked.closed_len);
+    keep_bytes("labels", asked.labels, asked.labels_len);
+}
+
+void keep_hop(struct hop_question asked)
+{
+    if (!last)
+        return;
+    snprintf(last->call, sizeof last->call, "hcube_hop, n %u, job %u, c %u, d %u",
+             asked.n, asked.job, asked.c, asked.d);
+    last->count = 0;
+    keep_bytes("labels", asked.labels, asked.labels_len);
+}
+
+void keep_walk(struct walk_question asked)
+{
+    if (!last)
+        return;
+    snprintf(last->call, sizeof last->call, "hcube_walk, n %u, job %u, s %u, d %u",
+             asked.n, asked.job, asked.s, asked.d);
+    last->count = 0;
+    keep_bytes("labels", asked.labels, asked.labels_len);
+    keep_bytes("row", asked.row, asked.row_len);
+}
+
+void keep_dimension(const uint8_t *bytes, size_t len)
+{
+    if (!last)
+        return;
+    snprintf(last->call, sizeof last->call, "hcube_notice_dimension");
+    last->count = 0;
+    keep_bytes("bytes", bytes, len);
+}
+
+void keep_notice(const uint8_t *bytes, size_t len, const uint8_t *faults,
+                 size_t faults_len)
+{
+    if (!last)
+        return;
+    snprintf(last->call, sizeof last->call, "hcube_read_notice");
+    last->count = 0;
+    keep_bytes("bytes", bytes, len);
+    keep_bytes("faults", faults, faults_len);
+}
+
+static void print_bytes(const uint8_t *bytes, size_t len)
+{
+    for (size_t k = 0; k < len; k++)
+        printf("%s%02x", k % A_LINE == 0 && len > A_LINE ? "\n      " : " ",
+               bytes[k]);
+}
+
+void print_asked(void)
+{
+    if (!last || !last->call[0])
+        return;
+    printf("  asked: %s\n", last->call);
+    for (unsigned k = 0; k < last->count; k++) {
+        size_t len = last->buffers[k].len;
+        printf("    %s, %lu bytes:", last->buffers[k].name, (unsigned long)len);
+        if (len <= MOST_SHOWN)
+            print_bytes(last->buffers[k].bytes, len);
+        else
+            printf(" too many to show");
+        printf("\n");
+    }
+}

@@ -1,0 +1,24 @@
+/*
+ * asked.h: the last question that was asked of the library, kept where a case is
+ * replayed, so that it can be shown with all that was handed over.
+ */
+#ifndef ASKED_H
+#define ASKED_H
+
+#include "questions.h"
+
+/* From now on questions are kept, also those of the processes that are started. */
+void keep_questions(void);
+
+/* Each keeps a question as it is before the call; nothing, without the above. */
+void keep_label(struct label_question asked);
+void keep_hop(struct hop_question asked);
+void keep_walk(struct walk_question asked);
+void keep_dimension(const uint8_t *bytes, size_t len);
+void keep_notice(const uint8_t *bytes, size_t len, const uint8_t *faults,
+                 size_t faults_len);
+
+/* Prints the one that was kept last, if there is one. */
+void print_asked(void);
+
+#endif
