@@ -1,5 +1,6 @@
 # tools_calls.sh: what README.md says of tools/list, what it leaves behind, and how it is
 # called and builds its program. Sourced by tests/tools, whose functions and files it uses.
+# shellcheck shell=sh disable=SC2154
 
 # README.md: its table of refusals has the header's words, and its examples are right
 page() {
@@ -19,23 +20,25 @@ for example in example.?; do
 done
 
 # what it leaves behind: nothing, also where a signal ends it while it waits for its input
-exec 3<>pipe
+exec 3<>pipe # so that it waits
+killed=''
 for signal in TERM HUP; do
     "$list" - <pipe 3>&- &
     sleep 1
-    kill -$signal $!
+    kill -$signal $! && killed="$killed $signal"
 done
-exec 3>&-
+exec 3>&- # so that what it started ends
 wait
-[ -z "$(ls tmp)" ]
-result $? "leaves nothing behind: $(ls tmp)"
+left=$(find tmp ! -name tmp)
+[ "$killed" = ' TERM HUP' ] && [ -z "$left" ]
+result $? "ended by$killed: left behind: ${left:-nothing}"
 
 "$list" >/dev/full 2>err
 [ $? -eq 2 ] && [ "$(cat err)" = 'list: the listing could not be written' ]
 result $? "a full disk: $(cat err)"
 
 # A copy of the repository, where blanks are in every path; a link to its tool; and a
-# stand-in for rt, which notes that it was asked and copies the program.
+# stand-in for rt, which notes that it was asked, copies the program, and wants no input.
 mkdir -p bin 'a copy/tools' 'a copy/tests' 'a copy/crates' 'a folder'
 cp "$root/tools/list" 'a copy/tools'
 cp "$root/tests/host.sh" 'a copy/tests'
@@ -45,7 +48,7 @@ cp figure 'a folder/figure 1'
 cat >bin/rt <<'END'
 #!/bin/sh
 echo "$*" >>"$ASKED"
-[ "$*" = 'check listing' ] && [ -n "$PROGRAM" ] || { echo 'not proved'; exit 1; }
+[ "$*" = 'check listing' ] && [ -n "$PROGRAM" ] && [ -z "$(cat)" ] || { echo 'not proved'; exit 1; }
 mkdir -p target/bin && cp "$PROGRAM" target/bin/listing
 END
 chmod +x bin/rt
@@ -78,7 +81,7 @@ list: the listing program could not be built" 'figure 1'
 PROGRAM=$program
 gives 'a program to build' "$first_pair
 status 0
-$building" 'figure 1'
+$building" 'figure 1' <"$root/README.md"
 lists 'a program that is built' "$first_pair" 'figure 1'
 touch '../a copy/crates/changed'
 gives 'a program that is old' "$first_pair
