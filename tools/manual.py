@@ -46,6 +46,8 @@ class Header:
             self.take(item)
         if end != len(text):
             fail("not known: " + text[end:].split("\n")[0])
+        if not self.licence or not self.first:
+            fail("the header's first lines are not its licence and its first comment")
         for comment, macros in self.groups:
             if not macros:
                 fail("a comment of nothing: " + comment[0])
@@ -239,8 +241,8 @@ def main():
         for name, text in pages(header, date):
             with open(os.path.join(folder, name + ".3"), "w", encoding="utf-8") as file:
                 file.write(text)
-    except OSError as error:
-        fail(f"{error.filename}: {error.strerror}")
+    except (OSError, ValueError) as error:
+        fail(str(error))
 
 
 main()
