@@ -19,24 +19,26 @@ def outcome(walk):
     if walk.ending == 'refused':
         return f'{pair}: refused {walk.refusal}'
     if walk.ending == 'halted':
-        return f'{pair}: halted at {walk.visited[-1]} after {hops}, distance {walk.distance()}'
-    return f'{pair}: delivered in {hops}, distance {walk.distance()}'
+        return f'{pair}: halted at {walk.visited[-1]} after {hops}'
+    return f'{pair}: delivered in {hops}'
 
 
 def details(walk):
-    """The lines under it: the nodes of the walk; why it halted or was refused."""
+    """The lines under it: the distance and the nodes of the walk; why it halted or was refused."""
     if walk.ending == 'refused':
         return [REFUSALS.get(walk.refusal, 'see include/hcube.h')]
-    visited = ' '.join(map(str, walk.visited))
+    way = f'distance {walk.distance()}; by {" ".join(map(str, walk.visited))}'
     if walk.ending == 'halted':
-        return [visited, f'all neighbours of {walk.visited[-1]} nearer {walk.destination} are faulty']
-    return [visited]
+        return [way, f'all neighbours of {walk.visited[-1]} nearer {walk.destination} are faulty']
+    return [way]
 
 
 def summary(cube):
     """All of it in one line."""
-    counts = ', '.join(f'{cube.count(label)} {WORDS[label]}' for label in (SAFE, ORDINARY, STRONG, FAULTY))
-    return '; '.join([f'cube {cube.n}: {counts}'] + [outcome(walk).replace(':', '') for walk in cube.walks])
+    said = [f'cube {cube.n}: ' + ', '.join(f'{cube.count(label)} {WORDS[label]}' for label in (SAFE, ORDINARY, STRONG, FAULTY))]
+    for walk in cube.walks:
+        said.append(outcome(walk).replace(':', '') + ('' if walk.ending == 'refused' else f', distance {walk.distance()}'))
+    return '; '.join(said)
 
 
 class Legend:
@@ -45,7 +47,7 @@ class Legend:
     def __init__(self, cube, x, y):
         self.cube, self.x, self.y, self.lines = cube, x, y, []
         self.say('head', f'cube {cube.n}: {1 << cube.n} nodes', 20)
-        self.say('note', f'{plural(cube.rounds, "round")} of labelling, the quiet last one included', 36)
+        self.say('note', f'labelled in {plural(cube.rounds, "round")}, the quiet one included', 36)
         for label in (SAFE, ORDINARY, STRONG, FAULTY):
             self.label(label)
         self.y += 18

@@ -77,8 +77,8 @@ class Walks:
         yield f'  <rect class="badge walk-{ink}" x="{x - width / 2:.1f}" y="{y - 10:.1f}" width="{width}" height="20" rx="10"/>'
         yield f'  <text class="hop" x="{x:.1f}" y="{y + 4.5:.1f}">{text}</text>'
 
-    def covered(self, x, y, width):
-        """How much a tag covers that is centred here: points of the walks' edges, 40 on each; far more if it touches a node or the border."""
+    def covered(self, k, x, y, width):
+        """How much the tag of k covers, centred here: of 40 points of each walk's edges; far more if it touches another node or the border."""
         lines = [(self.at[a], self.at[b]) for _, walk in self.drawn for a, b in walk.hops()]
         points = [(x1 + (x2 - x1) * t / 40, y1 + (y2 - y1) * t / 40) for (x1, y1), (x2, y2) in lines for t in range(41)]
 
@@ -86,7 +86,7 @@ class Walks:
             """How far a point is from the tag, aside and up or down."""
             return max(abs(px - x) - width / 2, 0), max(abs(py - y) - TAG_HEIGHT / 2, 0)
         under = sum(max(off(*point)) <= 6 for point in points)
-        touched = sum(dx * dx + dy * dy < (1.3 * self.r) ** 2 for dx, dy in (off(*place) for place in self.at))
+        touched = sum(dx * dx + dy * dy < (1.3 * self.r) ** 2 for dx, dy in (off(*place) for place in self.at[:k] + self.at[k + 1:]))
         outside = not 4 <= x - width / 2 <= self.right + MARGIN - 4 - width
         return under + 100 * touched + 1000 * outside
 
@@ -96,7 +96,7 @@ class Walks:
             (x, y), (sx, sy, row) = self.at[k], side
             away = reach(self.cube.labels[k], self.r, sx, sy) + 5
             return round(x + sx * (away + width / 2)), round(y + sy * (away + TAG_HEIGHT / 2 + 20 * row))
-        side = min((side for side in SIDES if (k, side) not in self.tagged), key=lambda side: self.covered(*place(side), width))
+        side = min((side for side in SIDES if (k, side) not in self.tagged), key=lambda side: self.covered(k, *place(side), width))
         self.tagged.add((k, side))
         return place(side)
 
