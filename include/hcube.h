@@ -1,3 +1,4 @@
+/* SPDX-License-Identifier: GPL-2.0-only OR MIT */
 /*
  * hcube.h: fault-tolerant routing in a hypercube, as C calls it.
  *
