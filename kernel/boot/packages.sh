@@ -26,6 +26,7 @@ missing_tools() {
     command -v qemu-system-x86_64 >/dev/null || echo qemu-system-x86
     command -v make >/dev/null || echo make
     command -v flock >/dev/null || echo util-linux
+    command -v python3 >/dev/null || echo python3
     command -v gcc >/dev/null || echo gcc libc6-dev
     command -v "${cross}gcc" >/dev/null || echo gcc-x86-64-linux-gnu libc6-dev-amd64-cross
     [ -n "$cross" ] || ldconfig -p | grep -q 'libelf\.so\.1 ' || echo libelf1
