@@ -169,7 +169,7 @@ def main(picture, labels, listing):
     check_words(root, lines)
     check_space(root, len(lines) > 2)
     for what in wrong:
-        print(f'  {picture}: {what}')
+        print(f'  {what}')
     return 1 if wrong else 0
 
 

@@ -83,6 +83,20 @@ def labels_of(n, works):
     return [label(k) for k in range(1 << n)], rounds
 
 
+def is_walk(n, works, walk):
+    """Whether it goes from the source from neighbour to neighbour, over working nodes, over none twice, and ends as it says."""
+    visited, destination = walk.visited, walk.destination
+    if not visited or visited[0] != walk.source or not all(k < 1 << n and works[k] for k in visited):
+        return False
+    steps = [1 << i for i in range(n)]
+    if len(set(visited)) < len(visited) or not all(a ^ b in steps for a, b in walk.hops()):
+        return False
+    nearer = [visited[-1] ^ step for step in steps if (visited[-1] ^ destination) & step]
+    if walk.ending == 'delivered':
+        return visited[-1] == destination
+    return bool(nearer) and not any(works[k] for k in nearer)
+
+
 def walk_of(n, works, line):
     """The walk that a pair's line tells."""
     parts = line.split()
@@ -91,12 +105,10 @@ def walk_of(n, works, line):
     source, destination, ending, first, *visited = (int(part) if part.isdecimal() else part for part in parts)
     if ending == 'refused' and not visited:
         return Walk(source, destination, ending, [], first)
-    steps = [a ^ b for a, b in zip(visited, visited[1:])]
-    if not (ending in ('delivered', 'halted') and first == len(steps) and visited and visited[0] == source
-            and all(step in [1 << i for i in range(n)] for step in steps) and all(k < 1 << n and works[k] for k in visited)
-            and (visited[-1] == destination) == (ending == 'delivered')):
+    walk = Walk(source, destination, ending, visited, None)
+    if ending not in ('delivered', 'halted') or first != len(walk.hops()) or not is_walk(n, works, walk):
         raise Refused('not a walk of this cube: ' + line)
-    return Walk(source, destination, ending, visited, None)
+    return walk
 
 
 def read(lines):
