@@ -2,9 +2,10 @@
 /*
  * hcube.h: fault-tolerant routing in a hypercube, as C calls it.
  *
- * docs/RULES.md has the rules in whole: Labels for hcube_label, One hop for
- * hcube_hop, Walk for hcube_walk, Tables and the notice for the functions that
- * read a notice, Refusal numbers for all refusals, To C for the answers.
+ * The rules in whole stand in docs/RULES.md of the source repository: Labels for
+ * hcube_label, One hop for hcube_hop, Walk for hcube_walk, Tables and the notice
+ * for the functions that read a notice, Refusal numbers for all refusals, To C
+ * for the answers.
  *
  * A cube of dimension n, 1 to 12, has the nodes 0 to 2^n - 1. Nodes whose
  * numbers differ in bit i alone are neighbours across dimension i.
@@ -114,7 +115,8 @@ extern "C" {
 #define HCUBE_DRAINING 4 /* forwards nothing, but may be a destination */
 
 /* Rules by which nodes are labelled. The number says how many neighbours that
- * do not work or are unsafe make a node unsafe. */
+ * do not work or are unsafe make a node unsafe; two that do not work suffice by
+ * either rule. */
 #define HCUBE_RULE_LEE_HAYES 2 /* the older one */
 #define HCUBE_RULE_CHIU_WU 3
 
@@ -191,7 +193,7 @@ HCUBE_INLINE const char *hcube_refusal_text(uint32_t number)
 #define HCUBE_VALUE(answer) ((answer) & 0xffff)
 
 /* Parts of the answer of hcube_read_notice above these, zero if it refuses:
- * dimension * 2^48 + count * 2^32. */
+ * dimension * 2^48 + count * 2^32. They want the whole answer, of 64 bits. */
 #define HCUBE_NOTICE_DIMENSION(answer) (((answer) >> 48) & 0xffff)
 #define HCUBE_NOTICE_COUNT(answer) (((answer) >> 32) & 0xffff)
 
