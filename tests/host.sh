@@ -70,7 +70,7 @@ build() { # FILE COMMAND...
     stale "$1" || return 0
     built=$1
     shift
-    if [ "${child-none}" = none ]; then # the script has no work_folder
+    if [ "${ended-none}" = none ]; then # the script has no work_folder
         said=$("$@" 2>&1)
     else
         run_child "$@" >"$work/said" 2>&1 || { said=$(cat "$work/said"); false; }

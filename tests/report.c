@@ -15,7 +15,7 @@
 #include "cases.h"
 #include "seen.h"
 
-#define MOST_SECONDS 600u /* of one group, on a slow machine */
+#define MOST_SECONDS 300u /* of one group, on a slow machine */
 
 /* What the process of a group leaves to the program, in memory that they share. */
 static struct left {
@@ -166,6 +166,8 @@ int run_group(const struct group *group)
     int status = run_process(group);
     if (status != 0 || !left->ended) {
         print_end(status);
+        if (left->first)
+            print_replay(group, left->first);
         print_replay(group, left->cases + 1);
     } else if (left->failures || left->cases == 0) {
         printf("FAIL library %s: %lu of %lu cases\n", left->title, left->failures,

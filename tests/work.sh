@@ -30,28 +30,44 @@ quoted() { # WORD
     esac
 }
 
-# Makes the folder `work`. It goes away when the script ends, also by a signal, of
-# which the script then dies: to its caller that is status 128 + the signal's number,
-# and Ctrl-C ends the caller's loop too. PIPE comes from `tests/run | head`.
+# Makes the folder `work`, where the compiler and other scripts put their temporary
+# files too. It goes away when the script ends, also by a signal, of which the script
+# then dies: to its caller that is status 128 + the signal's number, and Ctrl-C ends
+# the caller's loop too. PIPE comes from `tests/run | head`.
 work_folder() {
-    work='' child=''
+    work='' ended=''
     trap '[ -z "$work" ] || rm -rf "$work"' EXIT
     for signal in HUP INT TERM PIPE; do
         # shellcheck disable=SC2064
         trap "end_by $signal" "$signal"
     done
     work=$(mktemp -d) || exit 2
+    export TMPDIR="$work"
 }
 
 end_by() { # SIGNAL
     trap '' HUP INT TERM PIPE
-    {
-        # the second if it has no group of its own yet
-        [ -z "$child" ] || { kill -s TERM -- "-$child" "$child"; wait "$child"; }
-    } 2>/dev/null
+    running=${!-}
+    if [ "$running" != "$ended" ]; then
+        end_group "$running" >/dev/null 2>&1 &
+        wait "$running"
+        kill -s KILL "$!"
+    fi 2>/dev/null
     [ -z "$work" ] || rm -rf "$work"
     trap - EXIT "$1"
     kill -s "$1" $$
+}
+
+# Ends a command and all that it started. They are told more than once, since what has
+# only just begun may miss it; and what has not ended after some seconds is killed.
+end_group() { # PROCESS
+    tries=20
+    while [ $tries -gt 0 ]; do
+        kill -s TERM -- "-$1" || kill -s TERM "$1" || return
+        tries=$((tries - 1))
+        sleep 0.2
+    done
+    kill -s KILL -- "-$1"
 }
 
 # Runs a command that may take long, in a process group of its own, so that a signal
@@ -60,9 +76,8 @@ end_by() { # SIGNAL
 # after work_folder, and not in a subshell.
 run_child() { # COMMAND...
     setsid "$@" &
-    child=$!
-    wait "$child"
+    wait "$!"
     set -- $?
-    child=''
+    ended=$!
     return "$1"
 }
