@@ -1,5 +1,5 @@
 -- Each contract settles everything (RULES, What the contracts settle): two answers that it allows are equal, and so is each lent buffer afterwards. And nothing
--- is asked of a caller. Both are said of the claims that the check makes of the function's own clauses, for every public function.
+-- is asked of a caller. Both are said of the claims that the check makes of the function's own clauses, for every public function of the library's crates.
 use Rattle.cube.specs.Contracts.{AsksNothing, Settles}
 use Rattle.cube.proofs.Functions as cube
 use Rattle.groups.proofs.Functions as groups
