@@ -1,5 +1,11 @@
+/* SPDX-License-Identifier: GPL-2.0-only OR MIT */
 /*
  * hcube.h: fault-tolerant routing in a hypercube, as C calls it.
+ *
+ * The rules in whole stand in docs/RULES.md of the source repository: Labels for
+ * hcube_label, One hop for hcube_hop, Walk for hcube_walk, Tables and the notice
+ * for the functions that read a notice, Refusal numbers for all refusals, To C
+ * for the answers.
  *
  * A cube of dimension n, 1 to 12, has the nodes 0 to 2^n - 1. Nodes whose
  * numbers differ in bit i alone are neighbours across dimension i.
@@ -109,7 +115,8 @@ extern "C" {
 #define HCUBE_DRAINING 4 /* forwards nothing, but may be a destination */
 
 /* Rules by which nodes are labelled. The number says how many neighbours that
- * do not work or are unsafe make a node unsafe. */
+ * do not work or are unsafe make a node unsafe; two that do not work suffice by
+ * either rule. */
 #define HCUBE_RULE_LEE_HAYES 2 /* the older one */
 #define HCUBE_RULE_CHIU_WU 3
 
@@ -186,7 +193,7 @@ HCUBE_INLINE const char *hcube_refusal_text(uint32_t number)
 #define HCUBE_VALUE(answer) ((answer) & 0xffff)
 
 /* Parts of the answer of hcube_read_notice above these, zero if it refuses:
- * dimension * 2^48 + count * 2^32. */
+ * dimension * 2^48 + count * 2^32. They want the whole answer, of 64 bits. */
 #define HCUBE_NOTICE_DIMENSION(answer) (((answer) >> 48) & 0xffff)
 #define HCUBE_NOTICE_COUNT(answer) (((answer) >> 32) & 0xffff)
 
@@ -331,9 +338,10 @@ HCUBE_INLINE uint32_t hcube_row_node(const uint8_t *row, size_t place)
  *   10  its second group is zero or has its high bit set
  *   1   the dimension is not 1 to 12
  * The value of a refusal is the place where the number begins, which is 0.
- * Accepted: kind 0, value the dimension. hcube_read_notice with the same bytes
- * answers this dimension or a refusal of something behind it, and it refuses
- * with 9, 10 or 1 at place 0 where this does, whichever table it is lent.
+ * Accepted: kind 0, value the dimension. Then hcube_read_notice, with the same
+ * bytes and a table of HCUBE_FAULT_BYTES(value) bytes, answers this dimension or
+ * refuses, with 9 to 12, something behind it. Where this refuses it refuses
+ * alike, whichever table it is lent.
  */
 uint32_t hcube_notice_dimension(const uint8_t *bytes, size_t bytes_len);
 

@@ -66,9 +66,9 @@ def objdump_command():
 
 
 def objdump(path, *words):
-    run = subprocess.run([objdump_command(), "-w", *words, path], capture_output=True, text=True)
+    run = subprocess.run([objdump_command(), "-w", *words, "--", path], capture_output=True, text=True, errors="replace")
     if run.returncode:
-        raise NotReadable(run.stderr.strip())
+        raise NotReadable(run.stderr.strip() or run.stdout.strip() or "objdump failed")
     return run.stdout.splitlines()
 
 
@@ -106,6 +106,8 @@ def read_sections(path, thing):
         if not row:
             continue
         name, size, flags = row.groups()
+        if name == ".modinfo":
+            raise NotReadable("it is a whole module; check hcube_x86_64.o, which Kbuild made beside it")
         if int(size, 16) and "ALLOC" in flags and not re.search("READONLY|CODE", flags):
             thing.writable.append(name)
 

@@ -8,9 +8,10 @@ import re
 import sys
 
 HEAD = """\
+/* SPDX-License-Identifier: GPL-2.0-only OR MIT */
 /*
  * The routing functions of include/hcube.h for a Linux kernel module on x86-64.
- * Written by kernel/build from the proved crate hcube; do not edit. docs/KERNEL.md says how to use it.
+ * Written by kernel/build of the source repository from the proved crate hcube; do not edit. docs/KERNEL.md there says how to use it.
  */
 #include <linux/linkage.h>
 

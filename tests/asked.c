@@ -69,6 +69,15 @@ void keep_walk(struct walk_question asked)
     keep_bytes("row", asked.row, asked.row_len);
 }
 
+void keep_dimension(const uint8_t *bytes, size_t len)
+{
+    if (!last)
+        return;
+    snprintf(last->call, sizeof last->call, "hcube_notice_dimension");
+    last->count = 0;
+    keep_bytes("bytes", bytes, len);
+}
+
 void keep_notice(const uint8_t *bytes, size_t len, const uint8_t *faults,
                  size_t faults_len)
 {

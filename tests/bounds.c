@@ -1,8 +1,8 @@
 /*
- * bounds.c: demand 3 of document 01, whose destination may be draining since A4:
- * that walks by the labels of two tables arrive, after how many hops, and what
- * falls with each of them (document 02, A8). What is expected stands here once
- * more and is not asked of the reference.
+ * bounds.c: demand 3 (RULES, When frames arrive), whose destination may be
+ * draining: that walks by the labels of two tables arrive, after how many hops,
+ * and what falls with each of them (RULES, No node twice). What is expected stands
+ * here once more and is not asked of the reference.
  */
 #include "bounds.h"
 

@@ -103,6 +103,37 @@ uint32_t check_walk(struct walk_question asked)
     return answer;
 }
 
+uint32_t check_dimension(const uint8_t *bytes, size_t len)
+{
+    uint32_t answer, want = ref_notice_dimension(bytes, len);
+    lend(&read_only, bytes, len);
+    answer = ask_dimension(read_only.bytes, len);
+    expect(answer == want, "dimension of %lu bytes: %08x, not %08x",
+           (unsigned long)len, answer, want);
+    expect(lent_is(&read_only, bytes), "dimension of %lu bytes: a byte changed",
+           (unsigned long)len);
+    saw_dimension(want);
+    return answer;
+}
+
+/* What the dimension alone refuses, the notice is refused for alike. Otherwise it
+ * has this dimension, or a table of another length is refused with 2, or a number
+ * behind the dimension with 9 to 12. */
+static void check_sized(uint32_t dimension, uint64_t notice, size_t faults_len)
+{
+    uint32_t n = HCUBE_VALUE(dimension);
+    uint64_t refusal = HCUBE_REFUSAL(notice);
+    int agrees;
+    if (HCUBE_REFUSAL(dimension))
+        agrees = notice == dimension;
+    else if (faults_len != HCUBE_FAULT_BYTES(n))
+        agrees = notice == NOTICE_REFUSED(2, 0);
+    else
+        agrees = refusal ? refusal >= 9 : HCUBE_NOTICE_DIMENSION(notice) == n;
+    expect(agrees, "dimension %08x, but notice %016llx", dimension,
+           (unsigned long long)notice);
+}
+
 uint64_t check_notice(const uint8_t *bytes, size_t len,
                       uint8_t *faults, size_t faults_len)
 {
@@ -120,6 +151,7 @@ uint64_t check_notice(const uint8_t *bytes, size_t len,
     expect(same, "notice of %lu bytes (%016llx): wrong bytes",
            (unsigned long)len, (unsigned long long)want);
     saw_notice(want);
+    check_sized(check_dimension(bytes, len), answer, faults_len);
     memcpy(faults, writable.bytes, faults_len);
     return answer;
 }

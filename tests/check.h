@@ -21,6 +21,8 @@
 uint32_t check_label(struct label_question asked);
 uint32_t check_hop(struct hop_question asked);
 uint32_t check_walk(struct walk_question asked);
+uint32_t check_dimension(const uint8_t *bytes, size_t len);
+/* Also that the dimension of the bytes alone agrees with the whole notice. */
 uint64_t check_notice(const uint8_t *bytes, size_t len,
                       uint8_t *faults, size_t faults_len);
 /* The same, over a fault table of random bytes that is not kept. */

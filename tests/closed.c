@@ -1,6 +1,6 @@
 /*
- * closed.c: nodes that one job closes, A10 of document 02: all tables of small
- * cubes, and a worked cabinet with two jobs, its numbers as literals. What is
+ * closed.c: nodes that one job closes (RULES, Which nodes work): all tables of
+ * small cubes, and a worked cabinet with two jobs, its numbers as literals. What is
  * expected stands here once more and is not asked of the reference.
  */
 #include <string.h>
@@ -101,7 +101,7 @@ static void one_node(uint32_t n, uint32_t job)
     }
 }
 
-/* ---- figure 1 of document 001, n = 4 with 2, 4, 8 and 15 faulty, for two jobs */
+/* ---- K4 (RULES, Numbers on both sides) for two jobs */
 
 static uint8_t both[32];
 

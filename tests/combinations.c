@@ -1,8 +1,8 @@
 /*
  * combinations.c: labelling, hop and walk with all that they refuse, in every
- * combination. Which refusal is due stands here once more, in document 02's order,
- * and is not asked of the reference. That nothing is written then is checked by
- * check.c.
+ * combination. Which refusal is due stands here once more, in the order of RULES
+ * (Refusal numbers), and is not asked of the reference. That nothing is written
+ * then is checked by check.c.
  */
 #include <string.h>
 

@@ -1,8 +1,8 @@
 /*
- * draining.c: what A4 of document 02 says of draining nodes. In labelling they
- * count as faulty, and without any the labels are those of document 01. They
- * take what is addressed to them and forward nothing. What is expected stands
- * here once more and is not asked of the reference.
+ * draining.c: draining nodes (RULES, Which nodes work, Labels, One hop). In
+ * labelling they count as faulty, and without any the labels are those of the faulty
+ * nodes alone. They take what is addressed to them and forward nothing. What is
+ * expected stands here once more and is not asked of the reference.
  */
 #include <string.h>
 
@@ -22,8 +22,8 @@ static unsigned count_near(uint32_t n, uint32_t k, const uint8_t *bytes,
     return count;
 }
 
-/* Document 01's labels of a fault table; it knows no draining node. A mark is 2 and
- * is put in place: that makes the same labels, and says nothing of exchanges. */
+/* The labels of a fault table, without draining nodes (RULES, Labels). A mark is 2
+ * and is put in place: that makes the same labels, and says nothing of exchanges. */
 static void older_labels(uint32_t n, uint32_t rule, const uint8_t *table,
                          uint8_t *older)
 {
@@ -63,7 +63,7 @@ static void counts_as_faulty(uint32_t n, uint32_t rule)
            rule);
     older_labels(n, rule, faults, older);
     expect(!memcmp(labels, older, (size_t)1 << n),
-           "n = %u by %u, faulty nodes alone: not document 01's labels", n, rule);
+           "n = %u by %u, faulty nodes alone: not their labels", n, rule);
     for (uint32_t k = 0; k < 1u << n; k++)
         want[k] = want[k] ? want[k] : older[k];
     expect(!memcmp(got, want, (size_t)1 << n),

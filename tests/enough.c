@@ -1,7 +1,7 @@
 /*
  * enough.c: how many nodes may be out of work and some node still be safe, so
- * that every frame is delivered (theorem 4 of source 001), by either rule; and that
- * one more may leave none. Out of work is a node in any of the three tables.
+ * that every frame is delivered, by either rule; and that one more may leave none
+ * (RULES, When frames arrive). Out of work is a node in any of the three tables.
  */
 #include "bounds.h"
 #include "cabinet.h"

@@ -1,8 +1,8 @@
 /*
  * exchanges.c: how many exchanges labelling takes: the tables that take the most
- * there are or that are known, those that take one alone, and the ceilings of
- * document 02's request A11. These are counted here, in the tables and in the
- * labels, and are not asked of the reference.
+ * there are or that are known, those that take one alone, and the ceilings (RULES,
+ * How many exchanges there can be). These are counted here, in the tables and in
+ * the labels, and are not asked of the reference.
  */
 #include <string.h>
 

@@ -1,5 +1,5 @@
 /*
- * frames.c: no frame passes a node twice (document 02, A8), on the labels of a
+ * frames.c: no frame passes a node twice (RULES, No node twice), on the labels of a
  * cabinet and on any others. What is expected stands here once more and is not
  * asked of the reference; of a walk's row check_walk expects it. Frames that end
  * after more hops than a walk may have are grown in long_walks.c.

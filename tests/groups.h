@@ -34,6 +34,7 @@ void check_job_combinations(void);
 void check_hop_combinations(void);
 void check_walk_combinations(void);
 void check_orders(void);          /* orders.c */
+void check_dimensions(void);      /* dimensions.c */
 void check_notices(void);         /* notices.c */
 void check_damaged_notices(void);
 void check_notice_orders(void);

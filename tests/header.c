@@ -1,6 +1,7 @@
 /*
- * header.c: uses every name of hcube.h; compiled as C and as C++ by
- * tests/header, and never run.
+ * header.c: uses every name of hcube.h, and every macro that takes something
+ * with variables too, since a macro warns only where it is used. Compiled as C
+ * and as C++ by tests/header, and never run.
  */
 #include "hcube.h"
 #include "hcube.h"
@@ -8,13 +9,39 @@
 /* A line that does not compile unless the condition holds. */
 #define HOLDS(name, condition) typedef char name[(condition) ? 1 : -1]
 
+/* A cast that either language takes without a warning. */
+#ifdef __cplusplus
+#define CAST(type, value) (static_cast<type>(value))
+#else
+#define CAST(type, value) ((type)(value))
+#endif
+
+/* What #if takes. */
+#if HCUBE_VERSION < 10000 || HCUBE_VERSION_MAJOR < 1 || \
+    HCUBE_VERSION / 10000 != HCUBE_VERSION_MAJOR || \
+    HCUBE_VERSION / 100 % 100 != HCUBE_VERSION_MINOR || \
+    HCUBE_VERSION % 100 != HCUBE_VERSION_PATCH
+#error the version is not made of its parts
+#endif
+#if HCUBE_DIMENSION_MAX != 12 || HCUBE_NODES_MAX != 4096 || \
+    HCUBE_LABEL_BYTES_MAX != 8192 || HCUBE_FAULT_BYTES_MAX != 512 || \
+    HCUBE_ROW_BYTES != 34
+#error the sizes of the largest cube are wrong
+#endif
+HOLDS(most_nodes, HCUBE_NODES_MAX == HCUBE_NODES(HCUBE_DIMENSION_MAX));
+HOLDS(most_labels,
+      HCUBE_LABEL_BYTES_MAX == HCUBE_LABEL_BYTES(HCUBE_DIMENSION_MAX));
+HOLDS(most_faults,
+      HCUBE_FAULT_BYTES_MAX == HCUBE_FAULT_BYTES(HCUBE_DIMENSION_MAX));
+
 HOLDS(answer_refusal, HCUBE_REFUSAL(0x08000000u) == HCUBE_TOO_MANY_HOPS);
 HOLDS(answer_kind, HCUBE_KIND(0x0002000bu) == HCUBE_HALTED);
 HOLDS(answer_value, HCUBE_VALUE(0x0001000bu) == 11);
 
 /* Answers of 64 bits: a notice that is read, one that is refused, every bit. */
 #define NOTICE(dimension, count, low)                                          \
-    ((uint64_t)(dimension) << 48 | (uint64_t)(count) << 32 | (uint64_t)(low))
+    (CAST(uint64_t, dimension) << 48 | CAST(uint64_t, count) << 32 |           \
+     CAST(uint64_t, low))
 #define READ NOTICE(12, 4096, 4099)
 #define REFUSED NOTICE(0, 0, 0x0a000002u)
 #define ALL_BITS NOTICE(0xffff, 0xffff, 0xffffffffu)
@@ -26,16 +53,16 @@ HOLDS(notice_read, HCUBE_REFUSAL(READ) == HCUBE_ACCEPTED &&
 HOLDS(notice_refused, HCUBE_REFUSAL(REFUSED) == HCUBE_BAD_GROUP &&
                           HCUBE_KIND(REFUSED) == 0 &&
                           HCUBE_VALUE(REFUSED) == 2);
-HOLDS(notice_cut, HCUBE_REFUSAL((uint32_t)REFUSED) == HCUBE_BAD_GROUP &&
-                      HCUBE_VALUE((uint32_t)REFUSED) == 2 &&
-                      HCUBE_REFUSAL((uint32_t)READ) == HCUBE_ACCEPTED &&
-                      HCUBE_VALUE((uint32_t)READ) == 4099);
+HOLDS(notice_cut, HCUBE_REFUSAL(CAST(uint32_t, REFUSED)) == HCUBE_BAD_GROUP &&
+                      HCUBE_VALUE(CAST(uint32_t, REFUSED)) == 2 &&
+                      HCUBE_REFUSAL(CAST(uint32_t, READ)) == HCUBE_ACCEPTED &&
+                      HCUBE_VALUE(CAST(uint32_t, READ)) == 4099);
 HOLDS(bits_of_64, HCUBE_REFUSAL(ALL_BITS) == 0xff &&
                       HCUBE_KIND(ALL_BITS) == 0xff &&
                       HCUBE_VALUE(ALL_BITS) == 0xffff);
-HOLDS(bits_of_32, HCUBE_REFUSAL((uint32_t)ALL_BITS) == 0xff &&
-                      HCUBE_KIND((uint32_t)ALL_BITS) == 0xff &&
-                      HCUBE_VALUE((uint32_t)ALL_BITS) == 0xffff);
+HOLDS(bits_of_32, HCUBE_REFUSAL(CAST(uint32_t, ALL_BITS)) == 0xff &&
+                      HCUBE_KIND(CAST(uint32_t, ALL_BITS)) == 0xff &&
+                      HCUBE_VALUE(CAST(uint32_t, ALL_BITS)) == 0xffff);
 HOLDS(bits_of_notice, HCUBE_NOTICE_DIMENSION(ALL_BITS) == 0xffff &&
                           HCUBE_NOTICE_COUNT(ALL_BITS) == 0xffff);
 
@@ -64,8 +91,9 @@ HOLDS(sizes, sizeof HCUBE_EXCHANGES_MAX(1) == sizeof(size_t) &&
                  sizeof HCUBE_HALF(1, 1) == sizeof(size_t));
 HOLDS(rules, HCUBE_RULE_LEE_HAYES == 2 && HCUBE_RULE_CHIU_WU == 3 &&
                  HCUBE_BAD_RULE == 18);
-HOLDS(labels, HCUBE_SAFE == 0 && HCUBE_ORDINARY == 1 && HCUBE_STRONG == 2 &&
-                  HCUBE_FAULTY == 3 && HCUBE_DRAINING == 4);
+HOLDS(label_values, HCUBE_SAFE == 0 && HCUBE_ORDINARY == 1 &&
+                        HCUBE_STRONG == 2 && HCUBE_FAULTY == 3 &&
+                        HCUBE_DRAINING == 4);
 HOLDS(kinds, HCUBE_DELIVER == 0 && HCUBE_HOP == 1 && HCUBE_HALTED == 2 &&
                  HCUBE_WALK_DELIVERED == 0 && HCUBE_WALK_HALTED == 1);
 HOLDS(refusals_1, HCUBE_ACCEPTED == 0 && HCUBE_BAD_DIMENSION == 1 &&
@@ -76,22 +104,64 @@ HOLDS(refusals_6, HCUBE_FAULTY_SOURCE == 6 && HCUBE_FAULTY_TARGET == 7 &&
 HOLDS(refusals_10, HCUBE_BAD_GROUP == 10 && HCUBE_BAD_COUNT == 11 &&
                        HCUBE_BAD_ADDRESS == 12 && HCUBE_BAD_JOB == 19);
 
-uint64_t use_all(const uint8_t *bytes, uint8_t *faults, const uint8_t *draining,
-                 const uint8_t *closed, uint8_t *labels, uint8_t *row);
+/* Every macro that takes something, with variables of each type that a caller
+ * may have there. */
+size_t sizes_32(uint32_t n, uint32_t job);
+uint64_t sizes_64(uint64_t n, uint64_t job);
+size_t sizes_as_size(size_t n, size_t job);
+uint32_t parts_32(uint32_t answer);
+uint64_t parts_64(uint64_t answer);
+uint64_t call_all(const uint8_t *bytes, uint8_t *faults, uint8_t *labels,
+                  uint8_t *row);
+const char *words(const uint8_t *row, uint32_t walked);
 
-uint64_t use_all(const uint8_t *bytes, uint8_t *faults, const uint8_t *draining,
-                 const uint8_t *closed, uint8_t *labels, uint8_t *row)
+#define SIZES(n, job)                                                          \
+    (HCUBE_NODES(n) + HCUBE_LABEL_BYTES(n) + HCUBE_FAULT_BYTES(n) +            \
+     HCUBE_HALF(n, job) + HCUBE_EXCHANGES_MAX(n) + HCUBE_ROW_BYTES)
+
+size_t sizes_32(uint32_t n, uint32_t job)
 {
-    uint64_t notice = hcube_read_notice(bytes, 12, faults, HCUBE_FAULT_BYTES(4));
-    uint32_t n = (uint32_t)HCUBE_NOTICE_DIMENSION(notice), job = bytes[12];
-    uint32_t all = hcube_label(n, HCUBE_RULE_CHIU_WU, job, faults,
-                               HCUBE_FAULT_BYTES(n), draining,
-                               HCUBE_FAULT_BYTES(n), closed,
-                               HCUBE_FAULT_BYTES(n), labels,
-                               HCUBE_LABEL_BYTES(n));
-    all += hcube_hop(n, job, 0, 1, labels, HCUBE_LABEL_BYTES(n));
-    all += hcube_walk(n, job, 0, 1, labels, HCUBE_LABEL_BYTES(n), row,
-                      HCUBE_ROW_BYTES);
-    return all + HCUBE_REFUSAL(notice) + HCUBE_NOTICE_COUNT(notice) +
-           HCUBE_VALUE(notice) + labels[HCUBE_HALF(n, job)];
+    return SIZES(n, job);
+}
+
+uint64_t sizes_64(uint64_t n, uint64_t job)
+{
+    return SIZES(n, job);
+}
+
+size_t sizes_as_size(size_t n, size_t job)
+{
+    return SIZES(n, job);
+}
+
+uint32_t parts_32(uint32_t answer)
+{
+    return HCUBE_REFUSAL(answer) + HCUBE_KIND(answer) + HCUBE_VALUE(answer);
+}
+
+uint64_t parts_64(uint64_t answer)
+{
+    return HCUBE_REFUSAL(answer) + HCUBE_KIND(answer) + HCUBE_VALUE(answer) +
+           HCUBE_NOTICE_DIMENSION(answer) + HCUBE_NOTICE_COUNT(answer);
+}
+
+uint64_t call_all(const uint8_t *bytes, uint8_t *faults, uint8_t *labels,
+                  uint8_t *row)
+{
+    static const uint8_t none[HCUBE_FAULT_BYTES_MAX] = {0};
+    uint32_t n = HCUBE_VALUE(hcube_notice_dimension(bytes, 12));
+    size_t table = HCUBE_FAULT_BYTES(n), size = HCUBE_LABEL_BYTES(n);
+    uint64_t read = hcube_read_notice(bytes, 12, faults, table);
+    uint32_t all = hcube_label(n, HCUBE_RULE_CHIU_WU, 1, faults, table, none,
+                               table, none, table, labels, size);
+    all += hcube_hop(n, 1, 0, 1, labels, size);
+    all += hcube_walk(n, 1, 0, 1, labels, size, row, HCUBE_ROW_BYTES);
+    return all + parts_64(read);
+}
+
+const char *words(const uint8_t *row, uint32_t walked)
+{
+    if (hcube_row_node(row, HCUBE_VALUE(walked)) != hcube_row_node(row, 0))
+        return hcube_refusal_text(HCUBE_REFUSAL(walked));
+    return hcube_refusal_text(HCUBE_ACCEPTED);
 }

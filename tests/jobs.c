@@ -1,7 +1,8 @@
 /*
- * jobs.c: two jobs on one cabinet, A10 of document 02. Each job is held against a
- * cabinet of its own: the reference on a buffer of its own, whose fault table has
- * the closed nodes too. So nothing here rests on what the reference knows of jobs.
+ * jobs.c: two jobs on one cabinet (RULES, Which nodes work). Each job is held
+ * against a cabinet of its own: the reference on a buffer of its own, whose fault
+ * table has the closed nodes too. So nothing here rests on what the reference knows
+ * of jobs.
  */
 #include <string.h>
 

@@ -101,6 +101,7 @@ static void lengths_with(uint8_t *big, size_t beyond)
     walk.row_len += beyond;
     expect(ask_walk(walk) == REFUSED(2), "row");
     big[0] = 3;
+    expect(ask_dimension(big, beyond) == 3, "dimension");
     expect(ask_notice(big, beyond, small, 1) == NOTICE_READ(3, 0, 2),
            "notice");
     expect(ask_notice(big, 2, big + 8, beyond + 1) == NOTICE_REFUSED(2, 0),

@@ -58,7 +58,7 @@ static void check_refusals_seen(void)
 {
     begin_group("coverage of refusals");
     for (unsigned question = 0; question < QUESTIONS; question++)
-        for (unsigned job = 0; job < (question == NOTICE ? 1 : NO_JOB); job++)
+        for (unsigned job = 0; job < (question < NOTICE ? NO_JOB : 1); job++)
             refusals_came_up(question, job);
     CAME_UP("refusal of label, no job", refusal[LABEL][NO_JOB], 18, 19);
     CAME_UP("refusal of hop, no job", refusal[HOP][NO_JOB], 19, 19);
@@ -88,6 +88,7 @@ static void check_endings_seen(void)
         CAME_UP("walk at n", cube[WALK][job], 1, 12);
     }
     CAME_UP("notice of n", cube[NOTICE][0], 1, 12);
+    CAME_UP("dimension n", cube[DIMENSION][0], 1, 12);
     end_group();
 }
 
@@ -126,6 +127,7 @@ static const struct group groups[] = {
     {"hop_reads", check_hop_reads},
     {"label_buffer", check_label_buffer},
     {"damaged", check_damaged},
+    {"dimensions", check_dimensions},
     {"notices", check_notices},
     {"damaged_notices", check_damaged_notices},
     {"cut_notices", check_cut_notices},

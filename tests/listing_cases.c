@@ -115,7 +115,7 @@ static void good_inputs(void)
     }
 }
 
-/* The worked cubes of document 01 with every pair. */
+/* Worked cubes (RULES, Numbers on both sides) with every pair. */
 static void worked_cubes(void)
 {
     static const struct {

@@ -1,6 +1,6 @@
 /*
- * orders.h: inputs to which two refusals apply at once. The one that document 01
- * and the requests of document 02 name first is given.
+ * orders.h: inputs to which two refusals apply at once. The one that stands first
+ * in the order of RULES (Refusal numbers) is given.
  */
 #ifndef ORDERS_H
 #define ORDERS_H

@@ -12,6 +12,7 @@ const struct question questions[QUESTIONS] = {
     [HOP] = {"hop", {1, 19, 2, 5, 4, 6}},
     [WALK] = {"walk", {1, 19, 2, 5, 4, 6, 7, 8}},
     [NOTICE] = {"notice", {9, 10, 1, 2, 11, 12}},
+    [DIMENSION] = {"dimension", {9, 10, 1}},
 };
 
 static const uint8_t none[MOST_LENT];
@@ -127,6 +128,12 @@ uint32_t ask_walk(struct walk_question asked)
     keep_walk(asked);
     return hcube_walk(asked.n, asked.job, asked.s, asked.d, asked.labels,
                       asked.labels_len, asked.row, asked.row_len);
+}
+
+uint32_t ask_dimension(const uint8_t *bytes, size_t len)
+{
+    keep_dimension(bytes, len);
+    return hcube_notice_dimension(bytes, len);
 }
 
 uint64_t ask_notice(const uint8_t *bytes, size_t len, uint8_t *faults,

@@ -17,10 +17,11 @@
 #define MOST_LABEL 4
 #define MOST_REFUSAL 19
 
-enum { LABEL, HOP, WALK, NOTICE, QUESTIONS };
+enum { LABEL, HOP, WALK, NOTICE, DIMENSION, QUESTIONS };
 
 /* Name and refusals of each question; 0 ends the row. Labelling, hop and walk
- * test theirs in this order; a notice is read from left to right. */
+ * test theirs in this order; a notice, or its dimension alone, is read from left
+ * to right. */
 extern const struct question {
     const char *name;
     unsigned refusals[MOST_REFUSAL + 1];
@@ -79,6 +80,7 @@ void put_anything(uint8_t *bytes, size_t len);
 uint32_t ask_label(struct label_question asked);
 uint32_t ask_hop(struct hop_question asked);
 uint32_t ask_walk(struct walk_question asked);
+uint32_t ask_dimension(const uint8_t *bytes, size_t len);
 uint64_t ask_notice(const uint8_t *bytes, size_t len, uint8_t *faults,
                     size_t faults_len);
 

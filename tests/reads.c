@@ -1,8 +1,8 @@
 /*
  * reads.c: which labels the archive reads, watched while its machine code runs,
- * against document 02's request A6: the test of a node reads its neighbours'
- * labels one by one, lowest dimension first, and no more of them than settle it;
- * and against A10: a call for one job reads and writes no byte of the other's half.
+ * against RULES. Labels: the test of a node reads its neighbours' labels one by
+ * one, lowest dimension first, and no more of them than settle it. Which nodes work:
+ * a call for one job reads and writes no byte of the other's half.
  * Here all that is expected is worked out anew from the three tables.
  *
  *   reads [MOST]    checks up to dimension MOST, or 12; prints `ok ..` and `FAIL ..`

@@ -1,5 +1,5 @@
 /*
- * reference.c: document 01, with A4 and A10 of document 02, in the most direct
+ * reference.c: labelling, hop and walk by docs/RULES.md, in the most direct
  * C: one array of marks for each side of an exchange, every scan a loop over the
  * job's labels themselves.
  */

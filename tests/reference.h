@@ -1,8 +1,7 @@
 /*
- * reference.h: the rules of document 01, with the older one of document 02's
- * request A13 beside its own, the draining nodes of A4 and the two jobs of A10,
- * once more, in plain C, to hold the library and the listing program against.
- * The first four functions have the same interface as the library's.
+ * reference.h: the rules of docs/RULES.md once more, in plain C, to hold the
+ * library and the listing program against. The first five functions have the same
+ * interface as the library's.
  */
 #ifndef REFERENCE_H
 #define REFERENCE_H
@@ -31,6 +30,7 @@ uint32_t ref_hop(uint32_t n, uint32_t job, uint32_t c, uint32_t d,
 uint32_t ref_walk(uint32_t n, uint32_t job, uint32_t s, uint32_t d,
                   const uint8_t *labels, size_t labels_len,
                   uint8_t *row, size_t row_len);
+uint32_t ref_notice_dimension(const uint8_t *bytes, size_t len);
 uint64_t ref_read_notice(const uint8_t *bytes, size_t len,
                          uint8_t *faults, size_t faults_len);
 

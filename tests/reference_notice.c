@@ -1,6 +1,6 @@
 /*
- * reference_notice.c: the notice and the listing program's output, by documents
- * 01 and 02, in the most direct C.
+ * reference_notice.c: the notice and the listing program's output, by
+ * docs/RULES.md, in the most direct C.
  */
 #include "reference.h"
 
@@ -50,6 +50,16 @@ static unsigned read_addresses(const uint8_t *bytes, size_t len, size_t *place,
 static uint64_t refused(uint64_t refusal, uint64_t place)
 {
     return refusal * 16777216u + place;
+}
+
+uint32_t ref_notice_dimension(const uint8_t *bytes, size_t len)
+{
+    size_t place = 0;
+    uint32_t n = 0;
+    unsigned refusal = ref_number(bytes, len, &place, &n);
+    if (!refusal && (n < 1 || n > 12))
+        refusal = 1;
+    return refusal ? (uint32_t)refused(refusal, 0) : n;
 }
 
 uint64_t ref_read_notice(const uint8_t *bytes, size_t len,

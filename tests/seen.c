@@ -88,3 +88,10 @@ void saw_notice(uint64_t answer)
     if (HCUBE_REFUSAL(answer) == 0)
         SEEN(cube[NOTICE][0], HCUBE_NOTICE_DIMENSION(answer));
 }
+
+void saw_dimension(uint32_t answer)
+{
+    SEEN(refusal[DIMENSION][0], HCUBE_REFUSAL(answer));
+    if (HCUBE_REFUSAL(answer) == 0)
+        SEEN(cube[DIMENSION][0], HCUBE_VALUE(answer));
+}

@@ -8,8 +8,8 @@
 
 #include "questions.h"
 
-/* By whose call it is: job 0, job 1, or a number that is no job. A notice has no
- * job and counts as job 0. */
+/* By whose call it is: job 0, job 1, or a number that is no job. A notice and its
+ * dimension have no job and count as job 0. */
 enum { NO_JOB = 2, WHOSE };
 
 struct seen {
@@ -37,5 +37,6 @@ void saw_label(struct label_question asked, uint32_t answer,
 void saw_hop(struct hop_question asked, uint32_t answer);
 void saw_walk(struct walk_question asked, uint32_t answer);
 void saw_notice(uint64_t answer);
+void saw_dimension(uint32_t answer);
 
 #endif

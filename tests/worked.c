@@ -1,8 +1,6 @@
 /*
- * worked.c: the numbers that document 01 gives ("Numbers on both sides"), with
- * the exchanges of document 02's request A3 for its rounds, and numbers of our
- * own for its older rule (A13) and its draining nodes (A4), each as a literal,
- * asked of the library.
+ * worked.c: worked numbers (RULES, Numbers on both sides), and more of them for the
+ * older rule and for draining nodes, each as a literal, asked of the library.
  */
 #include <string.h>
 
@@ -73,7 +71,7 @@ static void hop(uint32_t c, uint32_t d, uint32_t answer)
     expect(got == answer, "hop at %u for %u: %08x", c, d, got);
 }
 
-/* n = 4, faulty 2, 4, 8, 15: figure 1 of document 001. */
+/* K4: n = 4, faulty 2, 4, 8, 15. */
 static void figure_1(void)
 {
     label(4, 0x8114, 3);
@@ -101,7 +99,7 @@ static void no_node_safe(void)
     hop(0, 7, 0x20000);
 }
 
-/* By the rule of Lee and Hayes: figure 1 has no safe node; faulty 0, 3, 4 leave
+/* By the rule of Lee and Hayes: K4 has no safe node; faulty 0, 3, 4 leave
  * none in n = 3, where rule 3 does, and some in n = 4. */
 static void older_rule(void)
 {
@@ -118,7 +116,7 @@ static void older_rule(void)
     labels_are("3113300000000000");
 }
 
-/* Figure 1 with node 15 draining: the labels and walks of the others stay. */
+/* K4 with node 15 draining: the labels and walks of the others stay. */
 static void last_node_drained(void)
 {
     label_with(3, 4, 0x0114, 0x8000, 3);
@@ -142,7 +140,7 @@ static void last_node_drained(void)
     walk(0, 15, 4, "0137f");
 }
 
-/* Figure 1 with a fifth node that does not work. Node 9 was on the way from 13 to
+/* K4 with a fifth node that does not work. Node 9 was on the way from 13 to
  * 0, which goes around it now; without node 1 no node is safe. */
 static void one_more_drained(void)
 {

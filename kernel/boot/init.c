@@ -1,7 +1,8 @@
 /*
- * The only program in the virtual machine of kernel/test. It loads the module, has two processes write to
- * /proc/hcube_hammer for some seconds, each with known values in its vector registers that must still be
- * there when the write returns, unloads the module, says how it went and ends the machine.
+ * The only program in the virtual machine of kernel/boot/run. Its argument is the name of the module, which it loads.
+ * Where the module makes a file /proc/NAME, two processes write to it for some seconds, each with known values in its
+ * vector registers that must still be there when the write returns. Then it unloads the module, says how it went and
+ * ends the machine.
  */
 #include <errno.h>
 #include <fcntl.h>
@@ -38,11 +39,11 @@ static long write_with(const struct registers *before, struct registers *after, 
 }
 
 /* Runs in a process of its own. Its status is 0 where every write succeeded and every register was kept. */
-static int work(unsigned seed)
+static int work(const char *path, unsigned seed)
 {
 	static struct registers before, after;
 	time_t end = time(NULL) + SECONDS;
-	int file = open("/proc/hcube_hammer", O_WRONLY);
+	int file = open(path, O_WRONLY);
 	size_t k;
 
 	while (file >= 0 && time(NULL) < end) {
@@ -56,9 +57,16 @@ static int work(unsigned seed)
 	return file < 0;
 }
 
+static int is_file(const char *path)
+{
+	int file = open(path, O_WRONLY);
+
+	return file >= 0 && close(file) == 0;
+}
+
 static int load(void)
 {
-	int file = open("/hcube_demo.ko", O_RDONLY);
+	int file = open("/module.ko", O_RDONLY);
 
 	return file >= 0 && syscall(SYS_finit_module, file, "", 0) == 0;
 }
@@ -75,26 +83,33 @@ static void say(const char *words, long value)
 }
 
 /* Says the worst status of the workers: 0 all is well, 1 a call failed, 2 a vector register was changed. */
-static void run(void)
+static void run(const char *path)
 {
 	int worst = 0, status, k;
 
 	for (k = 0; k < WORKERS; k++)
 		if (fork() == 0)
-			_exit(work(k + 1));
+			_exit(work(path, k + 1));
 	while (wait(&status) > 0)
 		if (!WIFEXITED(status) || WEXITSTATUS(status) > worst)
 			worst = WIFEXITED(status) ? WEXITSTATUS(status) : 1;
 	say("workers ended with", worst);
 }
 
-int main(void)
+int main(int count, char **words)
 {
+	const char *name = count > 1 ? words[1] : "module";
+	char path[100];
+
 	mount("proc", "/proc", "proc", 0, NULL);
+	snprintf(path, sizeof path, "/proc/%s", name);
 	say("start", 0);
 	if (load()) {
-		run();
-		say("unload gave", syscall(SYS_delete_module, "hcube_demo", 0));
+		if (is_file(path))
+			run(path);
+		else
+			say("no workers, since the module has no file to write to, error", errno);
+		say("unload gave", syscall(SYS_delete_module, name, 0));
 	} else {
 		say("the module was not loaded, error", errno);
 	}

@@ -1,6 +1,6 @@
-"""pack.py INIT MODULE: writes an initial file system for kernel/test to standard output.
+"""pack.py INIT MODULE: writes an initial file system for kernel/boot/run to standard output.
 
-It has /init, /hcube_demo.ko, /proc and two devices, as a cpio archive in the form `newc`.
+It has /init, the module as /module.ko, /proc and two devices, as a cpio archive in the form `newc`.
 """
 import sys
 
@@ -31,7 +31,7 @@ def main():
     out.write(entry(3, "dev/console", CHARACTER_DEVICE, device=CONSOLE))
     out.write(entry(4, "dev/kmsg", CHARACTER_DEVICE, device=KERNEL_LOG))
     out.write(entry(5, "init", FILE, content(sys.argv[1])))
-    out.write(entry(6, "hcube_demo.ko", FILE, content(sys.argv[2])))
+    out.write(entry(6, "module.ko", FILE, content(sys.argv[2])))
     out.write(entry(0, "TRAILER!!!", 0))
 
 

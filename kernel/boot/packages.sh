@@ -1,6 +1,6 @@
-# Read by kernel/test: gets a stock Debian kernel, its headers and the tools to build and boot a module.
-# Kernel packages are unpacked into a cache folder and installed nowhere; remove it to fetch anew.
-# On another machine than x86-64 the headers' own programs run under the kit's emulator.
+# shellcheck shell=sh disable=SC2034
+# Read by kernel/test and the scripts of kernel/boot: where the packages of a kernel go, and the tools to build and boot
+# a module.
 
 cache=${XDG_CACHE_HOME:-${HOME:-/tmp}/.cache}/hcube-kernel
 machine=$(uname -m)
@@ -14,71 +14,6 @@ retried() { # COMMAND...: up to three times
     return 1
 }
 
-# An apt that knows amd64 alone and keeps its lists in the cache folder: it needs no root and changes nothing.
-own_apt() { # apt-get | apt-cache, WORDS...
-    program=$1
-    shift
-    timeout 300 "$program" -q -o Dir::State::lists="$cache/lists" -o Dir::Cache="$cache/apt" -o APT::Architecture=amd64 \
-        -o APT::Architectures::=amd64 -o APT::Sandbox::User=root -o Debug::NoLocking=1 -o Acquire::http::Timeout=30 "$@"
-}
-
-# A source of this machine's that cannot be reached is no matter, as long as Debian's kernels are known then.
-update_lists() {
-    mkdir -p "$cache/lists/partial" "$cache/apt/archives/partial"
-    own_apt apt-get update
-    [ -n "$(current_release)" ]
-}
-
-depends_of() { own_apt apt-cache depends "$1" | sed -n 's/^ *|*Depends: //p'; } # PACKAGE
-
-# Prints the release of the kernel that Debian's cloud kernel package stands for now.
-current_release() { depends_of linux-headers-cloud-amd64 | sed -n 's/^linux-headers-\([0-9].*\)$/\1/p' | head -n 1; }
-
-kernel_packages() { # RELEASE
-    echo "linux-image-$1" "linux-headers-$1"
-    depends_of "linux-headers-$1" | grep -e '^linux-headers-.*-common$' -e '^linux-kbuild-'
-    [ -z "$cross" ] || echo libc6 libelf1 zlib1g
-}
-
-# The headers' own programs are for x86-64: puts a script that calls the emulator in the place of each.
-emulate_programs() { # FOLDER FINAL_FOLDER
-    emulator=$(dirname "$(dirname "$(rt doc)")")/on/$machine/toolchain/bin/qemu-x86_64
-    # the loader's absolute link would lead out of the folder
-    ln -sf ../lib/x86_64-linux-gnu/ld-linux-x86-64.so.2 "$1/lib64/ld-linux-x86-64.so.2"
-    find "$1"/usr/lib/linux-kbuild-* -type f -perm -u+x | sort | while read -r program; do
-        [ "$(head -c 4 "$program" | tail -c 3)" = ELF ] || continue
-        mv "$program" "$program.x86_64"
-        # a program may call another by its own name and an ending, so it keeps its name
-        printf '#!/bin/sh\nexec "%s" -0 "$0" -L "%s" "$0.x86_64" "$@"\n' "$emulator" "$2" >"$program"
-        chmod +x "$program"
-    done
-}
-
-unpack_kernel() { # RELEASE
-    part=$cache/part
-    rm -rf "$part"
-    mkdir -p "$part/packages" "$part/tree"
-    # shellcheck disable=SC2046
-    (cd "$part/packages" && retried own_apt apt-get download $(kernel_packages "$1")) || { echo "no packages of $1"; return 1; }
-    for package in "$part"/packages/*.deb; do dpkg -x "$package" "$part/tree" || return; done
-    sed -i "s|/usr/src|$cache/$1/usr/src|" "$part/tree/usr/src/linux-headers-$1/Makefile" || return
-    [ -z "$cross" ] || emulate_programs "$part/tree" "$cache/$1"
-    mv "$part/tree" "$cache/$1"
-    rm -rf "$part"
-}
-
-# Leaves in `kernel` the folder of the unpacked kernel and in `release` its release.
-get_kernel() { # [RELEASE]
-    release=${1:-$(cat "$cache/release" 2>/dev/null)}
-    if [ -z "$release" ] || [ ! -d "$cache/$release" ]; then
-        retried update_lists || { echo "no package linux-headers-cloud-amd64 is known"; return 1; }
-        release=${release:-$(current_release)}
-        unpack_kernel "$release" || return
-        [ -n "${1:-}" ] || echo "$release" >"$cache/release"
-    fi
-    kernel=$cache/$release
-}
-
 has_objdump() {
     for program in objdump x86_64-linux-gnu-objdump; do
         "$program" -i 2>/dev/null | grep -q elf64-x86-64 && return
@@ -90,14 +25,18 @@ missing_tools() {
     has_objdump || echo binutils-x86-64-linux-gnu
     command -v qemu-system-x86_64 >/dev/null || echo qemu-system-x86
     command -v make >/dev/null || echo make
+    command -v flock >/dev/null || echo util-linux
+    command -v python3 >/dev/null || echo python3
     command -v gcc >/dev/null || echo gcc libc6-dev
     command -v "${cross}gcc" >/dev/null || echo gcc-x86-64-linux-gnu libc6-dev-amd64-cross
     [ -n "$cross" ] || ldconfig -p | grep -q 'libelf\.so\.1 ' || echo libelf1
 }
 
+# Another run may be installing too, and has the lock of Debian's own then.
 install_tools() {
     # shellcheck disable=SC2046
-    DEBIAN_FRONTEND=noninteractive timeout 600 apt-get -q install -y --no-install-recommends $(missing_tools) && return
+    DEBIAN_FRONTEND=noninteractive timeout 600 apt-get -q install -y --no-install-recommends -o DPkg::Lock::Timeout=300 \
+        $(missing_tools) && return
     timeout 300 apt-get -q update
     return 1
 }

@@ -1,7 +1,8 @@
+// SPDX-License-Identifier: GPL-2.0-only OR MIT
 /*
- * An example of a kernel module that calls the routing functions of hcube.h; the calls are in stored.c. At load it
- * labels each stored cube for both jobs in one buffer, asks hop and walk for all pairs of either, compares with the
- * stored answers and prints one line.
+ * An example of a kernel module that calls the functions of hcube.h; the calls are in stored.c. At load it labels each
+ * stored cube for both jobs in one buffer, asks hop and walk for all pairs of either, reads the stored notices,
+ * compares with the stored answers and prints one line.
  */
 #include <linux/init.h>
 #include <linux/kernel.h>
@@ -39,18 +40,21 @@ static size_t __init wrong_answers(const struct hcube_cube *cube, uint8_t *label
 static int __init hcube_example_init(void)
 {
 	uint8_t *labels = kmalloc(HCUBE_LABEL_BYTES(12), GFP_KERNEL); /* too much for the kernel's stack */
-	size_t k, pairs = 0, wrong = 0;
+	size_t k, pairs = 0, wrong;
 	int error;
 
 	if (!labels)
 		return -ENOMEM;
+	wrong = hcube_wrong_notices();
+	if (wrong)
+		pr_err("hcube_example: %zu notices wrong\n", wrong);
 	for (k = 0; k < hcube_stored_count; k++) {
 		wrong += wrong_answers(&hcube_stored[k], labels);
 		pairs += HCUBE_JOBS * hcube_pairs(&hcube_stored[k]);
 	}
 	kfree(labels);
-	pr_info("hcube_example: %zu cubes labelled for two jobs, %zu pairs compared, %zu wrong\n", hcube_stored_count,
-		pairs, wrong);
+	pr_info("hcube_example: %zu cubes labelled for two jobs, %zu pairs and %zu notices compared, %zu wrong\n",
+		hcube_stored_count, pairs, hcube_notice_count, wrong);
 	error = wrong ? -EIO : hcube_jobs_compare();
 	return error ? error : hcube_hammer_start();
 }
@@ -63,4 +67,4 @@ static void __exit hcube_example_exit(void)
 module_init(hcube_example_init);
 module_exit(hcube_example_exit);
 MODULE_DESCRIPTION("Example of the hypercube routing functions");
-MODULE_LICENSE("GPL");
+MODULE_LICENSE("Dual MIT/GPL");

@@ -1,8 +1,10 @@
+// SPDX-License-Identifier: GPL-2.0-only OR MIT
 /*
- * The load of kernel/test; a driver needs nothing of it. Whoever writes a number of milliseconds to
- * /proc/hcube_hammer has all stored answers compared again and again for that long, in his own process and
- * with interrupts on, while a timer interrupts every 100 microseconds and compares a pair itself, of each cube and of
- * either job in turn, and one of the job that the process is not at work for, in the very buffer that it is at work in.
+ * The load of kernel/test; a driver needs nothing of it. Whoever writes a number of milliseconds to /proc/hcube_demo,
+ * which has the module's name, has all stored answers compared again and again for that long, in his own process and
+ * with interrupts on. Meanwhile a timer interrupts every 100 microseconds and compares three things itself: a pair, of
+ * each cube and of either job in turn; one of the job that the process is not at work for, in the very buffer that it
+ * is at work in; and a notice.
  */
 #include <linux/atomic.h>
 #include <linux/hrtimer.h>
@@ -17,10 +19,10 @@
 #include "hcube_hammer.h"
 #include "stored.h"
 
-#define HAMMER_FILE "hcube_hammer"
+#define HAMMER_FILE KBUILD_MODNAME
 #define HAMMER_PERIOD ns_to_ktime(100 * 1000)
 
-static atomic64_t pairs, interrupts, beside, wrong;
+static atomic64_t pairs, interrupts, beside, notices, wrong;
 
 struct hammer {
 	struct hrtimer timer;
@@ -68,8 +70,10 @@ static enum hrtimer_restart interrupted(struct hrtimer *timer)
 	hammer->turn++;
 	if (!hcube_pair_is_right(cube, job, &cube->closings[job], cube->labels, pair / nodes, pair % nodes))
 		atomic64_inc(&wrong);
-	atomic64_inc(&interrupts);
 	compare_beside(hammer);
+	if (!hcube_notice_is_right(&hcube_notices[hammer->turn % hcube_notice_count]))
+		atomic64_inc(&wrong);
+	atomic64_inc(&interrupts);
 	hrtimer_forward_now(timer, HAMMER_PERIOD);
 	return HRTIMER_RESTART;
 }
@@ -85,7 +89,7 @@ static void set_up(struct hammer *hammer)
 #endif
 }
 
-/* Labelling takes its turns too: about a tenth of the time. */
+/* Labelling and notices take their turns too: about a tenth of the time each. */
 static void compare(const struct hcube_cube *cube, uint32_t job, uint8_t *labels)
 {
 	const struct hcube_closing *closing = &cube->closings[job];
@@ -96,6 +100,8 @@ static void compare(const struct hcube_cube *cube, uint32_t job, uint8_t *labels
 			atomic64_inc(&wrong);
 	atomic64_add(hcube_wrong_pairs(cube, job, closing, labels), &wrong);
 	atomic64_add(hcube_pairs(cube), &pairs);
+	atomic64_add(hcube_wrong_notices(), &wrong);
+	atomic64_add(hcube_notice_count, &notices);
 }
 
 /* Each job in turn, while the timer asks the other one. */
@@ -153,7 +159,9 @@ int hcube_hammer_start(void)
 void hcube_hammer_stop(void)
 {
 	remove_proc_entry(HAMMER_FILE, NULL);
-	pr_info("hcube_hammer: %lld pairs compared, %lld in interrupts, %lld beside the other job at work, %lld wrong\n",
+	pr_info("hcube_hammer: %lld pairs compared, %lld in interrupts, %lld beside the other job at work, %lld notices compared, %lld in interrupts, %lld wrong\n",
 		(long long)(atomic64_read(&pairs) + atomic64_read(&interrupts) + atomic64_read(&beside)),
-		(long long)atomic64_read(&interrupts), (long long)atomic64_read(&beside), (long long)atomic64_read(&wrong));
+		(long long)atomic64_read(&interrupts), (long long)atomic64_read(&beside),
+		(long long)(atomic64_read(&notices) + atomic64_read(&interrupts)), (long long)atomic64_read(&interrupts),
+		(long long)atomic64_read(&wrong));
 }

@@ -1,3 +1,4 @@
+// SPDX-License-Identifier: GPL-2.0-only OR MIT
 /*
  * Two jobs with one label buffer, each on a processor of its own, for kernel/test; a driver needs nothing of it. Of
  * each stored cube, job 0 is labelled over and over, its closed table changing, while job 1 asks hop and walk; then
@@ -18,8 +19,8 @@
 #include "hcube_jobs.h"
 #include "stored.h"
 
-/* A trial ends once so many comparisons were made meanwhile, or when its time is over. */
-enum { TRIAL_LEAST_MS = 50, TRIAL_MOST_MS = 500, TRIAL_MEANWHILE = 2000 };
+/* A trial ends once so many comparisons were made meanwhile, or when its time is over, which is longer while there is none. */
+enum { TRIAL_LEAST_MS = 50, TRIAL_MOST_MS = 500, TRIAL_NONE_MS = 10000, TRIAL_MEANWHILE = 2000 };
 
 struct side {
 	const struct hcube_cube *cube;
@@ -137,6 +138,14 @@ static unsigned long least_meanwhile(const struct side *sides)
 	return least;
 }
 
+static bool is_over(const struct side *sides, unsigned long start)
+{
+	unsigned long meanwhile = least_meanwhile(sides);
+
+	return meanwhile >= TRIAL_MEANWHILE ||
+	       time_after_eq(jiffies, start + msecs_to_jiffies(meanwhile ? TRIAL_MOST_MS : TRIAL_NONE_MS));
+}
+
 static int run_trial(struct side *sides)
 {
 	unsigned long start = jiffies;
@@ -148,8 +157,7 @@ static int run_trial(struct side *sides)
 	wake_up_process(sides[1].thread);
 	do {
 		msleep(TRIAL_LEAST_MS);
-	} while (least_meanwhile(sides) < TRIAL_MEANWHILE &&
-		 time_before(jiffies, start + msecs_to_jiffies(TRIAL_MOST_MS)));
+	} while (!is_over(sides, start));
 	kthread_stop(sides[0].thread);
 	kthread_stop(sides[1].thread);
 	return 0;

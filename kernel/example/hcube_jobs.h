@@ -1,3 +1,4 @@
+/* SPDX-License-Identifier: GPL-2.0-only OR MIT */
 /* Two jobs on two processors at once, for kernel/test. */
 #ifndef HCUBE_JOBS_H
 #define HCUBE_JOBS_H

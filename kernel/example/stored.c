@@ -1,5 +1,6 @@
+// SPDX-License-Identifier: GPL-2.0-only OR MIT
 /*
- * Calls the routing functions of hcube.h on the stored cubes and compares with the stored answers. It calls
+ * Calls the functions of hcube.h on the stored cubes and notices, and compares with the stored answers. It calls
  * nothing else of the module.
  */
 #include <linux/kernel.h>
@@ -8,9 +9,12 @@
 #include "hcube.h"
 #include "stored.h"
 #include "answers.h"
+#include "notices.h"
 
 const struct hcube_cube *const hcube_stored = hcube_cubes;
 const size_t hcube_stored_count = ARRAY_SIZE(hcube_cubes);
+const struct hcube_notice *const hcube_notices = notices;
+const size_t hcube_notice_count = ARRAY_SIZE(notices);
 
 uint32_t hcube_label_stored(const struct hcube_cube *cube, uint32_t job, const struct hcube_closing *closing,
 			    uint8_t *labels)
@@ -61,5 +65,24 @@ size_t hcube_wrong_pairs(const struct hcube_cube *cube, uint32_t job, const stru
 	for (s = 0; s <= HCUBE_NODES(cube->n); s++)
 		for (d = 0; d <= HCUBE_NODES(cube->n); d++)
 			wrong += !hcube_pair_is_right(cube, job, closing, labels, s, d);
+	return wrong;
+}
+
+bool hcube_notice_is_right(const struct hcube_notice *notice)
+{
+	uint8_t table[STORED_TABLE_BYTES];
+
+	memset(table, HCUBE_UNTOUCHED, sizeof(table));
+	return hcube_notice_dimension(notice->bytes, notice->len) == notice->dimension &&
+	       hcube_read_notice(notice->bytes, notice->len, table, notice->table_len) == notice->read &&
+	       memcmp(table, notice->table, sizeof(table)) == 0;
+}
+
+size_t hcube_wrong_notices(void)
+{
+	size_t wrong = 0, k;
+
+	for (k = 0; k < hcube_notice_count; k++)
+		wrong += !hcube_notice_is_right(&hcube_notices[k]);
 	return wrong;
 }

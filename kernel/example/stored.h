@@ -1,13 +1,14 @@
+/* SPDX-License-Identifier: GPL-2.0-only OR MIT */
 /*
- * What the module knows of the stored answers, and the comparing with them (stored.c). answers.h, which make_answers
- * writes, has the answers.
+ * What the module knows of the stored answers, and the comparing with them (stored.c). answers.h and notices.h have
+ * the answers; make_answers.c and make_notices.c write these two.
  */
 #ifndef STORED_H
 #define STORED_H
 
 #include "hcube.h"
 
-enum { HCUBE_JOBS = 2, HCUBE_UNTOUCHED = 0xaa };
+enum { HCUBE_JOBS = 2, HCUBE_UNTOUCHED = 0xaa, STORED_NOTICE_BYTES = 16, STORED_TABLE_BYTES = 40 };
 
 /* The answers for one pair. The row of a refused walk keeps the byte HCUBE_UNTOUCHED. */
 struct hcube_answer {
@@ -36,8 +37,20 @@ struct hcube_cube {
 	struct hcube_closing closings[HCUBE_JOBS]; /* job 0's own, job 1's own */
 };
 
+/* A notice, accepted or refused, and its answers. */
+struct hcube_notice {
+	uint8_t bytes[STORED_NOTICE_BYTES];
+	size_t len; /* of the notice */
+	size_t table_len; /* of the fault table that is lent */
+	uint32_t dimension; /* what hcube_notice_dimension answers */
+	uint64_t read; /* what hcube_read_notice does */
+	uint8_t table[STORED_TABLE_BYTES]; /* what the table holds then; a byte that is not written keeps HCUBE_UNTOUCHED */
+};
+
 extern const struct hcube_cube *const hcube_stored;
 extern const size_t hcube_stored_count;
+extern const struct hcube_notice *const hcube_notices;
+extern const size_t hcube_notice_count;
 
 /* Ends may be one above the last node, which is refused. */
 static inline size_t hcube_pairs(const struct hcube_cube *cube)
@@ -64,5 +77,11 @@ bool hcube_pair_is_right(const struct hcube_cube *cube, uint32_t job, const stru
 /* How many of all pairs are not. */
 size_t hcube_wrong_pairs(const struct hcube_cube *cube, uint32_t job, const struct hcube_closing *closing,
 			 const uint8_t *labels);
+
+/* Whether both answers to the notice are as stored, and every byte of the table and behind it. */
+bool hcube_notice_is_right(const struct hcube_notice *notice);
+
+/* How many of all notices are not. */
+size_t hcube_wrong_notices(void);
 
 #endif

@@ -1,6 +1,6 @@
--- What a contract allows, said of plain contents. The check makes of each function two claims from the text of its own clauses: `Asked` of its `requires` and
--- `Post` of its `ensures`. Each crate gathers its public functions with these claims in proofs/Functions.antt, and the promises speak of them and of no copy: a
--- contract that is weakened takes its promises with it.
+-- What a contract allows (RULES, What the contracts settle), said of plain contents. The check makes of each function two claims from the text of its own
+-- clauses: `Asked` of its `requires` and `Post` of its `ensures`. Each crate gathers its public functions with these claims in proofs/Functions.antt, and the
+-- promises speak of them and of no copy: a contract that is weakened takes its promises with it.
 use mathlib.Core.Path.{_≡_}
 use base.Logic.{emp}
 use borrow.Fn.World.{World}

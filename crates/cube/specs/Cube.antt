@@ -1,4 +1,4 @@
--- The cube of document 01: its nodes are the numbers below 2 ^ n, and crossing dimension i changes bit i.
+-- The cube (RULES, What is built): its nodes are the numbers below 2 ^ n, and crossing dimension i changes bit i.
 use mathlib.Core.Bool.{Bool}
 use Prim.Native.Nat.{ℕ, _/_, _%_, _^_}
 use lib.Bits.{bitXor}

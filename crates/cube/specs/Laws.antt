@@ -1,4 +1,4 @@
--- What document 01 says of the cube, as laws of its definitions. Proved in proofs/Laws.antt.
+-- What RULES says of the cube (What is built), as laws of its definitions. Proved in proofs/Laws.antt.
 use mathlib.Core.Bool.{true, not}
 use mathlib.Core.Logic.{_≢_, _↔_}
 use mathlib.Core.Path.{_≡_}

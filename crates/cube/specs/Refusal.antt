@@ -1,5 +1,5 @@
--- Refusals as a table: the tests in the order in which they are made, each with its number. The first test that holds gives the number, and
--- 0 means that none holds. Every question's refusals are such a table.
+-- Refusals as a table (RULES, Refusal numbers): the tests in the order in which they are made, each with its number. The first test that holds gives the
+-- number, and 0 means that none holds. Every question's refusals are such a table.
 use mathlib.Core.Bool.{Bool, cond}
 use mathlib.Core.List.{List, [], _∷_}
 use Prim.Native.Nat.{ℕ}

@@ -1,4 +1,4 @@
--- Tables: a fault table has one bit per node, a label table one byte per node. Both are lists of bytes here.
+-- Tables (RULES, Tables and the notice): a fault table has one bit per node, a label table one byte per node. Both are lists of bytes here.
 use mathlib.Core.Bool.{Bool, cond, _&&_}
 use mathlib.Core.List.{List, [], _∷_}
 use Prim.Native.Nat.{ℕ, zero, suc, _*_, _/_, _%_, _^_}

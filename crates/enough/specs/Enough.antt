@@ -1,5 +1,5 @@
--- How many nodes may be out of work and some node still be safe: theorem 4 of Chiu and Wu 1994, which is for rule 3, and what the older rule allows. Proved in
--- proofs/Enough.antt and proofs/NotEnough.antt.
+-- How many nodes may be out of work and some node still be safe (RULES, When frames arrive): theorem 4 of Chiu and Wu 1994, which is for rule 3, and what the
+-- older rule allows. Proved in proofs/Enough.antt and proofs/NotEnough.antt.
 use mathlib.Core.Bool.{Bool, true, cond}
 use mathlib.Core.Logic.{_⊎_}
 use mathlib.Core.Path.{_≡_}

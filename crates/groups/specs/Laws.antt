@@ -1,4 +1,4 @@
--- What document 01 says of a number, and document 02 (A1) of its place, as laws of `numberAt`: what a value can be, what a refusal can be, and the worked
+-- What RULES says of a number and its place (Tables and the notice), as laws of `numberAt`: what a value can be, what a refusal can be, and the worked
 -- numbers. Proved in proofs/Laws.antt.
 use mathlib.Core.Path.{_≡_}
 use mathlib.Core.Logic.{_⊎_}

@@ -1,5 +1,5 @@
--- A number of document 01: one or two groups of seven bits, lowest group first, a group's high bit set when another follows. `numberAt` reads the
--- number that begins at a place, and a refusal says that place again; what stands below it takes such an answer apart.
+-- A number (RULES, Tables and the notice): one or two groups of seven bits, lowest group first, a group's high bit set when another follows. `numberAt` reads
+-- the number that begins at a place, and a refusal says that place again; what stands below it takes such an answer apart.
 use mathlib.Core.Bool.{cond, _||_}
 use mathlib.Core.List.{List, [], _∷_}
 use Prim.Native.Nat.{ℕ, _+_, _*_, _/_, _%_}

@@ -31,7 +31,20 @@ use Rattle.notice.specs.declared.Noticed.{Noticed}
 use Rattle.notice.specs.declared.Noticed.the-variants as noticed
 use Rattle.notice.proofs.Agree.{parts}
 use Rattle.notice.proofs.Refusals.{refused-notice}
-use Rattle.hcube.specs.Answers.{hasRow, hopNumber, labelNumber, noticeNumber, packed, packedNotice, rowAfter, rowByte, walkNumber, walkedBy}
+use Rattle.groups.specs.Number.{refusalIn}
+use Rattle.hcube.specs.Answers.{
+  dimensionNumber,
+  hasRow,
+  hopNumber,
+  labelNumber,
+  noticeNumber,
+  packed,
+  packedNotice,
+  rowAfter,
+  rowByte,
+  walkNumber,
+  walkedBy,
+}
 use Rattle.hcube.specs.Fits.{WalkFits}
 use Rattle.hcube.specs.Decoded.{
   Decodes,
@@ -47,7 +60,7 @@ use Rattle.hcube.specs.Decoded.{
   walkedFrom,
 }
 use Rattle.hcube.proofs.Parts.{above, count-is, cut, dimension-is, kind-is, refusal-is, value-is}
-use Rattle.hcube.proofs.Small.{HopFits, LabelFits, has-row, hop-small, label-small, walk-small, written}
+use Rattle.hcube.proofs.Small.{HopFits, LabelFits, dimension-small, has-row, hop-small, label-small, walk-small, written}
 
 -- ---- the choice by a number's refusal
 
@@ -196,7 +209,16 @@ module _ (n j s d : ℕ) (labels before : List ℕ) where
       (λ e f. refused-decoded before walk-k (f .0) (eqb-false walk-k 0 e))
       (walk-small n j s d (length labels) (length before) lab)
 
--- ---- the notice
+-- ---- the notice, its dimension first
+
+dimension-decoded : (bytes : List ℕ)
+    → N.Told (N.dimensionAt bytes) (refusalPart (dimensionNumber (N.dimensionAt bytes))) (valuePart (dimensionNumber (N.dimensionAt bytes)))
+dimension-decoded bytes =
+    let f = dimension-small bytes (N.dimensionAt bytes) refl in
+    record {
+      refusal = refusal-is (refusalIn (N.dimensionAt bytes)) 0 (N.dimensionValue (N.dimensionAt bytes)) (f .0) (omega arith) (f .1);
+      value = value-is (refusalIn (N.dimensionAt bytes)) 0 (N.dimensionValue (N.dimensionAt bytes)) (f .1);
+    }
 
 notice-decoded : (bytes before : List ℕ) → noticedFrom (noticeNumber (N.noticed bytes before)) ≡ N.noticed bytes before
 unfolding noticedFrom
@@ -219,4 +241,4 @@ notice-decoded bytes before = go (N.noticed bytes before) refl
         rw (r, c, ne-eqb k 0 (λ z. omega (arith, p .number .0)))
 
 pub decodes : Decodes
-decodes = record { label = label-decoded; hop = hop-decoded; walk = walk-decoded; notice = notice-decoded; cut = cut }
+decodes = record { label = label-decoded; hop = hop-decoded; walk = walk-decoded; dimension = dimension-decoded; notice = notice-decoded; cut = cut }

@@ -11,11 +11,12 @@ use Rattle.jobs.specs.Jobs.{labelFor}
 use Rattle.rule.specs.Cabinet.{cabinet}
 use Rattle.labels.specs.Labelling.{labelled, labelsAfter}
 use Rattle.hop.specs.Hop.{hopped}
-use Rattle.notice.specs.Notice.{noticed, tableAfter}
-use Rattle.hcube.specs.Answers.{hopNumber, labelNumber, noticeNumber, rowAfter, walkNumber, walkedBy}
+use Rattle.notice.specs.Notice.{dimensionAt, noticed, tableAfter}
+use Rattle.hcube.specs.Answers.{dimensionNumber, hopNumber, labelNumber, noticeNumber, rowAfter, walkNumber, walkedBy}
 use Rattle.hcube.proofs.hcube_label
 use Rattle.hcube.proofs.hcube_hop
 use Rattle.hcube.proofs.hcube_walk
+use Rattle.hcube.proofs.hcube_notice_dimension
 use Rattle.hcube.proofs.hcube_read_notice
 
 abbrev pub label : Function hcube_label.ended (ℕ × ℕ × ℕ × List ℕ × List ℕ × List ℕ × List ℕ) ℕ (List ℕ)
@@ -73,6 +74,23 @@ pub walk-says :
     Says walk (λ i. walkNumber (walkedBy (i .0) (i .1) (i .2) (i .3) (i .4) (i .5)))
     (λ i. rowAfter (walkedBy (i .0) (i .1) (i .2) (i .3) (i .4) (i .5)) (i .5))
 walk-says = record { says = λ κs a r e p. (p .0, p .1) }
+
+abbrev pub notice-dimension : Function hcube_notice_dimension.ended (List ℕ) ℕ Nothing
+notice-dimension =
+    record {
+      clauses = λ w. hcube_notice_dimension.clauses (w .𝓤) (w .H) (w .𝓖 .A) (w .𝓜 .mem) (w .𝓡 .run);
+      asked = hcube_notice_dimension.Reads.Asked;
+      post = hcube_notice_dimension.Reads.Post;
+      handed = λ κs a. now (a .0);
+      answered = λ κs r. r;
+      left = λ κs e. tt;
+    }
+
+pub notice-dimension-asks : AsksNothing notice-dimension
+notice-dimension-asks = record { asked = λ κs a. tt; empty = λ w κs a. (tt, refl) }
+
+pub notice-dimension-says : Says notice-dimension (λ i. dimensionNumber (dimensionAt i)) (λ i. tt)
+notice-dimension-says = record { says = λ κs a r e p. (p, refl) }
 
 abbrev pub read-notice : Function hcube_read_notice.ended (List ℕ × List ℕ) ℕ (List ℕ)
 read-notice =

@@ -2,7 +2,7 @@
 -- A walk that is not refused was lent a row of 34 bytes.
 use mathlib.Core.Path.{_≡_, refl}
 use mathlib.Core.Bool.{true, false}
-use mathlib.Core.List.{List}
+use mathlib.Core.List.{List, []}
 use Prim.Native.Nat.{ℕ, _≤_, _<_}
 use native.Mathlib.Omega.{arith}
 use lib.Dec.{eqb}
@@ -15,6 +15,13 @@ use Rattle.rule.proofs.Cabinet.{exchanges-few}
 use Rattle.labels.specs.Labelling as L
 use Rattle.labels.specs.declared.Labelled.{Labelled}
 use Rattle.labels.proofs.Refusal.{fitting, refusal-le}
+use Rattle.groups.specs.Number.{refusalIn}
+use Rattle.groups.specs.declared.Number.{Number}
+use Rattle.groups.specs.declared.Number.the-variants.{Value, Refused}
+use Rattle.notice.specs.Notice.{dimensionAt, dimensionValue}
+use Rattle.notice.proofs.Agree.{dimension-refused}
+use Rattle.notice.proofs.Opened.{opened-dimension}
+use Rattle.notice.proofs.Refusals.{refused-notice}
 use Rattle.hop.specs.Hop as H
 use Rattle.walk.specs.Walk as W
 use Rattle.hop.specs.declared.Decision.{Decision}
@@ -38,6 +45,17 @@ label-small K j m =
     by-cases LabelFits (eqb (L.labelRefusal K j m) 0)
     (λ e. (omega arith, omega (arith, exchanges-few K (fitting K j m (eqb-true (L.labelRefusal K j m) 0 e) .halved .small))))
     (λ _. (omega (arith, refusal-le K j m), omega arith))
+
+-- ---- the dimension of a notice by itself
+
+abbrev pub DimensionFits : Number → Type 0
+DimensionFits x = (refusalIn x < 256) × (dimensionValue x < 65536)
+
+pub dimension-small : (s : List ℕ) (x : Number) → dimensionAt s ≡ x → DimensionFits x
+dimension-small s (Value n next) e = (omega arith, omega (arith, opened-dimension s n next e .good .1))
+dimension-small s (Refused k at) e =
+    let p = refused-notice s [] k at (dimension-refused s [] k at e) in
+    (omega (arith, p .number .1), omega (arith, p .near))
 
 -- ---- the hop
 

@@ -1,4 +1,4 @@
--- What C is answered, and what the row's buffer then holds: document 01's number of the answer that the library's own function gives.
+-- What C is answered, and what the row's buffer then holds: the number (RULES, To C) of the answer that the library's own function gives.
 use mathlib.Core.Bool.{Bool, true, false, cond}
 use mathlib.Core.List.{List}
 use Prim.Native.Nat.{ℕ, _+_, _*_, _/_, _%_}
@@ -8,6 +8,8 @@ use Rattle.cube.specs.Tables.{tab}
 use Rattle.jobs.specs.Jobs.{labelFor}
 use Rattle.labels.specs.Labelling as L
 use Rattle.labels.specs.declared.Labelled.{Labelled}
+use Rattle.groups.specs.Number.{refusalIn}
+use Rattle.groups.specs.declared.Number.{Number}
 use Rattle.notice.specs.Notice as N
 use Rattle.notice.specs.declared.Noticed.{Noticed}
 use Rattle.hop.specs.Hop as H
@@ -32,6 +34,10 @@ hopNumber a = packed (H.refusalOf a) (H.kindOf a) (H.valueOf a)
 -- walk: kind 0 delivered, 1 halted, the value is the hop count
 abbrev pub walkNumber : Walked → ℕ
 walkNumber w = packed (W.refusalOf (w .ending)) (W.kindOf (w .ending)) (w .hops)
+
+-- the dimension of a notice by itself: kind 0, the value is the dimension or, refused, the place
+abbrev pub dimensionNumber : Number → ℕ
+dimensionNumber a = packed (refusalIn a) 0 (N.dimensionValue a)
 
 -- a notice: dimension * 2 ^ 48 + count * 2 ^ 32, and below them such a number, of kind 0: the value is the bytes taken or, refused, the place
 abbrev pub packedNotice : (dimension count low : ℕ) → ℕ

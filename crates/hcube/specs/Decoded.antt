@@ -1,5 +1,5 @@
--- What C takes out of an answer, by the header's own macros, and of a row, two bytes a node: so the answers that C has are the library's own. Proved in
--- proofs/Decoded.antt.
+-- What C takes out of an answer, by the header's own macros, and of a row, two bytes a node (RULES, To C): so the answers that C has are the library's own.
+-- Proved in proofs/Decoded.antt.
 use mathlib.Core.Bool.{cond}
 use mathlib.Core.List.{List}
 use mathlib.Core.Path.{_≡_}
@@ -20,10 +20,10 @@ use Rattle.walk.specs.Walk.{refused}
 use Rattle.walk.specs.declared.Ending.{Ending}
 use Rattle.walk.specs.declared.Ending.the-variants as ending
 use Rattle.walk.specs.declared.Walked.{Walked}
-use Rattle.notice.specs.Notice.{noticed}
+use Rattle.notice.specs.Notice.{Told, dimensionAt, noticed}
 use Rattle.notice.specs.declared.Noticed.{Noticed}
 use Rattle.notice.specs.declared.Noticed.the-variants as noticed
-use Rattle.hcube.specs.Answers.{hopNumber, labelNumber, noticeNumber, rowAfter, walkNumber, walkedBy}
+use Rattle.hcube.specs.Answers.{dimensionNumber, hopNumber, labelNumber, noticeNumber, rowAfter, walkNumber, walkedBy}
 
 -- HCUBE_REFUSAL, HCUBE_KIND and HCUBE_VALUE: each takes its own bits, so they serve answers of 32 and of 64 bits
 abbrev pub refusalPart : ℕ → ℕ
@@ -81,6 +81,9 @@ pub record Decodes : Type 0 where
   pub walk :
       (n j s d : ℕ) (labels before : List ℕ)
       → walkedFrom (walkNumber (walkedBy n j s d labels before)) (rowAfter (walkedBy n j s d labels before) before) ≡ walkedBy n j s d labels before
+  pub dimension :
+      (bytes : List ℕ)
+      → Told (dimensionAt bytes) (refusalPart (dimensionNumber (dimensionAt bytes))) (valuePart (dimensionNumber (dimensionAt bytes)))
   pub notice : (bytes before : List ℕ) → noticedFrom (noticeNumber (noticed bytes before)) ≡ noticed bytes before
   -- and an answer that is cut to 32 bits still shows its refusal, its kind and its value
   pub cut : (r : ℕ) → Shows r (r % 4294967296)

@@ -2,16 +2,17 @@
 // narrowed, so none is mistaken for a smaller one.
 ghost use Prim.Native.Nat.{_<_, _≤_};
 ghost use Rattle.cube.specs.Tables.{tab};
-ghost use Rattle.hcube.specs.Answers.{hasRow, hopNumber, labelNumber, noticeNumber, packed, packedNotice, rowAfter, rowByte, walkNumber, walkedBy};
+ghost use Rattle.hcube.specs.Answers.{dimensionNumber, hasRow, hopNumber, labelNumber, noticeNumber, packed, packedNotice, rowAfter, rowByte, walkNumber, walkedBy};
 ghost use Rattle.hcube.specs.Fits.{RowFits, WalkFits};
 ghost use Rattle.jobs.specs.Jobs.{labelFor};
 ghost use Rattle.labels.specs.Labelling.{labelled, labelsAfter};
-ghost use Rattle.notice.specs.Notice.{noticed, tableAfter};
+ghost use Rattle.notice.specs.Notice.{dimensionAt, noticed, tableAfter};
 ghost use Rattle.hop.specs.Hop.{decisionKind, decisionValue, hopped};
 ghost use Rattle.walk.specs.Walk.{rowBytes};
 ghost use Rattle.rule.specs.Cabinet.{cabinet};
 ghost use lib.ListN.{length};
 ghost use mathlib.Core.Path.{_≡_};
+use groups::Number;
 use hop::Decision;
 use hop::Hopped;
 use labels::Labelled;
@@ -157,6 +158,18 @@ pub extern "C" fn hcube_walk(n: u32, job: u32, s: u32, d: u32, labels: &[u8], ro
     );
     write_row(walked, row);
     pack_walk(walked)
+}
+
+// The dimension of the notice at the front of the bytes, or the refusal with its place.
+#[no_mangle]
+pub extern "C" fn hcube_notice_dimension(bytes: &[u8]) -> u32
+    ensures { λ r. ⌜ r ≡ dimensionNumber (dimensionAt (now (bytes .entry))) ⌝ }
+{
+    let answer = notice::dimension(bytes);
+    match answer {
+        Number::Value(n, _) => pack(0, 0, n),
+        Number::Refused(k, at) => pack(k, 0, at),
+    }
 }
 
 // The number of an accepted notice: the bytes that it took are the value, and above stand its dimension and its count.

@@ -1,4 +1,4 @@
--- One hop: the decision that Algorithm ROUTE takes at a node, and its refusals.
+-- One hop (RULES, One hop, Refusal numbers): the decision that Algorithm ROUTE takes at a node, and its refusals.
 -- The decision is a function of n, c, d, c's own label and the labels of its n neighbours, and of nothing else: `hop` takes these from the labels
 -- of all nodes. The question `hopped` is asked for a job of any label buffer: m is the buffer's length, j the job, and lab x the byte of node x in the
 -- job's half.
@@ -62,7 +62,7 @@ hopRefusal n j c d m lab = first (hopTests n j c d m lab)
 unfoldable pub hopped : (n j c d m : ℕ) (lab : ℕ → ℕ) → Hopped
 hopped n j c d m lab = cond (eqb (hopRefusal n j c d m lab) 0) (Decided (hop n lab c d)) (Refused (hopRefusal n j c d m lab))
 
--- document 01's numbers for the cases
+-- the numbers for the cases (RULES, To C)
 abbrev pub decisionKind : Decision → ℕ
 decisionKind Deliver = 0
 decisionKind (Hop i) = 1

@@ -1,4 +1,4 @@
--- What a decision depends on. Proved in proofs/Local.antt.
+-- What a decision depends on (RULES, One hop). Proved in proofs/Local.antt.
 use mathlib.Core.Path.{_≡_}
 use Prim.Native.Nat.{ℕ, _<_}
 use Rattle.cube.specs.Cube.{flip}

@@ -1,5 +1,5 @@
--- Two jobs on one cabinet (document 02, A10): "both label tables stand in one lent buffer, job 0 first". Where m is the length of a label table, the half of
--- job j is the m bytes of the buffer l from j * m on.
+-- Two jobs on one cabinet (RULES, Tables and the notice): "both label tables stand in one lent buffer, job 0 first". Where m is the length of a label table,
+-- the half of job j is the m bytes of the buffer l from j * m on.
 use mathlib.Core.Bool.{Bool}
 use mathlib.Core.List.{List, _++_}
 use mathlib.Core.Path.{_≡_}

@@ -1,5 +1,5 @@
--- What document 02's request A10 needs of the halves of a label buffer: there are two, they share no byte, and what is written into one stays out of the
--- other. Proved in proofs/Laws.antt.
+-- The halves of a label buffer (RULES, Which nodes work): there are two, they share no byte, and what is written into one stays out of the other.
+-- Proved in proofs/Laws.antt.
 use mathlib.Core.List.{List, _++_}
 use mathlib.Core.Logic.{_≢_}
 use mathlib.Core.Path.{_≡_}

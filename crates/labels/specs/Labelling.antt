@@ -1,4 +1,5 @@
--- What labelling answers and leaves, for any cabinet K that it is handed and any job j: m is the length of the lent label buffer, `before` the buffer itself.
+-- What labelling answers and leaves (RULES, Labels, Refusal numbers), for any cabinet K that it is handed and any job j: m is the length of the lent label
+-- buffer, `before` the buffer itself.
 use mathlib.Core.Bool.{cond, not}
 use mathlib.Core.List.{List, [], _∷_}
 use Prim.Native.Nat.{ℕ, _^_}
@@ -37,7 +38,7 @@ labelled K j m = cond (eqb (labelRefusal K j m) 0) (Exchanges (exchangesOf K)) (
 unfoldable pub labelsAfter : (K : Cabinet) (j : ℕ) (before : List ℕ) → List ℕ
 labelsAfter K j before = cond (eqb (labelRefusal K j (length before)) 0) (withHalf j (2 ^ K .n) (labelsOf K) before) before
 
--- document 01's numbers for the cases; the kind is 0
+-- the numbers for the cases (RULES, To C); the kind is 0
 abbrev pub refusalOf : Labelled → ℕ
 refusalOf (Exchanges e) = 0
 refusalOf (Refused k) = k

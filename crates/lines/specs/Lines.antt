@@ -1,4 +1,4 @@
--- The listing program's lines, as document 01 has them.
+-- The listing program's lines (RULES, The listing program).
 use mathlib.Core.List.{List, [], _++_}
 use Prim.Native.Nat.{ℕ, zero, suc, _+_}
 use lib.Dec.{eqb}

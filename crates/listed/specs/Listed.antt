@@ -1,5 +1,5 @@
--- All that is promised of the listing, in one record: the contracts by which its lines are made are the code's own, what they say of a line, and what the
--- lines of an input are. (What the program writes to a file no contract can say; it is tested.)
+-- All that is promised of the listing (RULES, The listing program), in one record: the contracts by which its lines are made are the code's own, what they say
+-- of a line, and what the lines of an input are. (What the program writes to a file no contract can say; it is tested.)
 use mathlib.Core.List.{List}
 use mathlib.Core.Path.{_≡_}
 use Prim.Native.Nat.{ℕ, _≤_}

@@ -1,4 +1,4 @@
-// The listing program of document 01: one notice from standard input, then pairs of source and destination. The lines are made by `lines`
+// The listing program (RULES, The listing program): one notice from standard input, then pairs of source and destination. The lines are made by `lines`
 // and `printed`, whose contracts give their bytes; this program reads, goes from pair to pair, and writes each line as it was made.
 ghost use Prim.Native.Nat.{_≤_};
 ghost use Rattle.lines.specs.Lines.{room};

@@ -2,21 +2,27 @@
 -- is one of the bytes alone, and the tail is what it did not take.
 use mathlib.Core.Path.{_≡_, refl, sym, ap, _∙_}
 use mathlib.Core.Logic.{_⊎_, inl, inr, ⊎-elim, _≢_}
+use mathlib.Core.Bool.{not}
 use mathlib.Core.List.{List, []}
 use Prim.Native.Nat.{ℕ, _≤_}
 use native.Mathlib.Omega.{arith}
 use lib.ListN.{length, drop}
 use lib.Seq.{drop-length}
+use Rattle.cube.specs.Tables.{isDimension}
 use Rattle.cube.proofs.Refusal.{first-only}
 use Rattle.cube.proofs.Tables.{nodes-few}
-use Rattle.notice.specs.Tests.{lengthTests}
+use Rattle.groups.specs.Number.{numberAt}
+use Rattle.groups.specs.declared.Number.the-variants as number
+use Rattle.groups.proofs.Groups.{refused-place}
+use Rattle.notice.specs.Tests.{lengthTests, tested}
 use Rattle.notice.specs.Notice.{dimensionAt, noticeFrom, noticeOf, noticed, refusalOf, tailAt}
 use Rattle.notice.specs.Laws.{ReadNotice}
 use Rattle.notice.specs.declared.Noticed.{Noticed}
 use Rattle.notice.specs.declared.Noticed.the-variants.{Notice, Refused}
+use Rattle.notice.proofs.Bad.{tested-bad}
 use Rattle.notice.proofs.Cases.{on-tested}
-use Rattle.notice.proofs.Opened.{read-notice}
-use Rattle.notice.proofs.Outcomes.{tail-refused, tail-good}
+use Rattle.notice.proofs.Opened.{opened-notice, opened-sized, read-notice}
+use Rattle.notice.proofs.Outcomes.{outcome-number, tail-refused, tail-good}
 
 -- the tail begins among the bytes, or at their end
 pub tail-within : (s : List ℕ) → tailAt s ≤ length s
@@ -30,6 +36,12 @@ pub record Parts (n m taken : ℕ) : Type 0 where
   pub dimension : n ≤ 12
   pub count : m ≤ 4096
   pub short : taken ≤ 4099
+
+-- the dimension is refused at the first byte, whatever is wrong with it
+pub dimension-place : (s : List ℕ) (k at : ℕ) → dimensionAt s ≡ number.Refused k at → at ≡ 0
+unfolding dimensionAt
+dimension-place s k at e =
+    tested-bad (λ n. not (isDimension n)) 1 0 (numberAt s 0) (at ≡ 0) e (λ own. refused-place s 0 k at own) (λ _ _ _ _ _ z. sym z)
 
 module _ (s t : List ℕ) where
   -- with a table of any length the answer is that of the tail question, or 2
@@ -54,6 +66,18 @@ module _ (s t : List ℕ) where
       let r = accepted n m taken e in
       let few = nodes-few n (r .dimension .1) in
       record { dimension = r .dimension .1; count = omega (arith, r .few); short = omega (arith, r .short) }
+
+  -- the dimension by itself and the reader agree too
+  pub dimension-refused : (k at : ℕ) → dimensionAt s ≡ number.Refused k at → noticed s t ≡ Refused k at
+  dimension-refused k at e = sym (outcome-number s t (sym e) .0)
+
+  pub dimension-read : (n next n′ m taken : ℕ) → dimensionAt s ≡ number.Value n next → noticed s t ≡ Notice n′ m taken → n′ ≡ n
+  unfolding noticed
+  dimension-read n next n′ m taken d e =
+      let o = opened-notice (tested (lengthTests t) 0 (dimensionAt s)) s n′ m taken e in
+      let z : number.Value n′ (o .at) ≡ number.Value n next = sym (opened-sized s t n′ (o .at) (o .dimension) .0) ∙ d in
+      let p : n′ ≡ n = cc in
+      p
 
   pub tail-behind : (n m taken : ℕ) → noticed s t ≡ Notice n m taken → tailAt s ≡ taken
   tail-behind n m taken e = sym (tail-good s (sym (same-accepted n m taken e)))

@@ -7,10 +7,29 @@ use denote.Ref.{now}
 use lib.ListN.{drop}
 use Rattle.cube.specs.Contracts.{AsksNothing, Function, Nothing}
 use Rattle.cube.proofs.Contracts.{Says}
-use Rattle.notice.specs.Notice.{noticed, tableAfter, tailAt}
+use Rattle.groups.specs.declared.Number.{Number}
+use Rattle.notice.specs.Notice.{dimensionAt, noticed, tableAfter, tailAt}
 use Rattle.notice.specs.declared.Noticed.{Noticed}
+use Rattle.notice.proofs.dimension as dimension-claims
 use Rattle.notice.proofs.read as read-claims
 use Rattle.notice.proofs.tail as tail-claims
+
+abbrev pub dimension : Function dimension-claims.ended (List ℕ) Number Nothing
+dimension =
+    record {
+      clauses = λ w. dimension-claims.clauses (w .𝓤) (w .H) (w .𝓖 .A) (w .𝓜 .mem) (w .𝓡 .run);
+      asked = dimension-claims.Reads.Asked;
+      post = dimension-claims.Reads.Post;
+      handed = λ κs a. now (a .0);
+      answered = λ κs r. r;
+      left = λ κs e. tt;
+    }
+
+pub dimension-asks : AsksNothing dimension
+dimension-asks = record { asked = λ κs a. tt; empty = λ w κs a. (tt, refl) }
+
+pub dimension-says : Says dimension dimensionAt (λ i. tt)
+dimension-says = record { says = λ κs a r e p. (p, refl) }
 
 abbrev pub read : Function read-claims.ended (List ℕ × List ℕ) Noticed (List ℕ)
 read =

@@ -26,8 +26,8 @@ use Rattle.notice.proofs.Rising.{rising-wider, not-among, count-among}
 use Rattle.notice.proofs.Bits.{length-bits, bits-among}
 use Rattle.notice.proofs.Opened.{addresses-are, opened-notice, opened-sized}
 use Rattle.notice.proofs.Outcomes.{notice-good, sized-value}
-use Rattle.notice.proofs.Agree.{accepted, same-notice, tail-behind, tail-empty}
-use Rattle.notice.proofs.Refusals.{refused-notice}
+use Rattle.notice.proofs.Agree.{accepted, dimension-place, dimension-read, dimension-refused, same-notice, tail-behind, tail-empty}
+use Rattle.notice.proofs.Refusals.{refused-notice, sized-refused}
 
 kept : (s t : List ℕ) (k at : ℕ) → noticed s t ≡ Refused k at → tableAfter s t ≡ t
 unfolding tableAfter
@@ -100,6 +100,10 @@ notice-laws = record {
   none-faulty = none-faulty;
   kept = kept;
   refused = refused-notice;
+  dimension-refused = dimension-refused;
+  dimension-place = dimension-place;
+  dimension-sizes = sized-refused;
+  dimension-read = dimension-read;
   same-notice = same-notice;
   tail-behind = tail-behind;
   tail-empty = tail-empty;

@@ -1,12 +1,14 @@
 -- The refusal of a notice is one of 1 to 12, and its place lies among the bytes or where they end. Every number before that place was read: the dimension
 -- has one byte, the count two at most, and each address no more bytes than the base moves. So the place is no further in than 4,099.
-use mathlib.Core.Path.{_≡_, sym}
+use mathlib.Core.Path.{_≡_, sym, ap, _∙_}
 use mathlib.Core.Logic.{⊎-elim}
 use mathlib.Core.List.{List}
 use Prim.Native.Nat.{ℕ, zero, suc, _+_, _^_, _≤_}
 use native.Mathlib.Omega.{arith}
 use lib.Dec.{leb}
 use lib.ListN.{drop, length, length-drop}
+use Rattle.cube.specs.Tables.{tableLen}
+use Rattle.cube.proofs.Bools.{clash}
 use Rattle.cube.proofs.Tables.{nodes-few}
 use Rattle.groups.specs.Number.{numberAt}
 use Rattle.groups.specs.declared.Number.the-variants as number
@@ -21,9 +23,9 @@ use Rattle.notice.proofs.Bad.{Bad, bad, bad-address, bad-count, bad-dim
 use Rattle.notice.proofs.Cases.{on-number}
 use Rattle.notice.proofs.Opened.{opened-dimension}
 
--- a refusal with its place, in bytes of a length; `most` is how far in the place may be
+-- a refusal behind the dimension's value, or of the dimension's own groups, with its place, in bytes of a length; `most` is how far in the place may be
 record Near (len most k at : ℕ) : Type 0 where
-  number : (1 ≤ k) × (k ≤ 12)
+  number : (9 ≤ k) × (k ≤ 12)
   within : at ≤ len
   near : at ≤ most
 
@@ -73,26 +75,47 @@ count-place s n at dimension =
     let r = read-number s 0 n at (d .number) in
     (r .shortest (omega (arith, d .good .1)), r .within, nodes-few n (d .good .1))
 
-notice-near : (s t : List ℕ) (k at : ℕ) → Bad s t k at → Near (length s) 4099 k at
-notice-near s t k at (bad-dimension e) = number-near s 0 (length s) 4099 k at (omega arith) (omega arith) e
-notice-near s t k at (no-dimension _ _) = record { number = (omega arith, omega arith); within = omega arith; near = omega arith }
-notice-near s t k at (wrong-table _ _) = record { number = (omega arith, omega arith); within = omega arith; near = omega arith }
-notice-near s t k at (bad-count {n} {at = c} dimension _ e) =
-    let p = count-place s n c dimension in
+-- where the dimension is good and the table has its length, neither 1 nor 2 is left
+sized-near : (s t : List ℕ) (n next k at : ℕ) → dimensionAt s ≡ number.Value n next → length t ≡ tableLen n → Bad s t k at → Near (length s) 4099 k at
+sized-near s t n next k at d l (bad-dimension e) = number-near s 0 (length s) 4099 k at (omega arith) (omega arith) e
+sized-near s t n next k at d l (no-dimension {n = v} {next = w} e none) =
+    let o = opened-dimension s n next d in
+    let z : number.Value v w ≡ number.Value n next = sym e ∙ o .number in
+    let p : v ≡ n = cc in
+    absurd (clash (o .is) (rw p at none))
+sized-near s t n next k at d l (wrong-table {n = v} {next = w} e other) =
+    let z : number.Value v w ≡ number.Value n next = sym e ∙ d in
+    let p : v ≡ n = cc in
+    absurd (other (l ∙ ap tableLen (sym p)))
+sized-near s t n next k at d l (bad-count {n = v} {at = c} dimension _ e) =
+    let p = count-place s v c dimension in
     number-near s c (length s) 4099 k at (p .1) (omega (arith, p .0)) e
-notice-near s t k at (many {n} {at = c} dimension _ _ _) =
-    let p = count-place s n c dimension in
+sized-near s t n next k at d l (many {n = v} {at = c} dimension _ _ _) =
+    let p = count-place s v c dimension in
     record { number = (omega arith, omega arith); within = p .1; near = omega (arith, p .0) }
-notice-near s t k at (bad-address {n} {at = c} {m} {start} {place} dimension _ count _ e) =
-    let p = count-place s n c dimension in
-    let b = behind n s c m start count k place e in
+sized-near s t n next k at d l (bad-address {n = v} {at = c} {m} {start} {place} dimension _ count _ e) =
+    let p = count-place s v c dimension in
+    let b = behind v s c m start count k place e in
     record {
       number = b .number;
-      within = rest-within n s c m start count k place e;
+      within = rest-within v s c m start count k place e;
       near = omega (arith, b .near, p .0, p .2, read-number s c m start count .near);
     }
 
+pub sized-refused : (s t : List ℕ) (n next k at : ℕ) → dimensionAt s ≡ number.Value n next → length t ≡ tableLen n → noticed s t ≡ noticed.Refused k at
+    → 9 ≤ k
+sized-refused s t n next k at d l e = sized-near s t n next k at d l (bad s t e) .number .0
+
+wide : {s : List ℕ} {k at : ℕ} → Near (length s) 4099 k at → RefusedNotice s k at
+wide n = record { number = (omega (arith, n .number .0), n .number .1); within = n .within; near = n .near }
+
+bad-near : (s t : List ℕ) (k at : ℕ) → Bad s t k at → RefusedNotice s k at
+bad-near s t k at (bad-dimension e) = wide (number-near s 0 (length s) 4099 k at (omega arith) (omega arith) e)
+bad-near s t k at (no-dimension _ _) = record { number = (omega arith, omega arith); within = omega arith; near = omega arith }
+bad-near s t k at (wrong-table _ _) = record { number = (omega arith, omega arith); within = omega arith; near = omega arith }
+bad-near s t k at (bad-count d l e) = wide (sized-near s t _ _ k at d l (bad-count d l e))
+bad-near s t k at (many d l c over) = wide (sized-near s t _ _ k at d l (many d l c over))
+bad-near s t k at (bad-address d l c few e) = wide (sized-near s t _ _ k at d l (bad-address d l c few e))
+
 pub refused-notice : (s t : List ℕ) (k at : ℕ) → noticed s t ≡ noticed.Refused k at → RefusedNotice s k at
-refused-notice s t k at e =
-    let n = notice-near s t k at (bad s t e) in
-    record { number = n .number; within = n .within; near = n .near }
+refused-notice s t k at e = bad-near s t k at (bad s t e)

@@ -1,5 +1,5 @@
--- The addresses of a notice, and the fault table that they make. The first address is its number; each later one is its distance from the one
--- before, less one. So each is its number counted from a base: 0 at first, and then one more than the address before.
+-- The addresses of a notice (RULES, Tables and the notice), and the fault table that they make. The first address is its number; each later one is its distance
+-- from the one before, less one. So each is its number counted from a base: 0 at first, and then one more than the address before.
 use mathlib.Core.Bool.{Bool, true, false, _&&_, _||_}
 use mathlib.Core.List.{List, [], _∷_}
 use Prim.Native.Nat.{ℕ, zero, suc, _+_, _/_, _%_, _^_}

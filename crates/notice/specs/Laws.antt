@@ -1,5 +1,5 @@
--- What document 01 says of a notice, as laws of its definitions: an accepted notice names what the table then holds, a refused one writes nothing, and
--- the tail question agrees with the reader; and how far in a refusal's place (document 02, A1) can be. Proved in proofs/Laws.antt.
+-- What RULES says of a notice (Tables and the notice, Refusal numbers), as laws of its definitions: an accepted notice names what the table then holds, a
+-- refused one writes nothing, and the tail question agrees with the reader; and how far in a refusal's place can be. Proved in proofs/Laws.antt.
 use mathlib.Core.Path.{_≡_}
 use mathlib.Core.Logic.{_≢_}
 use mathlib.Core.Bool.{true, false}
@@ -10,6 +10,7 @@ use Rattle.cube.specs.Count.{count}
 use Rattle.cube.specs.Tables.{tableLen, nodeBit, unusedSet}
 use Rattle.groups.specs.Number.{numberAt}
 use Rattle.groups.specs.declared.Number.the-variants.{Value}
+use Rattle.groups.specs.declared.Number.the-variants as number
 use Rattle.notice.specs.Addresses.{rising, among}
 use Rattle.notice.specs.Notice.{dimensionAt, noticeOf, noticed, addressesOf, refusalOf, tableAfter, tailAt}
 use Rattle.notice.specs.declared.Noticed.{Noticed}
@@ -55,7 +56,7 @@ abbrev pub listingBytes : List ℕ
 listingBytes = 0x04 ∷ 0x04 ∷ 0x02 ∷ 0x01 ∷ 0x03 ∷ 0x06 ∷ 0x0D ∷ 0x00 ∷ []
 
 pub record NoticeLaws : Type 0 where
-  -- "Accepted: the notice reader overwrites all of the fault table and returns dimension, count and the number of bytes the notice took"
+  -- accepted, "the notice reader overwrites all of the fault table and returns dimension, count and the number of bytes the notice took"
   pub accepted : (s t : List ℕ) (n m taken : ℕ) → noticed s t ≡ Notice n m taken → ReadNotice s n m taken
   pub written : (s t : List ℕ) (n m taken : ℕ) → noticed s t ≡ Notice n m taken → TableOf n m (addressesOf s) (tableAfter s t)
   -- "a count of zero ends the notice"
@@ -65,6 +66,15 @@ pub record NoticeLaws : Type 0 where
   -- "Refused: lent tables keep every byte"
   pub kept : (s t : List ℕ) (k at : ℕ) → noticed s t ≡ Refused k at → tableAfter s t ≡ t
   pub refused : (s t : List ℕ) (k at : ℕ) → noticed s t ≡ Refused k at → RefusedNotice s k at
+  -- the dimension by itself: what it refuses, the reader refuses alike, whatever table it is lent,
+  pub dimension-refused : (s t : List ℕ) (k at : ℕ) → dimensionAt s ≡ number.Refused k at → noticed s t ≡ Refused k at
+  -- at the first byte,
+  pub dimension-place : (s : List ℕ) (k at : ℕ) → dimensionAt s ≡ number.Refused k at → at ≡ 0
+  -- a table that was sized by it is not refused for its length,
+  pub dimension-sizes :
+      (s t : List ℕ) (n next k at : ℕ) → dimensionAt s ≡ Value n next → length t ≡ tableLen n → noticed s t ≡ Refused k at → 9 ≤ k
+  -- and it is the dimension of an accepted notice
+  pub dimension-read : (s t : List ℕ) (n next n′ m taken : ℕ) → dimensionAt s ≡ Value n next → noticed s t ≡ Notice n′ m taken → n′ ≡ n
   -- the tail question "isn't given" the table's length: it takes for a notice, or refuses, what the reader does, unless the reader answers 2
   pub same-notice : (s t : List ℕ) (x : Noticed) → noticed s t ≡ x → refusalOf x ≢ 2 → noticeOf s ≡ x
   -- "one question gives the bytes after the first notice"

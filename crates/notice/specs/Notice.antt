@@ -1,9 +1,10 @@
--- A notice, left to right: its dimension, its count, its addresses. The reader and the tail question share it; only the reader has a lent fault table,
--- so it alone tests the table's length, right after the dimension.
+-- A notice (RULES, Tables and the notice), left to right: its dimension, its count, its addresses. The reader and the tail question share it; only the reader
+-- has a lent fault table, so it alone tests the table's length, right after the dimension.
 use mathlib.Core.List.{List, []}
+use mathlib.Core.Path.{_≡_}
 use Prim.Native.Nat.{ℕ, _^_}
 use lib.ListN.{length, drop, replicate}
-use Rattle.groups.specs.Number.{further, numberAt, onNumber}
+use Rattle.groups.specs.Number.{further, numberAt, onNumber, refusalIn}
 use Rattle.groups.specs.declared.Number.{Number}
 use Rattle.notice.specs.Tests.{tested, dimensionTests, lengthTests, countTests}
 use Rattle.notice.specs.Addresses.{addressesEnd, addressesAt, withBits}
@@ -45,6 +46,15 @@ onNoticed (Refused k at) refused good = refused k at
 
 -- ---- the questions
 
+-- the dimension by itself, whatever stands behind it, is `dimensionAt`. What is told of it: the refusal, 0 for none, and the dimension, or the refusal's
+-- place
+abbrev pub dimensionValue : Number → ℕ
+dimensionValue x = onNumber x (λ k at. at) (λ n next. n)
+
+pub record Told (x : Number) (k v : ℕ) : Type 0 where
+  pub refusal : k ≡ refusalIn x
+  pub value : v ≡ dimensionValue x
+
 -- what the reader answers on bytes s and a fault table t: the table has to be exactly its length, which is the dimension's matter
 unfoldable pub noticed : (s t : List ℕ) → Noticed
 noticed s t = noticeFrom (tested (lengthTests t) 0 (dimensionAt s)) s
@@ -57,7 +67,7 @@ tableAfter s t = onNoticed (noticed s t) (λ k at. t) (λ n m taken. withBits (r
 unfoldable pub tailAt : List ℕ → ℕ
 tailAt s = onNoticed (noticeOf s) (λ k at. length s) (λ n m taken. taken)
 
--- document 01's numbers for the reader's answer
+-- the numbers for the reader's answer (RULES, To C)
 abbrev pub refusalOf : Noticed → ℕ
 refusalOf x = onNoticed x (λ k at. k) (λ n m taken. 0)
 

@@ -1,5 +1,5 @@
--- The refusals of a notice, as tables. "Notice: left to right; each number 9 or 10 first, then its value (1 after the dimension, then 2 for the lent
--- fault table, 11 after the count, 12 at each address)."
+-- The refusals of a notice (RULES, Refusal numbers), as tables. "Notice: left to right; each number 9 or 10 first, then its value (1 after the dimension, then
+-- 2 for the lent fault table, 11 after the count, 12 at each address)."
 use mathlib.Core.Bool.{cond, not}
 use mathlib.Core.List.{List, [], _∷_}
 use Prim.Native.Nat.{ℕ, _+_, _^_}

@@ -1,4 +1,5 @@
-// Notices: the reader, which makes a fault table of one, and the tail question, for notices that stand back to back.
+// Notices: the dimension of one, by which a caller sizes his fault table; the reader, which makes a fault table of one; and the tail question, for notices
+// that stand back to back.
 ghost use Prim.Native.Nat.{_+_, _*_, _/_, _<_, _≤_};
 ghost use Rattle.groups.specs.Number.{placeIn, refusalIn};
 ghost use Rattle.notice.specs.Addresses.{addressesAt, addressesEnd, rising, withBit, withBits};
@@ -44,8 +45,8 @@ fn place(number: Number) -> usize
     }
 }
 
-// The dimension with the next place, or the refusal.
-fn dimension(bytes: &[u8]) -> Number
+// The dimension of the notice at the front of the bytes, with the next place, or the refusal.
+pub fn dimension(bytes: &[u8]) -> Number
     ensures { λ r. ⌜ r ≡ dimensionAt (now (bytes .entry)) ⌝ }
 {
     let number = number_at(bytes, 0);

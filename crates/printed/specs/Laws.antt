@@ -1,5 +1,4 @@
--- What document 01 says of all that is printed, and document 02 of the places (A1) and the count (A3), as laws of `listing`, with samples. Proved in
--- proofs/Laws.antt.
+-- What RULES says of all that is printed (The listing program), as laws of `listing`, with samples. Proved in proofs/Laws.antt.
 use mathlib.Core.Path.{_≡_}
 use mathlib.Core.List.{List, [], _∷_, _++_}
 use Prim.Native.Nat.{ℕ, suc, _≤_, _<_}
@@ -27,14 +26,14 @@ sampleLines =
 pub record ListingLaws : Type 0 where
   -- "Input over 16,384 bytes prints only `input too long`"
   pub too-long : (s : List ℕ) → 16384 < length s → listing s ≡ tooLong
-  -- "A refused notice prints only `notice refused K`", and the place of the refusal
+  -- "A refused notice prints only `notice refused K P`", with the place of the refusal
   pub refused : (s : List ℕ) (k at : ℕ) → length s ≤ 16384 → noticeOf s ≡ Refused k at → listing s ≡ noticeRefused k at
   -- where fewer nodes are faulty than the cube has dimensions, the number behind `safe` on the first line is not 0 (theorem 4 of Chiu and Wu 1994)
   pub no-alarm : (s : List ℕ) (n m taken : ℕ) → noticeOf s ≡ Notice n m taken → m < n → 0 < labelCount (labelsOf (cabinetOf s n)) 0
   -- "pairs of numbers .. to the end": with more steps no more is printed, so no pair is left out
   pub to-end : (n : ℕ) (labels s : List ℕ) (steps : ℕ) → length s ≤ steps → pairLines steps n labels s (tailAt s) ≡ pairsOf n labels s
-  -- "A pair cut short or ill written prints `input refused 9` or `input refused 10` as the last line", and the place where that number begins, "counted
-  -- there from the first byte of the whole input"
+  -- "A pair cut short or ill written prints `input refused 9 P` or `input refused 10 P` as the last line", with the place where that number begins, "counted
+  -- from the first byte of the whole input"
   pub source-refused : (left n : ℕ) (labels s : List ℕ) (at k place : ℕ) → at < length s → numberAt s at ≡ number.Refused k place
       → pairLines (suc left) n labels s at ≡ inputRefused k at
   pub destination-refused : (left n : ℕ) (labels s : List ℕ) (at a next k place : ℕ) → at < length s → numberAt s at ≡ number.Value a next

@@ -1,4 +1,5 @@
--- What the listing program prints for the bytes s of its input: a line for the notice at their front, a line for each pair behind it, and all of it.
+-- What the listing program prints for the bytes s of its input (RULES, The listing program): a line for the notice at their front, a line for each pair behind
+-- it, and all of it.
 use mathlib.Core.Path.{_≡_}
 use mathlib.Core.Bool.{cond}
 use mathlib.Core.List.{List, [], _++_}
@@ -22,7 +23,7 @@ use Rattle.printed.specs.declared.Head.{Head}
 unfoldable pub wantedLen : List ℕ → ℕ
 wantedLen s = onNumber (dimensionAt s) (λ k at. 1) (λ n at. tableLen n)
 
--- the cabinet of an accepted notice of dimension n: the listing labels by document 01's rule, no node drains, and none is closed
+-- the cabinet of an accepted notice of dimension n: the listing labels by rule 3, no node drains, and none is closed
 abbrev pub cabinetOf : (s : List ℕ) (n : ℕ) → Cabinet
 cabinetOf s n = plain n 3 (withBits (emptyTable n) (addressesOf s))
 
@@ -33,7 +34,7 @@ labelsIn s = onNoticed (noticeOf s) (λ k at. []) (λ n m taken. labelsOf (cabin
 abbrev pub firstLine : (faulty : ℕ) → Cabinet → List ℕ
 firstLine faulty K = cubeLine (K .n) faulty (labelsOf K) (exchangesOf K)
 
--- "A refused notice prints only `notice refused K`", with the place as a last field
+-- "A refused notice prints only `notice refused K P`"
 unfoldable pub headLine : List ℕ → List ℕ
 headLine s = onNoticed (noticeOf s) noticeRefused (λ n m taken. firstLine m (cabinetOf s n))
 
@@ -55,7 +56,7 @@ walkedIn n labels s d = walked n 0 s d (length labels) rowBytes (labelFor n 0 la
 unfoldable pub lineFrom : (n : ℕ) (labels : List ℕ) (a : ℕ) (s : List ℕ) (at : ℕ) → List ℕ
 lineFrom n labels a s at = onNumber (numberAt s at) inputRefused (λ b after. pairLine a b (walkedIn n labels a b))
 
--- "A pair cut short or ill written prints `input refused 9` or `input refused 10` as the last line", with the place of that number as a last field
+-- "A pair cut short or ill written prints `input refused 9 P` or `input refused 10 P` as the last line"
 unfoldable pub lineAt : (n : ℕ) (labels s : List ℕ) (at : ℕ) → List ℕ
 lineAt n labels s at = onNumber (numberAt s at) inputRefused (λ a next. lineFrom n labels a s next)
 
@@ -77,7 +78,7 @@ pairLines (suc left) n labels s at = cond (ltb at (length s)) (lineAt n labels s
 abbrev pub pairsOf : (n : ℕ) (labels s : List ℕ) → List ℕ
 pairsOf n labels s = pairLines (length s) n labels s (tailAt s)
 
--- "It reads standard input: one notice, then pairs .. to the end. Input over 16,384 bytes prints only `input too long`"
+-- "It reads standard input: one notice, then pairs of numbers .. to the end"; "Input over 16,384 bytes prints only `input too long`"
 unfoldable pub listing : List ℕ → List ℕ
 listing s =
     cond (ltb 16384 (length s)) tooLong

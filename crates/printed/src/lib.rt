@@ -9,7 +9,6 @@ ghost use Rattle.cube.specs.Tables.{emptyTable};
 ghost use Rattle.rule.specs.Cabinet.{cabinet};
 ghost use lib.ListN.{length, replicate, take};
 ghost use mathlib.Core.Path.{_≡_};
-use cube::is_dimension;
 use cube::table_len;
 use groups::Number;
 use groups::number_at;
@@ -20,6 +19,7 @@ use lines::cube_line;
 use lines::pair_line;
 use lines::refused_line;
 use notice::Noticed;
+use notice::dimension;
 use walk::walk;
 
 // The line of the notice by its end in the buffer, with the dimension of the cube and the bytes of its label buffer, both 0 where the notice is refused.
@@ -41,17 +41,14 @@ pub struct Line {
 fn wanted_len(bytes: &[u8]) -> usize
     ensures { λ r. ⌜ r ≡ wantedLen (now (bytes .entry)) ⌝ }
 {
-    let first = number_at(bytes, 0);
+    let first = dimension(bytes);
     let Number::Value(n, _) = first else {
         return 1;
     };
-    if is_dimension(n) {
-        return table_len(n);
-    }
-    1
+    table_len(n)
 }
 
-// Labels the nodes of an accepted notice as job 0 by document 01's rule, 3, and makes its first line. A notice names no draining node, and no node is closed.
+// Labels the nodes of an accepted notice as job 0 by rule 3, and makes its first line. A notice names no draining node, and no node is closed.
 // Labelling never refuses such a table, so 0 is never answered.
 fn first_line(n: usize, faulty: usize, faults: &[u8], labels: &mut [u8], out: &mut [u8]) -> usize
     requires { ⌜ labelRefusal (cabinet n 3 (now faults) (emptyTable n) (emptyTable n)) 0 (length (now labels)) ≡ 0 ⌝ }

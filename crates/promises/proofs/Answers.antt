@@ -10,7 +10,7 @@ use Rattle.cube.specs.Contracts.{May}
 use Rattle.cube.proofs.Contracts.{may}
 use Rattle.jobs.specs.Jobs.{labelFor}
 use Rattle.rule.specs.Cabinet.{Cabinet}
-use Rattle.notice.specs.Notice.{noticed, tableAfter}
+use Rattle.notice.specs.Notice.{dimensionAt, noticed, tableAfter}
 use Rattle.notice.specs.declared.Noticed.{Noticed}
 use Rattle.notice.proofs.Functions as notice
 use Rattle.labels.specs.Labelling.{labelled, labelsAfter}
@@ -22,7 +22,7 @@ use Rattle.hop.proofs.Functions as hop
 use Rattle.walk.specs.Walk.{walked}
 use Rattle.walk.specs.declared.Walked.{Walked}
 use Rattle.walk.proofs.Functions as walk
-use Rattle.hcube.specs.Answers.{hopNumber, labelNumber, noticeNumber, rowAfter, walkNumber, walkedBy}
+use Rattle.hcube.specs.Answers.{dimensionNumber, hopNumber, labelNumber, noticeNumber, rowAfter, walkNumber, walkedBy}
 use Rattle.hcube.proofs.Functions as hcube
 use Rattle.promises.specs.Answers.{Answers}
 use Rattle.promises.specs.Library.{rattle, c}
@@ -39,6 +39,13 @@ two = ([], one)
 
 abbrev four : Lfts 4
 four = ([], ([], two))
+
+module _ (bytes : List ℕ) where
+  sizes : May notice.dimension bytes (dimensionAt bytes) tt
+  sizes = may notice.dimension one (lend bytes, tt) (dimensionAt bytes) (lend bytes, tt) refl
+
+  c-sizes : May hcube.notice-dimension bytes (dimensionNumber (dimensionAt bytes)) tt
+  c-sizes = may hcube.notice-dimension one (lend bytes, tt) (dimensionNumber (dimensionAt bytes)) (lend bytes, tt) refl
 
 module _ (bytes before : List ℕ) where
   abbrev x : Noticed
@@ -96,6 +103,7 @@ pub rattle-answers : Answers rattle
 rattle-answers =
     record {
       reads = λ bytes before. (_, _, reads bytes before);
+      sizes = λ bytes. (_, _, (dimensionAt bytes, sizes bytes, record { refusal = refl; value = refl }));
       labels = λ K j before. (_, _, labels K j before);
       hops = λ n j a b l. (_, hops n j a b l);
       walks = λ n j a b l room. (_, inl (walks n j a b l room));
@@ -105,6 +113,7 @@ pub c-answers : Answers c
 c-answers =
     record {
       reads = λ bytes before. (_, _, (_, c-reads bytes before, refl));
+      sizes = λ bytes. (_, _, (_, c-sizes bytes, refl, refl));
       labels = λ K j before. (_, _, (_, c-labels K j before, refl));
       hops = λ n j a b l. (_, (_, c-hops n j a b l, refl));
       walks = λ n j a b l room. (_, (_, replicate room 0, _, c-walks n j a b l (replicate room 0), length-replicate room 0, refl));

@@ -47,6 +47,7 @@ use Rattle.promises.proofs.Given.{all-used, job-below, rule-bounds, tab
 use Rattle.promises.proofs.Library.{Faithful, rattle-faithful, c-faithful}
 use Rattle.promises.proofs.Outcomes.{answered, labels-kept, of-decided}
 use Rattle.promises.proofs.Refusals.{refusals}
+use Rattle.promises.proofs.Sizes as sizes
 use Rattle.promises.proofs.Walks.{again, blank, ends, frame-once, steps}
 
 module _ (lib : Library) (F : Faithful lib) where
@@ -192,11 +193,16 @@ module _ (lib : Library) (F : Faithful lib) where
             (refusals .walk n j s d (length buffer) room (labelFor n j buffer));
         notice-refusal = λ {bytes} {before} m.
             subst (λ x. NoticeGiven bytes before (N.refusalOf x) (N.placeOf x)) (sym (F .reads m .0)) (refusals .notice bytes before);
+        dimension-refusal = λ {bytes} m. let t = F .sizes m in rw (t .refusal, t .value) (refusals .dimension bytes);
         labels-kept = λ {K} {j} {before} m. let f = F .labels m in f .1 ∙ labels-kept K j before _ (sym (f .0));
         table-kept = λ {bytes} {before} m. let f = F .reads m in f .1 ∙ notice-laws .kept bytes before _ _ (sym (f .0));
         walk-blank = λ v e. blank lib F v e;
         notice-read = λ {bytes} {before} m. notice-laws .accepted bytes before _ _ _ (sym (F .reads m .0));
         table-written = table;
+        dimension-sized = λ m. sizes.dimension-sized lib F m;
+        dimension-read = λ m r. sizes.dimension-read lib F m r;
+        sized-table = λ m l r. sizes.sized-table lib F m l r;
+        dimension-refused = λ m other r. sizes.dimension-refused lib F m other r;
         labels-written = λ m. sym (left m .bytes);
         labels = λ {K} m. of-left (Demand2 K) m (demand2 K);
         how-long = λ {K} {j} m. of-left (HowLong K) m (how-long K j (left m .accepted));

@@ -19,6 +19,8 @@ use Rattle.labels.proofs.Functions as labels
 use Rattle.hop.proofs.Functions as hop
 use Rattle.labels.specs.declared.Labelled.{Labelled}
 use Rattle.hop.specs.declared.Hopped.{Hopped}
+use Rattle.groups.specs.declared.Number.{Number}
+use Rattle.notice.specs.Notice.{dimensionAt}
 use Rattle.notice.specs.declared.Noticed.{Noticed}
 use Rattle.walk.specs.declared.Ending.the-variants as ending
 use Rattle.walk.specs.Walk as W
@@ -27,7 +29,7 @@ use Rattle.walk.specs.declared.Walked.{Walked}
 use Rattle.walk.proofs.Functions as walk
 use Rattle.walk.proofs.Refusals.{hops-few}
 use Rattle.theorems.specs.Words.{place}
-use Rattle.hcube.specs.Answers.{hasRow, hopNumber, labelNumber, noticeNumber, rowAfter, rowByte, walkNumber, walkedBy}
+use Rattle.hcube.specs.Answers.{dimensionNumber, hasRow, hopNumber, labelNumber, noticeNumber, rowAfter, rowByte, walkNumber, walkedBy}
 use Rattle.hcube.specs.Decoded.{endingFrom, kindPart, nodeAt, refusalPart, valuePart, walkedFrom}
 use Rattle.hcube.proofs.Decoded.{high-byte, low-byte}
 use Rattle.hcube.proofs.Functions as hcube
@@ -56,6 +58,10 @@ walk-same {before = before} m v =
 notice-same : {r : ℕ} {x : Noticed} {bytes before after after′ : List ℕ} → May hcube.read-notice (bytes, before) r after
     → May notice.read (bytes, before) x after′ → r ≡ noticeNumber x
 notice-same m v = told hcube.read-notice-says m .0 ∙ ap noticeNumber (sym (told notice.read-says v .0))
+
+dimension-same : {r : ℕ} {x : Number} {bytes : List ℕ} → May hcube.notice-dimension bytes r tt → May notice.dimension bytes x tt
+    → (r ≡ dimensionNumber x) × (dimensionAt bytes ≡ x)
+dimension-same m v = let e = sym (told notice.dimension-says v .0) in (told hcube.notice-dimension-says m .0 ∙ ap dimensionNumber e, e)
 
 -- a refused walk has hop count 0
 walk-refuses : {n j s d r k : ℕ} {buffer before after : List ℕ} {w : Walked} → May hcube.walk (n, j, s, d, buffer, before) r after
@@ -147,6 +153,9 @@ in-c =
       walk-delivers = λ {n} {j} {s} {d} {r} m v e. let f = walk-same m v .0 in let g = ap W.refusalOf e in let h = ap W.kindOf e in omega arith;
       walk-halts = λ {n} {j} {s} {d} {r} m v e. let f = walk-same m v .0 in let g = ap W.refusalOf e in let h = ap W.kindOf e in omega arith;
       walk-refuses = walk-refuses;
+      dimension-reads = λ {r} m v. let e = dimension-same m v .0 in omega arith;
+      dimension-refuses = λ {r} {k} {at} {bytes} m v. let e = dimension-same m v in
+          let z = notice-laws .dimension-place bytes k at (e .1) in (omega (arith, e .0), z);
       notice-reads = λ {r} m v. let e = notice-same m v in omega arith;
       notice-refuses = λ {r} {k} {at} {bytes} {before} m v. let e = notice-same m v in
           let p = notice-laws .refused bytes before k at (sym (told notice.read-says v .0)) in (omega arith, omega (arith, p .near));

@@ -1,8 +1,9 @@
 pub mod Given
 pub mod Notices
+pub mod Library
+pub mod Sizes
 pub mod Eight
 pub mod Refusals
-pub mod Library
 pub mod Outcomes
 pub mod Walks
 pub mod Demands

@@ -2,14 +2,15 @@
 -- and by what C takes out of an answer.
 use mathlib.Core.List.{List}
 use mathlib.Core.Logic.{⊎-elim}
-use mathlib.Core.Path.{_≡_, sym, ap, ap₂, _∙_}
+use mathlib.Core.Path.{_≡_, sym, ap, ap₂, subst, _∙_}
 use Prim.Native.Nat.{ℕ}
 use lib.ListN.{length}
 use Rattle.cube.specs.Contracts.{May}
 use Rattle.cube.proofs.Contracts.{told}
 use Rattle.jobs.specs.Jobs.{labelFor}
 use Rattle.rule.specs.Cabinet.{Cabinet}
-use Rattle.notice.specs.Notice.{noticed, tableAfter}
+use Rattle.groups.specs.declared.Number.{Number}
+use Rattle.notice.specs.Notice.{Told, dimensionAt, noticed, tableAfter}
 use Rattle.notice.specs.declared.Noticed.{Noticed}
 use Rattle.notice.proofs.Functions as notice
 use Rattle.labels.specs.Labelling.{labelled, labelsAfter}
@@ -21,13 +22,14 @@ use Rattle.hop.proofs.Functions as hop
 use Rattle.walk.specs.Walk.{rowBytes, walked}
 use Rattle.walk.specs.declared.Walked.{Walked}
 use Rattle.walk.proofs.Functions as walk
-use Rattle.hcube.specs.Decoded.{hoppedFrom, labelledFrom, noticedFrom, walkedFrom}
+use Rattle.hcube.specs.Decoded.{hoppedFrom, labelledFrom, noticedFrom, refusalPart, valuePart, walkedFrom}
 use Rattle.hcube.proofs.Decoded.{decodes}
 use Rattle.hcube.proofs.Functions as hcube
 use Rattle.promises.specs.Library.{Library, rattle, c}
 
 pub record Faithful (lib : Library) : Type 0 where
   pub reads : {bytes before after : List ℕ} {x : Noticed} → lib .reads bytes before x after → (x ≡ noticed bytes before) × (after ≡ tableAfter bytes before)
+  pub sizes : {bytes : List ℕ} {k v : ℕ} → lib .sizes bytes k v → Told (dimensionAt bytes) k v
   pub labels :
       {K : Cabinet} {j : ℕ} {before after : List ℕ} {x : Labelled} → lib .labels K j before x after
       → (x ≡ labelled K j (length before)) × (after ≡ labelsAfter K j before)
@@ -39,6 +41,7 @@ pub rattle-faithful : Faithful rattle
 rattle-faithful =
     record {
       reads = told notice.read-says;
+      sizes = λ {bytes} {k} {v} m. subst (λ (x : Number). Told x k v) (told notice.dimension-says (m .1) .0) (m .2);
       labels = told labels.label-says;
       hops = λ m. told hop.hop-says m .0;
       walks = λ {n} {j} {s} {d} {room} {buffer} {w}.
@@ -52,6 +55,10 @@ c-faithful =
     record {
       reads = λ {bytes} {before} m. let t = told hcube.read-notice-says (m .1) in
           (sym (m .2) ∙ ap noticedFrom (t .0) ∙ decodes .notice bytes before, t .1);
+      sizes = λ {bytes} m.
+          let t = told hcube.notice-dimension-says (m .1) .0 in
+          let d = decodes .dimension bytes in
+          record { refusal = sym (m .2) ∙ ap refusalPart t ∙ d .refusal; value = sym (m .3) ∙ ap valuePart t ∙ d .value };
       labels = λ {K} {j} {before} m. let t = told hcube.label-says (m .1) in
           (sym (m .2) ∙ ap labelledFrom (t .0) ∙ decodes .label K j (length before), t .1);
       hops = λ {n} {j} {c} {d} {buffer} m. let t = told hcube.hop-says (m .1) in

@@ -111,10 +111,10 @@ module _ (s : List ℕ) (at : ℕ) where
 
 module _ {s : List ℕ} {at : ℕ} {When : ℕ → ℕ → Type 0} {order : List ℕ} {Behind : ℕ → ℕ → ℕ → ℕ → Type 0} where
   -- a number that is refused is so at its own place
-  ill-at : {k place : ℕ} → numberAt s at ≡ Refused k place → Due s at When order Behind k place
+  pub ill-at : {k place : ℕ} → numberAt s at ≡ Refused k place → Due s at When order Behind k place
   ill-at {k} {place} e = rw (number-laws .refused-place s at k place e) (ill (refused-given s at e) (refused-is s at e))
 
-  due-one : ((v next j p k q : ℕ) → Behind v next j p → Behind v next k q → (j ≡ k) × (p ≡ q)) → {j p k q : ℕ} → Due s at When order Behind j p
+  pub due-one : ((v next j p k q : ℕ) → Behind v next j p → Behind v next k q → (j ≡ k) × (p ≡ q)) → {j p k q : ℕ} → Due s at When order Behind j p
       → Due s at When order Behind k q → (j ≡ k) × (p ≡ q)
   due-one f (ill p _) (ill q _) = (given-one p q, refl)
   due-one f (ill p a) (wrong e _ _) = absurd (a (given-one p (value-given s at e)))

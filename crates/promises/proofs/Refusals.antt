@@ -1,5 +1,5 @@
--- Each question's refusal is the number that document 01's words give. A refusal is the first test that holds, so test by test: it says what its case
--- says, both ways.
+-- Each question's refusal is the number that the words give (specs/Refusals.antt). A refusal is the first test that holds, so test by test: it says what its
+-- case says, both ways.
 use mathlib.Core.Path.{_≡_, refl, sym, ap, _∙_}
 use mathlib.Core.Logic.{_⊎_, inl, inr, ⊎-elim, _↔_, _≢_}
 use mathlib.Core.Bool.{Bool, true, false, not, _&&_, _||_}
@@ -76,6 +76,7 @@ use Rattle.promises.proofs.Given.{
 }
 use Rattle.promises.proofs.Eight.{eight}
 use Rattle.promises.proofs.Notices.{notice-given, notice-one, number-given}
+use Rattle.promises.proofs.Sizes.{dimension-given, dimension-one}
 
 -- ---- labelling
 
@@ -236,9 +237,11 @@ pub refusals : Refusals
 refusals = record {
   one = λ When order j k. given-one;
   one-notice = notice-one;
+  one-dimension = dimension-one;
   labelling = λ K j m. rw (← label-refusal K j m) (label-given K j m);
   hop = λ n j c d m lab. rw (← hop-refusal n j c d m lab) (hop-given n j c d m lab);
   walk = λ n j s d m room lab. rw (← walk-refusal n j s d m room lab) (walk-given n j s d m room lab);
   number = number-given;
   notice = notice-given;
+  dimension = dimension-given;
 }

@@ -10,6 +10,7 @@ all-tied =
       hcube-label = record { clauses = λ w. refl; asked = refl; post = refl };
       hcube-hop = record { clauses = λ w. refl; asked = refl; post = refl };
       hcube-walk = record { clauses = λ w. refl; asked = refl; post = refl };
+      hcube-notice-dimension = record { clauses = λ w. refl; asked = refl; post = refl };
       hcube-read-notice = record { clauses = λ w. refl; asked = refl; post = refl };
       labels-label = record { clauses = λ w. refl; asked = refl; post = refl };
       hop-hop = record { clauses = λ w. refl; asked = refl; post = refl };
@@ -17,6 +18,7 @@ all-tied =
       hop-hop-at = record { clauses = λ w. refl; asked = refl; post = refl };
       walk-walk = record { clauses = λ w. refl; asked = refl; post = refl };
       walk-walk-for = record { clauses = λ w. refl; asked = refl; post = refl };
+      notice-dimension = record { clauses = λ w. refl; asked = refl; post = refl };
       notice-read = record { clauses = λ w. refl; asked = refl; post = refl };
       notice-tail = record { clauses = λ w. refl; asked = refl; post = refl };
       groups-number-at = record { clauses = λ w. refl; asked = refl; post = refl };
@@ -41,10 +43,12 @@ in-order =
       hcube-label = λ κs a. refl;
       hcube-hop = λ κs a. refl;
       hcube-walk = λ κs a. refl;
+      hcube-notice-dimension = λ κs a. refl;
       hcube-read-notice = λ κs a. refl;
       labels-label = λ κs a. refl;
       hop-hop = λ κs a. refl;
       walk-walk = λ κs a. refl;
       walk-walk-for = λ κs a. refl;
+      notice-dimension = λ κs a. refl;
       notice-read = λ κs a. refl;
     }

@@ -10,6 +10,7 @@ use Rattle.promises.specs.Library.{Library}
 
 pub record Answers (lib : Library) : Type 0 where
   pub reads : (bytes before : List ℕ) → (x : Noticed) × (after : List ℕ) × lib .reads bytes before x after
+  pub sizes : (bytes : List ℕ) → (k v : ℕ) × lib .sizes bytes k v
   pub labels : (K : Cabinet) (j : ℕ) (before : List ℕ) → (x : Labelled) × (after : List ℕ) × lib .labels K j before x after
   pub hops : (n j c d : ℕ) (buffer : List ℕ) → (x : Hopped) × lib .hops n j c d buffer x
   pub walks : (n j s d : ℕ) (buffer : List ℕ) (room : ℕ) → (w : Walked) × lib .walks n j s d buffer room w

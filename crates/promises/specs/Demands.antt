@@ -1,5 +1,5 @@
--- The three demands, of whatever the contracts allow: labelling asked and answered, then hop and walk asked on the bytes that it left, and the notice
--- reader before them. lib is the library, as Rattle or as C calls it; j is the job that asks.
+-- The three demands (RULES, at its top), of whatever the contracts allow: labelling asked and answered, then hop and walk asked on the bytes that it left, and
+-- the notice reader before them. lib is the library, as Rattle or as C calls it; j is the job that asks.
 use mathlib.Core.Bool.{true}
 use mathlib.Core.List.{List}
 use mathlib.Core.Logic.{_⊎_, _≢_}
@@ -36,7 +36,7 @@ use Rattle.theorems.specs.Picked.{Picked}
 use Rattle.theorems.specs.TwoRules.{NoneStrong, OnlyBetter, more}
 use Rattle.theorems.specs.Words.{NoneTwice, SomeSafe, Takes, Works, place}
 use Rattle.promises.specs.Library.{Library}
-use Rattle.promises.specs.Refusals.{BothHalves, HopGiven, Job, LabelGiven, NoticeGiven, Rule, TableLength, Unused, WalkGiven}
+use Rattle.promises.specs.Refusals.{BothHalves, Dimension, DimensionGiven, HopGiven, Job, LabelGiven, NoticeGiven, Rule, TableLength, Unused, WalkGiven}
 
 -- a table of nodes is well formed: it has its length, and no unused bit is set
 abbrev pub WellFormed : (n : ℕ) (table : List ℕ) → Type 0
@@ -56,6 +56,8 @@ pub record Demands (lib : Library) : Type 0 where
   -- and with a notice's refusal the place of the number that it is about
   pub notice-refusal :
       {bytes before after : List ℕ} {x : Noticed} → lib .reads bytes before x after → NoticeGiven bytes before (N.refusalOf x) (N.placeOf x)
+  -- likewise the dimension by itself, which is lent no table
+  pub dimension-refusal : {bytes : List ℕ} {k v : ℕ} → lib .sizes bytes k v → DimensionGiven bytes k v
   -- a refusal writes nothing into any buffer it was lent
   pub labels-kept : {K : Cabinet} {j : ℕ} {before after : List ℕ} {k : ℕ} → lib .labels K j before (labelled.Refused k) after → after ≡ before
   pub table-kept : {bytes before after : List ℕ} {k at : ℕ} → lib .reads bytes before (noticed.Refused k at) after → after ≡ before
@@ -67,7 +69,18 @@ pub record Demands (lib : Library) : Type 0 where
   pub notice-read : {bytes before after : List ℕ} {n m taken : ℕ} → lib .reads bytes before (noticed.Notice n m taken) after → ReadNotice bytes n m taken
   pub table-written :
       {bytes before after : List ℕ} {n m taken : ℕ} → lib .reads bytes before (noticed.Notice n m taken) after → TableOf n m (N.addressesOf bytes) after
-  -- ---- 2. The labels are the paper's
+  -- the dimension by itself is one, and that of the notice;
+  pub dimension-sized : {bytes : List ℕ} {n : ℕ} → lib .sizes bytes 0 n → Dimension n
+  pub dimension-read :
+      {bytes before after : List ℕ} {n n′ m taken : ℕ} → lib .sizes bytes 0 n → lib .reads bytes before (noticed.Notice n′ m taken) after → n′ ≡ n
+  -- a fault table that was sized by it is refused only for what stands behind it;
+  pub sized-table :
+      {bytes before after : List ℕ} {n k at : ℕ} → lib .sizes bytes 0 n → TableLength n (length before)
+      → lib .reads bytes before (noticed.Refused k at) after → 9 ≤ k
+  -- and where the dimension is refused, the notice is refused alike, whatever table is lent
+  pub dimension-refused :
+      {bytes before after : List ℕ} {k v : ℕ} {x : Noticed} → lib .sizes bytes k v → k ≢ 0 → lib .reads bytes before x after → x ≡ noticed.Refused k v
+  -- ---- 2. The labels are those of Chiu and Wu
 
   -- all 2^n label bytes of the job's half are written
   pub labels-written :
@@ -76,7 +89,7 @@ pub record Demands (lib : Library) : Type 0 where
   pub labels :
       {K : Cabinet} {j : ℕ} {before after : List ℕ} {exchanges : ℕ} → lib .labels K j before (labelled.Exchanges exchanges) after
       → Demand2 K (labelFor (K .n) j after) exchanges
-  -- how long labelling may take: ceilings for the exchanges that it answers (document 02, A11)
+  -- how long labelling may take: ceilings for the exchanges that it answers (RULES, How many exchanges there can be)
   pub how-long :
       {K : Cabinet} {j : ℕ} {before after : List ℕ} {exchanges : ℕ} → lib .labels K j before (labelled.Exchanges exchanges) after
       → HowLong K (labelFor (K .n) j after) exchanges
@@ -122,7 +135,7 @@ pub record Demands (lib : Library) : Type 0 where
   pub walk-ends-in :
       {n j s d room : ℕ} {buffer : List ℕ} {w : Walked} → lib .walks n j s d buffer room w → W.refusalOf (w .ending) ≡ 0
       → (labelFor n j buffer (place w (w .hops)) ≤ 2) ⊎ (place w (w .hops) ≡ d)
-  -- delivered or halted, it has passed no node twice (document 02, A8)
+  -- delivered or halted, it has passed no node twice (RULES, No node twice)
   pub walk-once :
       {n j s d room : ℕ} {buffer : List ℕ} {w : Walked} → lib .walks n j s d buffer room w → W.refusalOf (w .ending) ≡ 0 → NoneTwice w
   -- nor has a frame that is forwarded by the hop question alone, t times, however many, and then no more
@@ -130,7 +143,7 @@ pub record Demands (lib : Library) : Type 0 where
       {n j d t : ℕ} {buffer : List ℕ} {x : Decision} (at : ℕ → ℕ)
       → Forwarded (λ c a. lib .hops n j c d buffer (hopped.Decided a)) at t → lib .hops n j (at t) d buffer (hopped.Decided x) → W.stops x ≡ true
       → (k m : ℕ) → k < m → m ≤ t → at k ≢ at m
-  -- ---- the two rules (document 02, A13)
+  -- ---- the two rules (RULES, Labels)
 
   -- a site moves from rule 2 to rule 3: its labels only get better,
   pub moved :
@@ -156,7 +169,7 @@ pub record Demands (lib : Library) : Type 0 where
       (K : Cabinet) {j e s d : ℕ} {before buffer : List ℕ} {w : Walked} → lib .labels (byRule 2 K) j before (labelled.Exchanges e) buffer
       → SomeSafe (K .n) (labelFor (K .n) j buffer) → Works K s → Takes K d → lib .walks (K .n) j s d buffer W.rowBytes w
       → w .hops ≤ dist s d + 2
-  -- ---- enough nodes work (theorem 4 of Chiu and Wu 1994)
+  -- ---- enough nodes work (RULES, When frames arrive; theorem 4 of Chiu and Wu 1994)
 
   -- where so few are out of work, labelling leaves a safe node,
   pub some-safe :
@@ -170,7 +183,7 @@ pub record Demands (lib : Library) : Type 0 where
   pub notice-counts :
       {bytes old faults : List ℕ} {n m taken : ℕ} → lib .reads bytes old (noticed.Notice n m taken) faults
       → (rule : ℕ) → outOfWork (plain n rule faults) ≡ m
-  -- ---- boards on which no node drains and the job closes none (document 02, A4 and A10): every answer is what it was, in the job's half of a buffer of two
+  -- ---- boards on which no node drains and the job closes none (RULES, Which nodes work): every answer is what it was, in the job's half of a buffer of two
   -- tables of m bytes
 
   -- labelling that is lent two empty tables answers what it did, and leaves in that half what it left,

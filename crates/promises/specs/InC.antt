@@ -1,10 +1,11 @@
--- What C has in hand, of whatever the contracts of the C functions allow: the number of an answer, in plain numbers, and every byte of the row.
+-- What C has in hand (RULES, To C), of whatever the contracts of the C functions allow: the number of an answer, in plain numbers, and every byte of the row.
 use mathlib.Core.List.{List}
 use mathlib.Core.Logic.{_≢_}
 use mathlib.Core.Path.{_≡_}
 use Prim.Native.Nat.{ℕ, _+_, _*_, _/_, _%_, _<_}
 use lib.ListN.{getD, length}
 use Rattle.cube.specs.Contracts.{May}
+use Rattle.groups.specs.declared.Number.the-variants as number
 use Rattle.notice.specs.declared.Noticed.the-variants as noticed
 use Rattle.notice.proofs.Functions as notice
 use Rattle.labels.specs.declared.Labelled.the-variants as labelled
@@ -22,7 +23,7 @@ use Rattle.hcube.proofs.Functions as hcube
 
 pub record InC : Type 0 where
   -- "to C each answers one number: refusal × 16,777,216 + kind × 65,536 + value": that of the answer that the library's own function gives.
-  -- "Labelling: kind 0, value is the round count", which is the number of exchanges now
+  -- "Labelling: kind 0, value is the number of exchanges"
   pub label-exchanges :
       {n rule j r v : ℕ} {faults draining closed before after after′ : List ℕ} → May hcube.label (n, rule, j, faults, draining, closed, before) r after
       → May labels.label (n, rule, j, faults, draining, closed, before) (labelled.Exchanges v) after′ → r ≡ v
@@ -49,6 +50,12 @@ pub record InC : Type 0 where
   pub walk-refuses :
       {n j s d r k : ℕ} {buffer before after : List ℕ} {w : Walked} → May hcube.walk (n, j, s, d, buffer, before) r after
       → May walk.walk-for (n, j, s, d, buffer, length before) w tt → w .ending ≡ ending.Refused k → (r ≡ k * 16777216) × (after ≡ before)
+  -- the dimension of a notice by itself: the dimension, or refusal × 16,777,216, its place being 0
+  pub dimension-reads :
+      {r n next : ℕ} {bytes : List ℕ} → May hcube.notice-dimension bytes r tt → May notice.dimension bytes (number.Value n next) tt → r ≡ n
+  pub dimension-refuses :
+      {r k at : ℕ} {bytes : List ℕ} → May hcube.notice-dimension bytes r tt → May notice.dimension bytes (number.Refused k at) tt
+      → (r ≡ k * 16777216) × (at ≡ 0)
   -- a notice: dimension × 2^48 + count × 2^32 + bytes taken, or refusal × 16,777,216 + place, which fits its 16 bits
   pub notice-reads :
       {r n m taken : ℕ} {bytes before after after′ : List ℕ} → May hcube.read-notice (bytes, before) r after
@@ -63,7 +70,7 @@ pub record InC : Type 0 where
   pub row-bytes :
       {n j s d r : ℕ} {buffer before after : List ℕ} → May hcube.walk (n, j, s, d, buffer, before) r after → refusalPart r ≡ 0 → (k : ℕ) → k < 17
       → (getD after (2 * k) 0 ≡ nodeAt after k % 256) × (getD after (2 * k + 1) 0 ≡ nodeAt after k / 256)
-  -- "no node stands twice among the places of a walk's row that are used (the first ones, one more than its hop count)", whatever the labels (document 02, A8)
+  -- "no node stands twice among the places of a walk's row that are used (the first ones, one more than its hop count)", whatever the labels (No node twice)
   pub row-once :
       {n j s d r : ℕ} {buffer before after : List ℕ} → May hcube.walk (n, j, s, d, buffer, before) r after → refusalPart r ≡ 0
       → (k m : ℕ) → k < m → m < valuePart r + 1 → nodeAt after k ≢ nodeAt after m

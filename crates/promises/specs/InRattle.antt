@@ -1,5 +1,5 @@
--- What only a caller in Rattle asks, of whatever the contracts allow: the bytes after a notice, one number, the reader that keeps its place, and a notice
--- read through it.
+-- What only a caller in Rattle asks (RULES, Tables and the notice), of whatever the contracts allow: the bytes after a notice, one number, the reader that
+-- keeps its place, and a notice read through it.
 use mathlib.Core.List.{List, []}
 use mathlib.Core.Logic.{_≢_}
 use mathlib.Core.Path.{_≡_}
@@ -46,8 +46,8 @@ pub record InRattle : Type 0 where
   pub through :
       {bytes : RefT (List ℕ)} {r : ℕ → Reader} {x : ℕ → Number} → May reader.new bytes (r 0) tt → ((k : ℕ) → May reader.next (r k) (x k) (r (suc k)))
       → (k : ℕ) → (x k ≡ answers (now bytes) k) × (r k .at ≡ places (now bytes) k)
-  -- "Field staff .. count bytes by hand": a reader that goes through a notice comes to the place that its refusal answers, and stands before the number
-  -- that the refusal is about; through an accepted notice it comes to its end
+  -- who counts the bytes by hand comes to the same: a reader that goes through a notice comes to the place that its refusal answers, and stands before the
+  -- number that the refusal is about; through an accepted notice it comes to its end
   pub notice-refused :
       {bytes before after : List ℕ} {k at : ℕ} → May notice.read (bytes, before) (noticed.Refused k at) after → RefusedThrough bytes before k at
   pub notice-read :

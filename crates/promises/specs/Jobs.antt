@@ -1,7 +1,7 @@
--- Two jobs on one cabinet (document 02, A10), of whatever the contracts allow. "Labels, hops, walks, refusals and counts of one job depend only on the shared
--- tables, the bytes of its own half, the label buffer's length, its own closed table and its own questions": two situations that agree in these give the same
--- answers. And labelling one job leaves the other's half as it was, so nothing that the other asks changes, however often it is done. lib is the library, as
--- Rattle or as C calls it. Proved in proofs/Jobs.antt.
+-- Two jobs on one cabinet (RULES, Which nodes work), of whatever the contracts allow. "Labels, hops, walks, refusals and counts of one job depend only on the
+-- shared tables, the bytes of its own half, the label buffer's length, its own closed table and its own questions": two situations that agree in these give the
+-- same answers. And labelling one job leaves the other's half as it was, so nothing that the other asks changes, however often it is done. lib is the library,
+-- as Rattle or as C calls it. Proved in proofs/Jobs.antt.
 use mathlib.Core.Bool.{_||_}
 use mathlib.Core.List.{List}
 use mathlib.Core.Logic.{_≢_}

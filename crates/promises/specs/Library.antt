@@ -1,4 +1,4 @@
--- The library's four questions as relations: what is handed, what is answered and what is left, wherever the contract of the function allows it.
+-- The library's five questions as relations: what is handed, what is answered and what is left, wherever the contract of the function allows it.
 -- `rattle` has the functions that Rattle calls. `c` has those that C calls, and there the answer is what C takes out of the number and the row by the
 -- header's macros.
 use mathlib.Core.List.{List}
@@ -8,6 +8,8 @@ use Prim.Native.Nat.{ℕ}
 use lib.ListN.{length}
 use Rattle.cube.specs.Contracts.{May}
 use Rattle.rule.specs.Cabinet.{Cabinet}
+use Rattle.groups.specs.declared.Number.{Number}
+use Rattle.notice.specs.Notice.{Told}
 use Rattle.notice.specs.declared.Noticed.{Noticed}
 use Rattle.notice.proofs.Functions as notice
 use Rattle.labels.specs.declared.Labelled.{Labelled}
@@ -17,12 +19,14 @@ use Rattle.hop.proofs.Functions as hop
 use Rattle.walk.specs.Walk.{rowBytes}
 use Rattle.walk.specs.declared.Walked.{Walked}
 use Rattle.walk.proofs.Functions as walk
-use Rattle.hcube.specs.Decoded.{hoppedFrom, labelledFrom, noticedFrom, walkedFrom}
+use Rattle.hcube.specs.Decoded.{hoppedFrom, labelledFrom, noticedFrom, refusalPart, valuePart, walkedFrom}
 use Rattle.hcube.proofs.Functions as hcube
 
 pub record Library : Type 1 where
   -- the notice at the front of the bytes is read into a fault table
   pub reads : (bytes before : List ℕ) (x : Noticed) (after : List ℕ) → Type 0
+  -- the dimension of the notice at the front of the bytes: its refusal, 0 for none, and the dimension, or the place of the refusal
+  pub sizes : (bytes : List ℕ) (k v : ℕ) → Type 0
   -- a cabinet is labelled for job j, in a label buffer
   pub labels : (K : Cabinet) (j : ℕ) (before : List ℕ) (x : Labelled) (after : List ℕ) → Type 0
   -- a hop is decided at c for d, by the labels that job j has in a buffer
@@ -34,6 +38,7 @@ abbrev pub rattle : Library
 rattle =
     record {
       reads = λ bytes before x after. May notice.read (bytes, before) x after;
+      sizes = λ bytes k v. (x : Number) × May notice.dimension bytes x tt × Told x k v;
       labels = λ K j before x after. May labels.label (K .n, K .rule, j, K .faults, K .draining, K .closed, before) x after;
       hops = λ n j c d buffer x. May hop.hop (n, j, c, d, buffer) x tt;
       walks = λ n j s d buffer room w.
@@ -44,6 +49,7 @@ abbrev pub c : Library
 c =
     record {
       reads = λ bytes before x after. (r : ℕ) × May hcube.read-notice (bytes, before) r after × (noticedFrom r ≡ x);
+      sizes = λ bytes k v. (r : ℕ) × May hcube.notice-dimension bytes r tt × (refusalPart r ≡ k) × (valuePart r ≡ v);
       labels = λ K j before x after.
           (r : ℕ) × May hcube.label (K .n, K .rule, j, K .faults, K .draining, K .closed, before) r after × (labelledFrom r ≡ x);
       hops = λ n j c d buffer x. (r : ℕ) × May hcube.hop (n, j, c, d, buffer) r tt × (hoppedFrom r ≡ x);

@@ -76,7 +76,7 @@ pub record Promises : Type 2 where
   pub few-out-delivers : FewOutDelivers
   pub as-before : (j : ℕ) → j < 2 → AsBefore j
   pub progress : ScansProgress
-  -- document 01's words
+  -- the words of RULES, section by section
   pub refusals : Refusals
   pub nodes : (K : Cabinet) → Nodes K
   pub marks : (n k : ℕ) (F : ℕ → Bool) → Marks n k F

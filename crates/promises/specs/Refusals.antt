@@ -1,6 +1,5 @@
--- Refusals in words. Document 01 says for each number when it is given, and for each question in which order the numbers are looked at: "each is given then
--- and not otherwise". Here the cases stand in its words, with those of document 02's requests A4 on draining nodes and A10 on two jobs, apart from the
--- tables of tests by which the definitions answer. Proved in proofs/Refusals.antt.
+-- Refusals in the words of RULES (Refusal numbers): for each number when it is given, and for each question in which order the numbers are looked at; "each is
+-- given then and not otherwise". They stand apart from the tables of tests by which the definitions answer. Proved in proofs/Refusals.antt.
 use mathlib.Core.Bool.{true}
 use mathlib.Core.List.{List, [], _∷_}
 use mathlib.Core.Logic.{_⊎_, _≢_}
@@ -30,11 +29,11 @@ pub data Given (When : ℕ → Type 0) : (order : List ℕ) (k : ℕ) → Type 0
 abbrev pub Dimension : (n : ℕ) → Type 0
 Dimension n = (1 ≤ n) × (n ≤ 12)
 
--- the number of a rule, "2 or 3" (document 02, A13)
+-- the number of a rule, "2 or 3"
 abbrev pub Rule : (k : ℕ) → Type 0
 Rule k = (k ≡ 2) ⊎ (k ≡ 3)
 
--- the number of a job, "0 or 1" (document 02, A10)
+-- the number of a job, "0 or 1"
 abbrev pub Job : (j : ℕ) → Type 0
 Job j = (j ≡ 0) ⊎ (j ≡ 1)
 
@@ -50,12 +49,12 @@ Unused n table = (x : ℕ) × (2 ^ n ≤ x) × (nodeBit table x ≡ true)
 abbrev pub Outside : (n a b : ℕ) → Type 0
 Outside n a b = (2 ^ n ≤ a) ⊎ (2 ^ n ≤ b)
 
--- "2 now asks that the label buffer hold exactly both halves"
+-- the length of a label buffer: "exactly both halves"
 abbrev pub BothHalves : (n m : ℕ) → Type 0
 BothHalves n m = m ≡ 2 * 2 ^ n
 
--- ---- labelling, of a cabinet for job j and a label buffer of m bytes: "1, 2 (fault table, then label table), 3", with 18 "directly after 1" and 19 "directly
--- before 2"; "2 and 3 also test the new table" of draining nodes, and the closed one last
+-- ---- labelling, of a cabinet for job j and a label buffer of m bytes: "1, 18, 19, 2 (fault, draining, closed table, then label buffer), 3 (fault, draining,
+-- closed table)"
 
 pub data LabelWhen (K : Cabinet) (j m : ℕ) : ℕ → Type 0 where
   label-1 : ¬ (Dimension (K .n)) → LabelWhen K j m 1
@@ -73,25 +72,25 @@ pub data LabelWhen (K : Cabinet) (j m : ℕ) : ℕ → Type 0 where
 abbrev pub LabelGiven : (K : Cabinet) (j m : ℕ) → ℕ → Type 0
 LabelGiven K j m = Given (LabelWhen K j m) (1 ∷ 18 ∷ 19 ∷ 2 ∷ 3 ∷ [])
 
--- ---- a hop at c for d, for job j with a label buffer of m bytes: "1, 2, 5, 4, 6", with 19 "directly before 2". lab are the labels of the job's half, and no
--- byte of the other is in a case
+-- ---- a hop at c for d, for job j with a label buffer of m bytes: "1, 19, 2, 5, 4, 6". lab are the labels of the job's half, and no byte of the other is
+-- in a case
 
 pub data HopWhen (n j c d m : ℕ) (lab : ℕ → ℕ) : ℕ → Type 0 where
   hop-1 : ¬ (Dimension n) → HopWhen n j c d m lab 1
   hop-19 : ¬ (Job j) → HopWhen n j c d m lab 19
   hop-2 : ¬ (BothHalves n m) → HopWhen n j c d m lab 2
   hop-5 : Outside n c d → HopWhen n j c d m lab 5
-  -- "4 now means a byte above 4" (hop: at c or a neighbour)
+  -- "a label byte above 4" ("hop: at c or a neighbour")
   hop-4-here : 4 < lab c → HopWhen n j c d m lab 4
   hop-4-near : (i : ℕ) → i < n → 4 < lab (flip i c) → HopWhen n j c d m lab 4
-  -- "current node has label 3", "and for a hop decision at a draining node that isn't the destination"
+  -- "current node has label 3, or label 4": this only where it is not the destination
   hop-6-faulty : lab c ≡ 3 → HopWhen n j c d m lab 6
   hop-6-draining : lab c ≡ 4 → c ≢ d → HopWhen n j c d m lab 6
 
 abbrev pub HopGiven : (n j c d m : ℕ) (lab : ℕ → ℕ) → ℕ → Type 0
 HopGiven n j c d m lab = Given (HopWhen n j c d m lab) (1 ∷ 19 ∷ 2 ∷ 5 ∷ 4 ∷ 6 ∷ [])
 
--- ---- a walk from s to d, for job j with a label buffer of m bytes and a row of `room` bytes: "1, 2, 5, 4, 6, 7, 8", with 19 "directly before 2"
+-- ---- a walk from s to d, for job j with a label buffer of m bytes and a row of `room` bytes: "1, 19, 2 (label buffer, then C's row), 5, 4, 6, 7, 8"
 
 -- "after n + 4 hops without delivery, where the next decision is another hop": from the source on, each decision after 0 to n + 4 hops is one
 abbrev pub AllHops : (n : ℕ) (lab : ℕ → ℕ) (d s : ℕ) → Type 0
@@ -105,11 +104,11 @@ pub data WalkWhen (n j s d m room : ℕ) (lab : ℕ → ℕ) : ℕ → Type 0 wh
   -- "a lent buffer of exactly 34 bytes"
   walk-2-row : room ≢ 34 → WalkWhen n j s d m room lab 2
   walk-5 : Outside n s d → WalkWhen n j s d m room lab 5
-  -- a byte above 4 (walk: anywhere in the job's half)
+  -- "a label byte above 4" ("walk: anywhere in the job's half")
   walk-4 : (x : ℕ) → x < 2 ^ n → 4 < lab x → WalkWhen n j s d m room lab 4
-  -- the source has label 3, or 4: "also for a draining source, even when it is the destination"
+  -- the source has label 3, or 4, "even when it is the destination"
   walk-6 : 3 ≤ lab s → WalkWhen n j s d m room lab 6
-  -- "7 stays for faulty only"
+  -- "walk's destination has label 3"
   walk-7 : lab d ≡ 3 → WalkWhen n j s d m room lab 7
   walk-8 : AllHops n lab d s → WalkWhen n j s d m room lab 8
 
@@ -162,15 +161,21 @@ NoticeGiven bytes table =
     Due bytes 0 (DimensionWhen table) (1 ∷ 2 ∷ [])
     (λ n at. Due bytes at (CountWhen n) (11 ∷ []) (λ m start. Addresses m n bytes start 0))
 
+-- the dimension by itself: no table is lent, so 2 is not in its order, and nothing is due behind it. Not refused, its value is the dimension
+abbrev pub DimensionGiven : (bytes : List ℕ) → (k v : ℕ) → Type 0
+DimensionGiven bytes = Due bytes 0 (DimensionWhen []) (1 ∷ []) (λ n at k v. (k ≡ 0) × (v ≡ n))
+
 -- ---- each is given then and not otherwise
 
 pub record Refusals : Type 1 where
   -- no two numbers are given by one order, and no two, or two places, for one notice
   pub one : (When : ℕ → Type 0) (order : List ℕ) (j k : ℕ) → Given When order j → Given When order k → j ≡ k
   pub one-notice : (bytes table : List ℕ) (j p k q : ℕ) → NoticeGiven bytes table j p → NoticeGiven bytes table k q → (j ≡ k) × (p ≡ q)
+  pub one-dimension : (bytes : List ℕ) (j p k q : ℕ) → DimensionGiven bytes j p → DimensionGiven bytes k q → (j ≡ k) × (p ≡ q)
   -- each question's refusal, 0 for none, is the number given, and a notice's place the one given with it
   pub labelling : (K : Cabinet) (j m : ℕ) → LabelGiven K j m (L.refusalOf (L.labelled K j m))
   pub hop : (n j c d m : ℕ) (lab : ℕ → ℕ) → HopGiven n j c d m lab (H.refusalOf (H.hopped n j c d m lab))
   pub walk : (n j s d m room : ℕ) (lab : ℕ → ℕ) → WalkGiven n j s d m room lab (W.refusalOf (W.walked n j s d m room lab .ending))
   pub number : (bytes : List ℕ) (at : ℕ) → NumberGiven bytes at (refusalIn (numberAt bytes at))
   pub notice : (bytes table : List ℕ) → NoticeGiven bytes table (N.refusalOf (N.noticed bytes table)) (N.placeOf (N.noticed bytes table))
+  pub dimension : (bytes : List ℕ) → DimensionGiven bytes (refusalIn (N.dimensionAt bytes)) (N.dimensionValue (N.dimensionAt bytes))

@@ -1,5 +1,5 @@
--- Each contract settles everything: two answers that it allows are equal, and so is each lent buffer afterwards. And nothing is asked of a caller. Both
--- are said of the claims that the check makes of the function's own clauses, for every public function.
+-- Each contract settles everything (RULES, What the contracts settle): two answers that it allows are equal, and so is each lent buffer afterwards. And nothing
+-- is asked of a caller. Both are said of the claims that the check makes of the function's own clauses, for every public function of the library's crates.
 use Rattle.cube.specs.Contracts.{AsksNothing, Settles}
 use Rattle.cube.proofs.Functions as cube
 use Rattle.groups.proofs.Functions as groups
@@ -15,12 +15,14 @@ pub record Settled : Type 0 where
   pub hcube-label : Settles hcube.label
   pub hcube-hop : Settles hcube.hop
   pub hcube-walk : Settles hcube.walk
+  pub hcube-notice-dimension : Settles hcube.notice-dimension
   pub hcube-read-notice : Settles hcube.read-notice
   pub labels-label : Settles labels.label
   pub hop-hop : Settles hop.hop
   pub hop-place-refusal : Settles hop.place-refusal
   pub walk-walk : Settles walk.walk
   pub walk-walk-for : Settles walk.walk-for
+  pub notice-dimension : Settles notice.dimension
   pub notice-read : Settles notice.read
   -- the returned part: its bytes, and its place in the caller's memory. (The ghost name that the logic gives a reference is not settled: no
   -- program can see it.)
@@ -48,12 +50,14 @@ pub record Unasked : Type 2 where
   pub hcube-label : AsksNothing hcube.label
   pub hcube-hop : AsksNothing hcube.hop
   pub hcube-walk : AsksNothing hcube.walk
+  pub hcube-notice-dimension : AsksNothing hcube.notice-dimension
   pub hcube-read-notice : AsksNothing hcube.read-notice
   pub labels-label : AsksNothing labels.label
   pub hop-hop : AsksNothing hop.hop
   pub hop-place-refusal : AsksNothing hop.place-refusal
   pub walk-walk : AsksNothing walk.walk
   pub walk-walk-for : AsksNothing walk.walk-for
+  pub notice-dimension : AsksNothing notice.dimension
   pub notice-read : AsksNothing notice.read
   pub notice-tail : AsksNothing notice.tail
   pub groups-number-at : AsksNothing groups.number-at

@@ -21,6 +21,7 @@ use Rattle.cube.proofs.unused_set as cube-unused-set
 use Rattle.groups.proofs.Functions as groups
 use Rattle.groups.proofs.number_at as groups-number-at
 use Rattle.notice.proofs.Functions as notice
+use Rattle.notice.proofs.dimension as notice-dimension
 use Rattle.notice.proofs.read as notice-read
 use Rattle.notice.proofs.tail as notice-tail
 use Rattle.reader.proofs.Functions as reader
@@ -43,6 +44,7 @@ use Rattle.walk.proofs.walk_for as walk-walk-for
 use Rattle.hcube.proofs.Functions as hcube
 use Rattle.hcube.proofs.hcube_hop as hcube-hop
 use Rattle.hcube.proofs.hcube_label as hcube-label
+use Rattle.hcube.proofs.hcube_notice_dimension as hcube-notice-dimension
 use Rattle.hcube.proofs.hcube_read_notice as hcube-read-notice
 use Rattle.hcube.proofs.hcube_walk as hcube-walk
 
@@ -62,6 +64,9 @@ pub record AllTied : Type 2 where
   pub hcube-walk :
       Tied hcube.walk (λ w. hcube-walk.clauses (w .𝓤) (w .H) (w .𝓖 .A) (w .𝓜 .mem) (w .𝓡 .run))
       hcube-walk.Reads.Asked hcube-walk.Reads.Post
+  pub hcube-notice-dimension :
+      Tied hcube.notice-dimension (λ w. hcube-notice-dimension.clauses (w .𝓤) (w .H) (w .𝓖 .A) (w .𝓜 .mem) (w .𝓡 .run))
+      hcube-notice-dimension.Reads.Asked hcube-notice-dimension.Reads.Post
   pub hcube-read-notice :
       Tied hcube.read-notice (λ w. hcube-read-notice.clauses (w .𝓤) (w .H) (w .𝓖 .A) (w .𝓜 .mem) (w .𝓡 .run))
       hcube-read-notice.Reads.Asked hcube-read-notice.Reads.Post
@@ -79,6 +84,9 @@ pub record AllTied : Type 2 where
   pub walk-walk-for :
       Tied walk.walk-for (λ w. walk-walk-for.clauses (w .𝓤) (w .H) (w .𝓖 .A) (w .𝓜 .mem) (w .𝓡 .run))
       walk-walk-for.Reads.Asked walk-walk-for.Reads.Post
+  pub notice-dimension :
+      Tied notice.dimension (λ w. notice-dimension.clauses (w .𝓤) (w .H) (w .𝓖 .A) (w .𝓜 .mem) (w .𝓡 .run))
+      notice-dimension.Reads.Asked notice-dimension.Reads.Post
   pub notice-read :
       Tied notice.read (λ w. notice-read.clauses (w .𝓤) (w .H) (w .𝓖 .A) (w .𝓜 .mem) (w .𝓡 .run))
       notice-read.Reads.Asked notice-read.Reads.Post
@@ -135,6 +143,7 @@ pub record InOrder : Type 0 where
       (a .0, a .1 .0, a .1 .1 .0, now (a .1 .1 .1 .0), now (a .1 .1 .1 .1 .0), now (a .1 .1 .1 .1 .1 .0), now (a .1 .1 .1 .1 .1 .1 .0)))
   pub hcube-hop : Handed hcube.hop (λ κs a. (a .0, a .1 .0, a .1 .1 .0, a .1 .1 .1 .0, now (a .1 .1 .1 .1 .0)))
   pub hcube-walk : Handed hcube.walk (λ κs a. (a .0, a .1 .0, a .1 .1 .0, a .1 .1 .1 .0, now (a .1 .1 .1 .1 .0), now (a .1 .1 .1 .1 .1 .0)))
+  pub hcube-notice-dimension : Handed hcube.notice-dimension (λ κs a. now (a .0))
   pub hcube-read-notice : Handed hcube.read-notice (λ κs a. (now (a .0), now (a .1 .0)))
   pub labels-label :
       Handed labels.label (λ κs a.
@@ -142,4 +151,5 @@ pub record InOrder : Type 0 where
   pub hop-hop : Handed hop.hop (λ κs a. (a .0, a .1 .0, a .1 .1 .0, a .1 .1 .1 .0, now (a .1 .1 .1 .1 .0)))
   pub walk-walk : Handed walk.walk (λ κs a. (a .0, a .1 .0, a .1 .1 .0, a .1 .1 .1 .0, now (a .1 .1 .1 .1 .0)))
   pub walk-walk-for : Handed walk.walk-for (λ κs a. (a .0, a .1 .0, a .1 .1 .0, a .1 .1 .1 .0, now (a .1 .1 .1 .1 .0), a .1 .1 .1 .1 .1 .0))
+  pub notice-dimension : Handed notice.dimension (λ κs a. now (a .0))
   pub notice-read : Handed notice.read (λ κs a. (now (a .0), now (a .1 .0)))

@@ -1,9 +1,6 @@
--- The numbers of document 01 that are proved of the definitions, with the counts of document 02's request A3. k4 is n = 4 with faulty 2, 4, 8, 15; q3 is
--- n = 3 with faulty 1, 2, 4. And numbers of our own: for the older rule (A13) of k4, and of c3 and c4, n = 3 and n = 4 with faulty 0, 3, 4; for draining nodes
--- (A4) of k4 with 15 draining instead of faulty, with 15 in both tables, and with 9 draining besides; for two jobs (A10) of k4 with 15 draining, where one of
--- them closes 9; for the ceilings of A11 of l2 and d2, n = 2 with faulty 0, 1, 3 and with faulty 1, 2; for A8 of r3, labels of a 3-cube in which node 1 is
--- safe though two of its neighbours are faulty; for the bounds of crates/enough of m3, n = 3 with 1 faulty and 2 draining, of q3, of q3-each, where of the
--- same nodes one is faulty, one draining and one closed, and of p2, n = 2 with faulty 0 and 3.
+-- The numbers that are proved of the definitions. RULES (Numbers on both sides) says what each name stands for: k4 and q3; k4, c3 and c4 by the older rule; for
+-- draining nodes k4-drains, k4-both and k4-nine; for two jobs k4-closes and k4-closes-both; for the ceilings of the exchanges l2 and d2; for how many nodes may be
+-- out of work m3, q3-each and p2; and the labels r3, by which a frame goes round.
 use mathlib.Core.Bool.{Bool, true, false, cond}
 use mathlib.Core.List.{List, [], _∷_, _++_}
 use mathlib.Core.Path.{_≡_}

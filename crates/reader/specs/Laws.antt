@@ -1,5 +1,5 @@
--- What document 01 says of the notice reader that keeps the lent bytes and its place, as laws of its definitions; and where a refused notice is bad:
--- who reads it number by number comes to the place that the refusal says. Proved in proofs/Laws.antt and proofs/Refused.antt.
+-- What RULES says of the notice reader that keeps the lent bytes and its place (Tables and the notice), as laws of its definitions; and where a refused notice
+-- is bad: who reads it number by number comes to the place that the refusal says. Proved in proofs/Laws.antt and proofs/Refused.antt.
 use mathlib.Core.Path.{_≡_}
 use mathlib.Core.List.{List, [], _∷_}
 use mathlib.Core.Bool.{true, false}
@@ -24,7 +24,7 @@ Told s k = answers s k ≡ number.Value (valueIn (answers s k)) (places s (suc k
 pub record ReadThrough (s : List ℕ) (n m taken : ℕ) : Type 0 where
   -- no answer is a refusal
   pub told : (k : ℕ) → k < 2 + m → Told s k
-  -- "the order is: dimension; number of faulty nodes; the first faulty node; then for each later one its distance from the one before, less one"
+  -- "the order is: dimension; number of faulty nodes; the first faulty node; then for each later one .. its distance from the one before, less one"
   pub dimension : valueIn (answers s 0) ≡ n
   pub count : valueIn (answers s 1) ≡ m
   pub addresses : addressesFrom 0 (values m s 2) ≡ addressesOf s

@@ -1,4 +1,5 @@
--- The place of a reader after an answer: the next one after a number, and the same after a refusal. The contracts of `next` and `next_at` cite it.
+-- The place of a reader after an answer (RULES, Tables and the notice): the next one after a number, and the same after a refusal. The contracts of `next` and
+-- `next_at` cite it.
 use mathlib.Core.List.{List}
 use Prim.Native.Nat.{ℕ}
 use Rattle.groups.specs.Number.{numberAt, onNumber}

@@ -161,7 +161,7 @@ module _ (n k : ℕ) (F : ℕ → Bool) where
         ceiling = rounds-le;
       }
 
-  -- ---- document 01's words
+  -- ---- the words of RULES (Labels)
 
   pub meets-says : (m : ℕ → Bool) (x : ℕ) → (meets n k F m x ≡ true) ↔ Unsafe n k F m x
   unfolding meets

@@ -1,5 +1,5 @@
--- A cabinet, as one job has it: all that labelling is handed and a label can depend on, in one record, and what it then has for labels. Contracts and
--- theorems speak of a cabinet, so another thing that labelling is handed is another field here.
+-- A cabinet, as one job has it (RULES, Which nodes work): all that labelling is handed and a label can depend on, in one record, and what it then has for
+-- labels. Contracts and theorems speak of a cabinet, so another thing that labelling is handed is another field here.
 use mathlib.Core.Bool.{Bool, cond, not, _&&_, _||_}
 use mathlib.Core.List.{List}
 use Prim.Native.Nat.{ℕ, _^_}
@@ -14,9 +14,9 @@ pub record Cabinet : Type 0 where
   pub rule : ℕ
   -- the lent fault table
   pub faults : List ℕ
-  -- the lent table of draining nodes, of the same layout (document 02, A4)
+  -- the lent table of draining nodes, of the same layout (A4)
   pub draining : List ℕ
-  -- the lent table of the nodes that the job closes for its own traffic, of the same layout (document 02, A10)
+  -- the lent table of the nodes that the job closes for its own traffic, of the same layout (A10)
   pub closed : List ℕ
 
 abbrev pub cabinet : (n rule : ℕ) (faults draining closed : List ℕ) → Cabinet
@@ -30,7 +30,7 @@ plain n rule faults = cabinet n rule faults (emptyTable n) (emptyTable n)
 abbrev pub byRule : (k : ℕ) → Cabinet → Cabinet
 byRule k K = cabinet (K .n) k (K .faults) (K .draining) (K .closed)
 
--- there are two rules (document 02, A13): 2, that of Lee and Hayes, and 3, document 01's
+-- there are two rules (RULES, Labels): 2, that of Lee and Hayes, and 3, that of Chiu and Wu
 unfoldable pub isRule : (k : ℕ) → Bool
 isRule k = leb 2 k && leb k 3
 

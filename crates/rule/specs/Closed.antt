@@ -1,4 +1,4 @@
--- The sets of demand 2, and that the safe nodes are the largest of them. Proved in proofs/Largest.antt.
+-- The sets of demand 2 (RULES, Labels), and that the safe nodes are the largest of them. Proved in proofs/Largest.antt.
 use mathlib.Core.Bool.{Bool, true, false, not}
 use mathlib.Core.Path.{_≡_}
 use Prim.Native.Nat.{ℕ, _^_, _≤_, _<_}

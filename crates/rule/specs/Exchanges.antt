@@ -1,4 +1,4 @@
--- The exchanges that the cards count, in the words of document 02's requests A3 and A11: which number it is, and how large it can be. The cards exchange
+-- The exchanges that the cards count (RULES, Exchanges): which number it is, and how large it can be (How many exchanges there can be). The cards exchange
 -- states, and exchange r + 1 does what round r + 1 does: so the exchanges are the rounds that marked something new and the quiet one after them. Proved in
 -- proofs/Exchanges.antt, the ceilings in proofs/Ceilings.antt.
 use mathlib.Core.Bool.{Bool, true, false, _&&_}
@@ -32,12 +32,12 @@ pub record Exchanges (n k : ℕ) (F : ℕ → Bool) : Type 0 where
   pub alone : (c : ℕ) → Exchanged n k F c → c ≡ exchanges n k F
   -- no later exchange would bring anything new
   pub still : (r : ℕ) → exchanges n k F ≤ r → BringsNothing n k F r
-  -- "no faults becomes 1"; and so it is where no node works
+  -- it is 1 where every node works, and so it is where none does
   pub no-faults : 1 ≤ k → ((x : ℕ) → x < 2 ^ n → F x ≡ false) → exchanges n k F ≡ 1
   pub none-works : ((x : ℕ) → x < 2 ^ n → F x ≡ true) → exchanges n k F ≡ 1
   -- ---- how many there can be (A11)
 
-  -- "at most the number of working nodes plus one". By itself it would say no more than where `rounds` looks for a quiet round. It says how many exchanges
+  -- at most "the number of working nodes plus one". By itself it would say no more than where `rounds` looks for a quiet round. It says how many exchanges
   -- there are beside `counted`: a quiet one is found there, and each before it marked a node
   pub ceiling : exchanges n k F ≤ working n F + 1
   -- the first marks the working nodes that have two or more neighbours that do not work,

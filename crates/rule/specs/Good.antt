@@ -1,5 +1,5 @@
--- The four facts of a label table on which all routing rests: 0 safe, 1 ordinarily unsafe, 2 strongly unsafe, 3 and more not working; and that the labels
--- have them. Proved in proofs/Good.antt.
+-- The four facts of a label table (RULES, Labels) on which all routing rests: 0 safe, 1 ordinarily unsafe, 2 strongly unsafe, 3 and more not working; and that
+-- the labels have them. Proved in proofs/Good.antt.
 use mathlib.Core.Bool.{Bool, true}
 use mathlib.Core.Path.{_≡_}
 use Prim.Native.Nat.{ℕ, _^_, _≤_, _<_}

@@ -1,4 +1,4 @@
--- How many of its neighbours the test of a node looks at, lowest dimension first (document 02, A6): no more than settle it. Proved in proofs/Looks.antt.
+-- How many of its neighbours the test of a node looks at, lowest dimension first (RULES, Labels): no more than settle it. Proved in proofs/Looks.antt.
 use mathlib.Core.Bool.{Bool, true}
 use mathlib.Core.Logic.{_↔_}
 use mathlib.Core.Path.{_≡_}

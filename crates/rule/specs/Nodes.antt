@@ -1,5 +1,5 @@
--- Which nodes of a cabinet are faulty for its job, drain, or do not work: said of the bits of the three lent tables, apart from the definitions by which the
--- labels are computed. Proved in proofs/Nodes.antt.
+-- Which nodes of a cabinet are faulty for its job, drain, or do not work (RULES, Which nodes work): said of the bits of the three lent tables, apart from the
+-- definitions by which the labels are computed. Proved in proofs/Nodes.antt.
 use mathlib.Core.Bool.{true, false}
 use mathlib.Core.Logic.{_⊎_, _↔_}
 use mathlib.Core.Path.{_≡_}
@@ -8,7 +8,7 @@ use Rattle.cube.specs.Tables.{nodeBit}
 use Rattle.rule.specs.Cabinet.{Cabinet, drains, faulty, out, outByte}
 
 pub record Nodes (K : Cabinet) : Type 0 where
-  -- "closed counts as faulty" (document 02, A10)
+  -- "closed counts as faulty" (A10)
   pub is-faulty : (x : ℕ) → (faulty K x ≡ true) ↔ ((nodeBit (K .faults) x ≡ true) ⊎ (nodeBit (K .closed) x ≡ true))
   -- "a node in both is faulty" (A4), and closed goes "over draining too" (A10)
   pub is-draining :

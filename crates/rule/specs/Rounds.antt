@@ -1,4 +1,4 @@
--- The rounds in document 01's words, that they come to rest, and that `rounds` says when. Proved in proofs/Rounds.antt.
+-- The rounds in the words of RULES (Labels), that they come to rest, and that `rounds` says when. Proved in proofs/Rounds.antt.
 use mathlib.Core.Bool.{Bool, true, false, _||_}
 use mathlib.Core.Logic.{_⊎_, _↔_}
 use mathlib.Core.Path.{_≡_}
@@ -7,7 +7,7 @@ use Rattle.cube.specs.Count.{count}
 use Rattle.cube.specs.Cube.{flip}
 use Rattle.rule.specs.Rule.{marked, rounds, working}
 
--- "two or more faulty neighbours, or three or more neighbours that are faulty or unsafe" (k or more), with the marks m
+-- "two or more neighbours that do not work, or k or more that do not work or are unsafe", with the marks m
 abbrev pub Unsafe : (n k : ℕ) (F m : ℕ → Bool) (x : ℕ) → Type 0
 Unsafe n k F m x = (2 ≤ count n (λ i. F (flip i x))) ⊎ (k ≤ count n (λ i. F (flip i x) || m (flip i x)))
 

@@ -1,5 +1,5 @@
--- The labels of document 01, over n, the dimension; k, the number of the rule (3 there); F, the nodes that do not work (there: the faulty
--- ones); and byte, the byte of a node that does not work (there: 3). A mark means unsafe.
+-- The labels (RULES, Labels), over n, the dimension; k, the number of the rule; F, the nodes that do not work; and byte, the byte of a node that does not work.
+-- A mark means unsafe. (Chiu and Wu have rule 3, only faulty nodes in F, and 3 for their byte.)
 use mathlib.Core.Bool.{Bool, false, cond, not, _&&_, _||_}
 use Prim.Native.Nat.{ℕ, zero, suc, _+_, _^_}
 use lib.Dec.{eqb, leb}
@@ -32,7 +32,7 @@ working n F = count (2 ^ n) (λ x. not (F x))
 unfoldable pub rounds : (n k : ℕ) (F : ℕ → Bool) → ℕ
 rounds n k F = least (working n F) (quiet n k F)
 
--- how many exchanges the cards make (document 02, A3): one for each of these rounds, and the quiet one after them
+-- how many exchanges the cards make (RULES, Exchanges): one for each of these rounds, and the quiet one after them
 unfoldable pub exchanges : (n k : ℕ) (F : ℕ → Bool) → ℕ
 exchanges n k F = rounds n k F + 1
 

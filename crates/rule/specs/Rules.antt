@@ -1,4 +1,4 @@
--- The two rules, 2 of Lee and Hayes and 3 of document 01 (document 02, A13): what one rule's labels say of the other's. F are the nodes that do not work.
+-- The two rules (RULES, Labels), 2 of Lee and Hayes and 3 of Chiu and Wu: what one rule's labels say of the other's. F are the nodes that do not work.
 -- Proved in proofs/Rules.antt.
 use mathlib.Core.Bool.{Bool, true, false}
 use mathlib.Core.Logic.{_⊎_}

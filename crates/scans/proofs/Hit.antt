@@ -1,4 +1,4 @@
--- The table of the scans says what document 01 says, and document 02 of the hop before them. A dimension that suits a line has all of its parts: so they
+-- The table of the scans says what RULES says (One hop), also of the hop before them. A dimension that suits a line has all of its parts: so they
 -- are read off the line of its scan and put together again.
 use mathlib.Core.Path.{_≡_, refl, ap}
 use mathlib.Core.Logic.{_⊎_, inl, inr, ⊎-elim}
@@ -43,7 +43,7 @@ module _ (lab : ℕ → ℕ) (c d : ℕ) where
 
   -- ---- line by line
 
-  -- where scan 3 is allowed: the table's bound on the distance is document 01's
+  -- where scan 3 is allowed: the table's bound on the distance is that of the words
   open-third : scanHere 3 .allowed ≡ true → MayEnterStrong lab c d
   open-third e =
       ⊎-elim (λ (t : eqb (lab c) 2 ≡ true). inl (eqb-true (lab c) 2 t)) (λ t. inr (leb-true (dist c d) _ t)) (or-true (eqb (lab c) 2) _ e)

@@ -1,6 +1,6 @@
 -- What a safe node sees of the cube, from the four facts of a good table: it has so few bad neighbours that, towards any node far enough
 -- away, one of the neighbours on the way is safe. So the safe nodes reach close to everything, and a strongly unsafe node has an
--- ordinarily unsafe neighbour (theorem 5 of source document 001).
+-- ordinarily unsafe neighbour (theorem 5 of Chiu and Wu 1994).
 use mathlib.Core.Path.{_≡_, refl, sym, ap, _∙_}
 use mathlib.Core.Logic.{_⊎_, inl, inr}
 use mathlib.Core.Bool.{true, false, not}
@@ -53,7 +53,7 @@ module _ (n : ℕ) (lab : ℕ → ℕ) (G : Good n lab) where
       let s = toward c hc (suc k) (flip (r .0) x) (flip-lt n (r .0) x (r .1) hx) (omega (arith, dist-fall n (r .0) x c hx hc (r .1) (r .2))) (r .3) in
       (s .0, s .1, keep (r .0) (s .0) x c (r .2) (s .2), s .3)
 
-  -- theorem 5 of the source document 001
+  -- theorem 5 of Chiu and Wu 1994
   module _ (a : ℕ) (ha : a < 2 ^ n) (ea : lab a ≡ 2) (none : (i : ℕ) → i < n → eqb (lab (flip i a)) 1 ≡ false) where
     all-bad : (k x : ℕ) → x < 2 ^ n → dist x a ≡ k → lab x ≡ 0 → ⊥
     all-bad zero x hx h e = omega (arith, ap lab (dist-zero n x a hx ha h))

@@ -1,4 +1,4 @@
--- The five scans in document 01's words, and the hop before them in those of document 02's request A4: what each asks of a dimension i at a node c on the
+-- The five scans in the words of RULES (One hop), and as scan 0 the hop before them: what each asks of a dimension i at a node c on the
 -- way to d, with the labels lab. Nothing here rests on the table that the scans are computed by; that the table says the same is proved in proofs/Hit.antt.
 use mathlib.Core.Bool.{Bool, true}
 use mathlib.Core.Logic.{_⊎_, _≢_, _↔_}
@@ -14,7 +14,7 @@ Forward c d i = bit i c ≢ bit i d
 abbrev pub Spare : (c d i : ℕ) → Type 0
 Spare c d i = bit i c ≡ bit i d
 
--- "0 safe, 1 ordinarily unsafe, 2 strongly unsafe, 3 faulty", and 4 draining, which "in all five scans counts as faulty", as would any byte above it
+-- "0 safe, 1 ordinarily unsafe, 2 strongly unsafe, 3 faulty", and 4 draining, which "in all five scans" counts as faulty, as would any byte above it
 abbrev pub Safe : (label : ℕ) → Type 0
 Safe label = label ≡ 0
 

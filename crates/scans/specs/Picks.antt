@@ -1,4 +1,4 @@
--- What it means that the scans pick a dimension, with the labels lab. Proved of `firstScan` and `lowest` in proofs/Picking.antt.
+-- What it means that the scans pick a dimension (RULES, One hop), with the labels lab. Proved of `firstScan` and `lowest` in proofs/Picking.antt.
 use Prim.Native.Nat.{ℕ, _<_}
 use Rattle.scans.specs.Hit.{Hit}
 

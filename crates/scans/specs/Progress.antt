@@ -1,5 +1,5 @@
--- What a walk needs of the scans: every pick leads to a node that works, or to the destination, and lowers a measure, and where nothing is picked there is a
--- reason. Good labels give it with three measures. Proved in proofs/Progress.antt.
+-- What a walk needs of the scans (RULES, When frames arrive, No node twice): every pick leads to a node that works, or to the destination, and lowers a
+-- measure, and where nothing is picked there is a reason. Good labels give it with three measures. Proved in proofs/Progress.antt.
 use mathlib.Core.Bool.{cond, true}
 use mathlib.Core.Logic.{_⊎_, _≢_}
 use mathlib.Core.Path.{_≡_}

@@ -1,5 +1,5 @@
--- The five scans of Algorithm ROUTE at a node c on the way to d, as a table in document 01's order, and before them, as scan 0, the hop to a draining
--- destination (document 02, A4). own is c's label and near i the label of the neighbour across dimension i: what the scans pick depends on these, on
+-- The five scans of Algorithm ROUTE at a node c on the way to d, as a table in their order (RULES, One hop), and before them, as scan 0, the hop to a draining
+-- destination. own is c's label and near i the label of the neighbour across dimension i: what the scans pick depends on these, on
 -- n, c and d, and on nothing else.
 use mathlib.Core.Bool.{Bool, true, false, Bool·beq, _&&_, _||_}
 use mathlib.Core.List.{List, [], _∷_}

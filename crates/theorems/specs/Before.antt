@@ -1,4 +1,4 @@
--- What the library answered before there were draining nodes and jobs (document 02, A4 and A10), by the definitions that stood then: labelling was lent the
+-- What the library answered before there were draining nodes and jobs (RULES, Which nodes work), by the definitions that stood then: labelling was lent the
 -- fault table alone and one label table, 3 was the highest label, and nothing came before scan 1. A board on which no node drains and the job closes none
 -- is answered, in the half of its job, as before. Proved in proofs/Before.antt and proofs/BeforeLabels.antt.
 use mathlib.Core.Bool.{Bool, true, false, Bool·beq, cond, not, _&&_, _||_}

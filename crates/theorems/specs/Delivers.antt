@@ -1,4 +1,5 @@
--- A cabinet with few nodes out of work delivers every frame: theorem 4 of Chiu and Wu 1994, with demand 3. Proved in proofs/Delivers.antt.
+-- A cabinet with few nodes out of work delivers every frame (RULES, When frames arrive): theorem 4 of Chiu and Wu 1994, with demand 3. Proved in
+-- proofs/Delivers.antt.
 use mathlib.Core.Logic.{_⊎_}
 use mathlib.Core.Path.{_≡_}
 use Prim.Native.Nat.{ℕ, _+_, _≤_}

@@ -1,5 +1,5 @@
--- Demand 2: the labels are the paper's. K is a cabinet as one job has it, lab x the label byte of its node x in that job's half, and exchanges the number of
--- exchanges. Where document 01 says faulty, a node that does not work is meant: faulty, draining (document 02, A4) or closed by the job (A10).
+-- Demand 2: the labels are those of Chiu and Wu (RULES, Labels). K is a cabinet as one job has it, lab x the label byte of its node x in that job's half, and
+-- exchanges the number of exchanges. Where Chiu and Wu say faulty, a node that does not work is meant: faulty, draining (A4) or closed by the job (A10).
 use mathlib.Core.Bool.{Bool, true, false}
 use mathlib.Core.Logic.{_↔_}
 use mathlib.Core.Path.{_≡_}

@@ -1,5 +1,5 @@
--- Demand 3: walks arrive. K is a cabinet as one job has it, which labelling accepts, and lab the labels that it then has; s, the source, is a working node and
--- d, the destination, one that works or drains (`Takes`); w is the walk's answer with those labels.
+-- Demand 3: walks arrive (RULES, When frames arrive). K is a cabinet as one job has it, which labelling accepts, and lab the labels that it then has; s, the
+-- source, is a working node and d, the destination, one that works or drains (`Takes`); w is the walk's answer with those labels.
 use mathlib.Core.Bool.{true}
 use mathlib.Core.Logic.{_⊎_}
 use mathlib.Core.Path.{_≡_}
@@ -52,7 +52,7 @@ pub record Walks (K : Cabinet) (lab : ℕ → ℕ) (s d : ℕ) (w : Walked) : Ty
   pub even : w .ending ≡ ending.Delivered → (e : ℕ) × (e ≤ lab s) × (w .hops ≡ dist s d + 2 * e)
   -- it is never refused, with 8 or otherwise
   pub never-refused : (k : ℕ) → w .ending ≡ ending.Refused k → ⊥
-  -- "no node stands twice among the places of a walk's row that are used", delivered or halted (document 02, A8)
+  -- "no node stands twice among the places of a walk's row that are used", delivered or halted (RULES, No node twice)
   pub once : NoneTwice w
   -- with every hop the rank falls, which is the distance, and from 2 on twice the label besides;
   pub falls : (k : ℕ) → k < w .hops → rank lab d (place w (k + 1)) < rank lab d (place w k)

@@ -1,4 +1,4 @@
--- What the two tests of a node read of the label table (document 02, A6), of whatever their contracts allow. They are the code's own and no question of a
+-- What the two tests of a node read of the label table (RULES, Labels), of whatever their contracts allow. They are the code's own and no question of a
 -- user's, so this stands beside the demands and not among them. Proved in proofs/FewReads.antt.
 use mathlib.Core.Bool.{Bool}
 use mathlib.Core.List.{List}
@@ -35,7 +35,7 @@ NearTest n x l b r = May plain-near (n, l, x) (b, r) tt
 pub record TestsRead : Type 2 where
   -- the contracts are the code's own
   pub tied : TestsTied
-  -- the test of the rule "stops as soon as two faulty or three non-safe neighbours have been seen" (k non-safe ones)
+  -- the test of the rule "stops as soon as two that do not work or k that are not safe have been seen"
   pub rule : (n k x : ℕ) → ReadsFew n x (RuleTest n k x) (λ l j. Unsafe j k (outIn l) (markIn l) x)
   -- the test that tells ordinarily from strongly unsafe "stops at the first safe neighbour"
   pub near : (n x : ℕ) → ReadsFew n x (NearTest n x) (λ l. Near (plainIn l) x)

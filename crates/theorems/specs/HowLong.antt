@@ -1,6 +1,6 @@
--- How long labelling may take (document 02, A11): ceilings for the exchanges of any labelling, by either rule, with draining nodes, and for either job with the
--- nodes that it closes. K is a cabinet as one job has it, lab x the label byte of its node x in that job's half, and exchanges the number that labelling
--- answers. A working node is one that is neither faulty nor draining nor closed by the job. Proved in proofs/HowLong.antt.
+-- How long labelling may take (RULES, How many exchanges there can be): ceilings for the exchanges of any labelling, by either rule, with draining nodes, and
+-- for either job with the nodes that it closes. K is a cabinet as one job has it, lab x the label byte of its node x in that job's half, and exchanges the
+-- number that labelling answers. A working node is one that is neither faulty nor draining nor closed by the job. Proved in proofs/HowLong.antt.
 use mathlib.Core.Bool.{Bool, true, _&&_}
 use mathlib.Core.Logic.{_↔_}
 use mathlib.Core.Path.{_≡_}
@@ -23,7 +23,7 @@ pub record HowLong (K : Cabinet) (lab : ℕ → ℕ) (exchanges : ℕ) : Type 0 
   -- what is counted: each exchange before the last brought something new, and the last did not. Only beside this are the ceilings below ceilings of what the
   -- cards do: the definition looks for the quiet exchange among as many as the first of them says, so that one by itself would hold whatever they do
   pub counted : Exchanged (K .n) (K .rule) (out K) exchanges
-  -- "at most the number of working nodes plus one, all-faulty cubes included"
+  -- at most "the number of working nodes plus one, all-faulty cubes included"
   pub ceiling : exchanges ≤ working (K .n) (out K) + 1
   -- the first exchange marks the working nodes with two or more neighbours that do not work,
   pub first :

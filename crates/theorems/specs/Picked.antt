@@ -1,4 +1,4 @@
--- The next hop, as demand 2 says it: the one that Algorithm ROUTE picks from a node's label and its neighbours' labels, lowest dimension
+-- The next hop, as demand 2 says it (RULES, One hop): the one that Algorithm ROUTE picks from a node's label and its neighbours' labels, lowest dimension
 -- first. c is the node, d the destination, lab the labels. Proved in proofs/Decision.antt.
 use mathlib.Core.Path.{_≡_}
 use Prim.Native.Nat.{ℕ, _<_}

@@ -1,5 +1,5 @@
--- The walk "starts at the source and repeats hops": said of every label table that the walk accepts, right or wrong, and in the answers that the hop
--- question gives on the same table. Proved in proofs/Repeats.antt.
+-- The walk "starts at the source and repeats hops" (RULES, Walk): said of every label table that the walk accepts, right or wrong, and in the answers that the
+-- hop question gives on the same table. Proved in proofs/Repeats.antt.
 use mathlib.Core.Logic.{_⊎_}
 use mathlib.Core.Path.{_≡_}
 use Prim.Native.Nat.{ℕ, _+_, _≤_, _<_}
@@ -31,7 +31,7 @@ pub record Repeats (n j s d m : ℕ) (lab : ℕ → ℕ) (w : Walked) : Type 0 w
   -- no place before the last is labelled faulty or draining, and the last only where it is the destination
   pub enters : (k : ℕ) → k < w .hops → lab (place w k) ≤ 2
   pub ends-in : (lab (place w (w .hops)) ≤ 2) ⊎ (place w (w .hops) ≡ d)
-  -- "no node stands twice", delivered or halted (document 02, A8)
+  -- "no node stands twice", delivered or halted (RULES, No node twice)
   pub once : NoneTwice w
 
 abbrev pub WalkRepeats : Type 0

@@ -1,5 +1,5 @@
--- A site that moves from the rule of Lee and Hayes, 2, to document 01's, 3 (document 02, A13): what its labels were and what they are now. And what the older
--- rule has and the newer has not: with it, where some node is safe, no node is strongly unsafe. Proved in proofs/TwoRules.antt.
+-- A site that moves from the rule of Lee and Hayes, 2, to that of Chiu and Wu, 3 (RULES, Labels): what its labels were and what they are now. And what the
+-- older rule has and the newer has not: with it, where some node is safe, no node is strongly unsafe. Proved in proofs/TwoRules.antt.
 use mathlib.Core.Bool.{cond}
 use mathlib.Core.Path.{_≡_}
 use Prim.Native.Nat.{ℕ, _+_, _*_, _^_, _≤_, _<_}

@@ -38,7 +38,7 @@ walkOf K j s d = walked (K .n) j s d (labelBytes (K .n)) rowBytes (labelAt K)
 abbrev pub place : Walked → ℕ → ℕ
 place w k = getD (w .row) k 0
 
--- "the places of a walk's row that are used (the first ones, one more than its hop count)", and that no node stands twice among them
+-- "the places of a walk's row that are used (the first ones, one more than its hop count)" (RULES, No node twice), and that no node stands twice among them
 abbrev pub usedPlaces : Walked → ℕ
 usedPlaces w = w .hops + 1
 

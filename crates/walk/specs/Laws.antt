@@ -1,4 +1,4 @@
--- What document 01 says of the travelling message, as laws of `moved`. Proved in proofs/Laws.antt.
+-- The travelling message (RULES, Walk), as laws of `moved`. Proved in proofs/Laws.antt.
 use mathlib.Core.Path.{_≡_}
 use Prim.Native.Nat.{ℕ, _+_}
 use Rattle.cube.specs.Cube.{flip}

@@ -1,4 +1,4 @@
--- What a walk depends on. Proved in proofs/Local.antt.
+-- What a walk depends on (RULES, Which nodes work). Proved in proofs/Local.antt.
 use mathlib.Core.Path.{_≡_}
 use Prim.Native.Nat.{ℕ, _^_, _<_}
 use Rattle.walk.specs.Walk.{walked}

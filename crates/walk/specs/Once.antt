@@ -1,5 +1,5 @@
--- "No frame passes a node twice" (document 02, A8), for any way `go` of deciding at a node. A decision depends on the node alone: a frame that came to a node
--- again would go on from there as it did the first time, and so would go round for ever. Proved in proofs/Once.antt.
+-- "No frame passes a node twice" (RULES, No node twice), for any way `go` of deciding at a node. A decision depends on the node alone: a frame that came to a
+-- node again would go on from there as it did the first time, and so would go round for ever. Proved in proofs/Once.antt.
 use mathlib.Core.Bool.{true}
 use mathlib.Core.Logic.{_≢_}
 use mathlib.Core.Path.{_≡_}

@@ -1,7 +1,7 @@
--- The walk: hops from the source until a decision is no hop. It is given place by place, for any way `go` of deciding at a node: `spot` is the node after k
--- hops from s and `turn` the decision there; the hop count, the row and the ending are read off them. The walk of document 01 goes by the hop decision: n is
--- the dimension, lab the labels and d the destination. The question `walked` is asked for a job of any label buffer: m is the buffer's length, j the job, and
--- lab x the byte of node x in the job's half.
+-- The walk (RULES, Walk): hops from the source until a decision is no hop. It is given place by place, for any way `go` of deciding at a node: `spot` is the
+-- node after k hops from s and `turn` the decision there; the hop count, the row and the ending are read off them. The library's walk goes by the hop decision:
+-- n is the dimension, lab the labels and d the destination. The question `walked` is asked for a job of any label buffer: m is the buffer's length, j the job,
+-- and lab x the byte of node x in the job's half.
 use mathlib.Core.Bool.{Bool, true, false, cond, not}
 use mathlib.Core.List.{List, [], _∷_, _++_}
 use Prim.Native.Nat.{ℕ, zero, suc, _+_, _^_}
@@ -99,7 +99,7 @@ walked n j s d m room lab = cond (eqb (walkRefusal n j s d m room lab) 0) (walkF
 unfoldable pub moved : Message → ℕ → Message
 moved m i = record { at = flip i (m .at); to = m .to; hops = m .hops + 1 }
 
--- document 01's numbers for the cases; the value is the hop count
+-- the numbers for the cases (RULES, To C); the value is the hop count
 abbrev pub refusalOf : Ending → ℕ
 refusalOf ending.Delivered = 0
 refusalOf ending.Halted = 0

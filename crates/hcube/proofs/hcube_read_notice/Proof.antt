@@ -10,7 +10,7 @@ use borrow.Author.Needs.{needs}
 use Rattle.hcube.proofs.hcube_read_notice.Statement.{statement}
 use Rattle.hcube.proofs.hcube_read_notice.Tie as tie
 
--- a refused notice has nothing above document 01's number
+-- a refused notice has nothing above its refusal, kind and value
 low : (k at : ℕ) → packed k 0 at ≡ noticeNumber (Refused k at)
 low k at = omega arith
 

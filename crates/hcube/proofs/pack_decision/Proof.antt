@@ -1,4 +1,4 @@
--- `pack_decision`: each case has document 01's kind and value.
+-- `pack_decision`: each case has its kind and value (RULES, To C).
 use mathlib.Core.Path.{sym, ap, _∙_}
 use Prim.Native.Nat.{ℕ}
 use native.Mathlib.Omega.{arith}

@@ -1,4 +1,4 @@
--- `pack_walk`: each ending has document 01's refusal and kind, and the value is the hop count.
+-- `pack_walk`: each ending has its refusal and kind (RULES, To C), and the value is the hop count.
 use mathlib.Core.Path.{sym, ap, _∙_}
 use Prim.Native.Nat.{ℕ}
 use native.Mathlib.Omega.{arith}

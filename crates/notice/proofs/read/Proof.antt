@@ -1,4 +1,5 @@
--- `read` makes the tests of a notice in document 01's order, and writes only behind the last of them. Each return is one outcome of the notice.
+-- `read` makes the tests of a notice in their order (RULES, Refusal numbers), and writes only behind the last of them. Each return is one outcome of the
+-- notice.
 use mathlib.Core.Path.{_≡_, sym, _∙_}
 use mathlib.Core.List.{List}
 use Prim.Native.Nat.{ℕ}

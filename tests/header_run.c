@@ -1,0 +1,89 @@
+/*
+ * header_run.c: runs the functions that hcube.h itself has. Compiled by
+ * tests/header, which writes refusals.h: REFUSAL(name) for each refusal that
+ * the header defines.
+ */
+#include <stdio.h>
+#include <string.h>
+#include "hcube.h"
+
+/* Every refusal of the header. */
+static const struct {
+    const char *name;
+    uint32_t number;
+} refusals[] = {
+#define REFUSAL(name) {#name, name},
+#include "refusals.h"
+};
+#define COUNT (sizeof refusals / sizeof refusals[0])
+
+static unsigned failed;
+
+static void expect(int holds, const char *what, uint32_t number)
+{
+    if (holds)
+        return;
+    printf("  %s: %u, \"%s\"\n", what, (unsigned)number,
+           hcube_refusal_text(number));
+    failed++;
+}
+
+static int is_refusal(uint32_t number)
+{
+    return number <= 12 || number == 18 || number == 19;
+}
+
+static int is_default(uint32_t number)
+{
+    return strcmp(hcube_refusal_text(number), "no such refusal") == 0;
+}
+
+/* Each refusal has a text of its own, no other number has one. */
+static void texts(void)
+{
+    static const uint32_t large[] = {256, 268, 65536, 65537, 16777216u,
+                                     0x7fffffffu, 0x80000001u, 0xffffffffu};
+    size_t i, k;
+    uint32_t number;
+
+    expect(COUNT == 15, "refusals of the header", (uint32_t)COUNT);
+    for (i = 0; i < COUNT; i++) {
+        const char *text = hcube_refusal_text(refusals[i].number);
+        expect(is_refusal(refusals[i].number), refusals[i].name,
+               refusals[i].number);
+        expect(text[0] != '\0', "an empty text", refusals[i].number);
+        for (k = 0; k < i; k++)
+            expect(strcmp(text, hcube_refusal_text(refusals[k].number)) != 0,
+                   "a text of two", refusals[i].number);
+    }
+    for (number = 0; number < 256; number++)
+        expect(is_default(number) == !is_refusal(number), "the default's text",
+               number);
+    for (i = 0; i < sizeof large / sizeof large[0]; i++)
+        expect(is_default(large[i]), "the default's text", large[i]);
+}
+
+/* Each place of a row has its two bytes, low byte first. */
+static void nodes(void)
+{
+    uint8_t row[HCUBE_ROW_BYTES];
+    uint32_t place;
+
+    for (place = 0; place < sizeof row / 2; place++) {
+        row[2 * place] = (uint8_t)(255 - 3 * place);
+        row[2 * place + 1] = (uint8_t)(240 - 7 * place);
+    }
+    for (place = 0; place < sizeof row / 2; place++)
+        expect(hcube_row_node(row, place) ==
+                   (240 - 7 * place) * 256 + 255 - 3 * place,
+               "place of a row", place);
+    memset(row, 255, sizeof row);
+    expect(hcube_row_node(row, 16) == 65535, "the highest bytes", 16);
+}
+
+int main(void)
+{
+    texts();
+    nodes();
+    return failed != 0;
+}
