@@ -137,6 +137,7 @@ static void check_sized(uint32_t dimension, uint64_t notice, size_t faults_len)
 uint64_t check_notice(const uint8_t *bytes, size_t len,
                       uint8_t *faults, size_t faults_len)
 {
+    uint32_t dimension = check_dimension(bytes, len);
     uint64_t answer, want;
     int same;
     lend(&read_only, bytes, len);
@@ -151,7 +152,7 @@ uint64_t check_notice(const uint8_t *bytes, size_t len,
     expect(same, "notice of %lu bytes (%016llx): wrong bytes",
            (unsigned long)len, (unsigned long long)want);
     saw_notice(want);
-    check_sized(check_dimension(bytes, len), answer, faults_len);
+    check_sized(dimension, answer, faults_len);
     memcpy(faults, writable.bytes, faults_len);
     return answer;
 }

@@ -11,7 +11,7 @@
 #   run_proved    words that run a program of target/bin
 #   library_files reads_files listing_files
 #                 the C files of these programs
-#   given         words that give ARCHIVE and LISTING once more as the caller did
+#   caller_words  words that give ARCHIVE and LISTING once more as the caller did
 # A variable that the caller has set stays as it is.
 # shellcheck shell=sh disable=SC2034
 . tests/work.sh
@@ -80,14 +80,14 @@ build() { # FILE COMMAND...
 }
 
 # The caller's ARCHIVE and LISTING, taken from the folder that the user is in.
-given=''
+caller_words=''
 if [ -n "${ARCHIVE:-}" ]; then
     ARCHIVE=$(absolute "$ARCHIVE")
-    given="ARCHIVE=$(quoted "$ARCHIVE") "
+    caller_words="ARCHIVE=$(quoted "$ARCHIVE") "
 fi
 if [ -n "${LISTING:-}" ]; then
     LISTING=$(absolute "$LISTING")
-    given="${given}LISTING=$(quoted "$LISTING") "
+    caller_words="${caller_words}LISTING=$(quoted "$LISTING") "
 fi
 
 # Sets ARCHIVE to the archive that is tested: the caller's, or that of target/, which

@@ -4,7 +4,7 @@
 # so a path that the user gives is taken from the folder that was left.
 # shellcheck shell=sh
 
-left=${OLDPWD:-$PWD}
+users_folder=${OLDPWD:-$PWD}
 
 # Says why in one line, and ends the script with status 2.
 give_up() { # WORDS...
@@ -19,7 +19,7 @@ print_head() { # SCRIPT
 
 # The path that the user means by this one.
 absolute() { # PATH
-    case $1 in /*) printf '%s\n' "$1" ;; *) printf '%s\n' "$left/$1" ;; esac
+    case $1 in /*) printf '%s\n' "$1" ;; *) printf '%s\n' "$users_folder/$1" ;; esac
 }
 
 # The word as it can be pasted into a shell.
