@@ -1,9 +1,11 @@
 /*
- * combinations.c: labelling, hop and walk with all that they refuse, in every
- * combination. Which refusal is due stands here once more, in the order of RULES
- * (Refusal numbers), and is not asked of the reference. That nothing is written
- * then is checked by check.c.
+ * combinations.c: hop and walk with all that they refuse, in every combination;
+ * labelling is in combinations_label.c. Which refusal is due stands here once more,
+ * in the order of RULES (Refusal numbers), and is not asked of the reference. That
+ * nothing is written then is checked by check.c.
  */
+#include "combinations.h"
+
 #include <string.h>
 
 #include "cases.h"
@@ -11,118 +13,45 @@
 #include "groups.h"
 #include "lent.h"
 
-/* Good dimensions, and others, of which two would be good once narrowed; and those
- * of small buffers alone, for what has the most combinations. */
-static const uint32_t dimensions[] = {0, 1, 2, 3, 13, 257, 258};
-static const uint32_t small_ones[] = {0, 1, 2, 3, 257, 258};
-/* The two jobs, and what is none. */
-static const uint32_t jobs[] = {0,     1,     2,        3,         255, 256, 257,
-                                65536, 65537, 1u << 31, 0xffffffff};
+const uint32_t dimensions[] = {0, 1, 2, 3, 13, 257, 258};
+const uint32_t small_ones[] = {0, 1, 2, 3, 257, 258};
+const uint32_t jobs[] = {0,     1,     2,        3,         255, 256, 257,
+                         65536, 65537, 1u << 31, 0xffffffff};
 
-/* Splits a part off the number of a combination. */
-static unsigned number;
-static unsigned part(size_t count)
+unsigned number;
+
+unsigned part(size_t count)
 {
     unsigned k = number % (unsigned)count;
     number /= (unsigned)count;
     return k;
 }
-#define ANY_OF(array) (array)[part(COUNT(array))]
 
-/* Lengths; half of a label buffer's is what one job alone would take. */
-enum { RIGHT, SHORT, LONG, HALVED, EMPTY, DOUBLED, LENGTHS };
-static size_t length_of(unsigned kind, size_t exact)
+size_t length_of(unsigned kind, size_t exact)
 {
     const size_t lengths[LENGTHS] = {exact, exact - 1, exact + 1,
                                      exact / 2, 0, 2 * exact};
     return lengths[kind];
 }
 
-static void is_due(const char *what, unsigned from, uint32_t answer,
-                   unsigned due)
+void is_due(const char *what, unsigned from, uint32_t answer, unsigned due)
 {
     expect(due ? answer == REFUSED(due) : HCUBE_REFUSAL(answer) == 0,
            "%s, combination %u: %08x, where %u is due", what, from, answer, due);
 }
 
-/* ---- labelling */
-
-static uint8_t faults[MOST_LENT], draining[MOST_LENT], closed[MOST_LENT];
-static uint8_t labels[MOST_LENT], row[MOST_LENT];
-
-/* 16 is a bit of no node where n is 1 or 2. */
-static const uint8_t bytes[] = {0, 3, 16};
-
-static unsigned label_due(struct label_question asked, int wrong_length)
+void check_all(const char *title, unsigned (*ask)(unsigned from))
 {
-    if (asked.n < 1 || asked.n > 12)
-        return 1;
-    if (asked.rule < 2 || asked.rule > 3)
-        return 18;
-    if (asked.job > 1)
-        return 19;
-    if (wrong_length)
-        return 2;
-    return asked.n < 3 && (faults[0] | draining[0] | closed[0]) & 16 ? 3 : 0;
-}
-
-static void label_combination(uint32_t n, uint32_t rule, uint32_t job,
-                              const unsigned *lengths, unsigned from)
-{
-    struct label_question asked = fit_label(n & 255, faults, labels);
-    int wrong_length = lengths[0] || lengths[1] || lengths[2] || lengths[3];
-    asked.n = n;
-    asked.rule = rule;
-    asked.job = job;
-    asked.faults_len = length_of(lengths[0], asked.faults_len);
-    asked.draining = draining;
-    asked.draining_len = length_of(lengths[1], asked.draining_len);
-    asked.closed = closed;
-    asked.closed_len = length_of(lengths[2], asked.closed_len);
-    asked.labels_len = length_of(lengths[3], asked.labels_len);
-    is_due("label", from, check_label(asked), label_due(asked, wrong_length));
-}
-
-/* Lengths of all four buffers at once, and bytes of all three tables. */
-static unsigned all_labels(unsigned from)
-{
-    static const uint32_t some_jobs[] = {0, 1, 2, 257};
-    uint32_t n, rule, job;
-    unsigned lengths[4];
-    number = from;
-    n = ANY_OF(small_ones);
-    rule = 1 + part(4);
-    job = ANY_OF(some_jobs);
-    for (unsigned k = 0; k < 4; k++)
-        lengths[k] = part(k < 3 ? LONG + 1 : HALVED + 1);
-    faults[0] = ANY_OF(bytes);
-    draining[0] = ANY_OF(bytes);
-    closed[0] = ANY_OF(bytes);
-    if (number == 0)
-        label_combination(n, rule, job, lengths, from);
-    return number;
-}
-
-/* Every job, and every length of one buffer, and an unused bit of one table. */
-static unsigned all_jobs(unsigned from)
-{
-    uint8_t *tables[] = {faults, draining, closed, row};
-    uint32_t n, rule, job;
-    unsigned lengths[4] = {RIGHT, RIGHT, RIGHT, RIGHT}, which;
-    number = from;
-    n = ANY_OF(dimensions);
-    rule = 1 + part(4);
-    job = ANY_OF(jobs);
-    which = part(4);
-    lengths[which] = part(LENGTHS);
-    faults[0] = draining[0] = closed[0] = 0;
-    *ANY_OF(tables) = 16;
-    if (number == 0)
-        label_combination(n, rule, job, lengths, from);
-    return number;
+    unsigned from = 0;
+    begin_group(title);
+    while (ask(from) == 0)
+        from++;
+    end_group();
 }
 
 /* ---- hop and walk */
+
+static uint8_t labels[MOST_LENT], row[MOST_LENT];
 
 /* One of 0, 1 and the last, which is 2^n and no node; of two, 0 or the last. */
 static uint32_t any_end(uint32_t n, unsigned count)
@@ -230,27 +159,6 @@ static unsigned all_walks(unsigned from)
     return number;
 }
 
-/* Asks the combinations from 0 on, up to the one that has a part too many. */
-static void check_all(const char *title, unsigned (*ask)(unsigned from))
-{
-    unsigned from = 0;
-    begin_group(title);
-    random_bytes(row, sizeof row);
-    while (ask(from) == 0)
-        from++;
-    end_group();
-}
-
-void check_label_combinations(void)
-{
-    check_all("labelling, all that is refused in every combination", all_labels);
-}
-
-void check_job_combinations(void)
-{
-    check_all("labelling, every job and length with what is refused", all_jobs);
-}
-
 void check_hop_combinations(void)
 {
     check_all("hop, all that is refused in every combination", all_hops);
@@ -258,5 +166,6 @@ void check_hop_combinations(void)
 
 void check_walk_combinations(void)
 {
+    random_bytes(row, sizeof row);
     check_all("walk, all that is refused in every combination", all_walks);
 }

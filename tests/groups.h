@@ -29,15 +29,15 @@ void check_worked_jobs(void);
 void check_lengths(void);         /* lengths.c */
 void check_damaged(void);         /* refusals.c */
 void check_plain_numbers(void);
-void check_label_combinations(void); /* combinations.c */
-void check_job_combinations(void);
-void check_hop_combinations(void);
+void check_hop_combinations(void); /* combinations.c */
 void check_walk_combinations(void);
+void check_label_combinations(void); /* combinations_label.c */
+void check_job_combinations(void);
 void check_orders(void);          /* orders.c */
 void check_dimensions(void);      /* dimensions.c */
+void check_notice_orders(void);   /* orders_notice.c */
 void check_notices(void);         /* notices.c */
 void check_damaged_notices(void);
-void check_notice_orders(void);
 void check_cut_notices(void);
 void check_notice_bounds(void);
 void check_places(void);          /* places.c */
