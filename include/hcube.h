@@ -3,9 +3,9 @@
  * hcube.h: fault-tolerant routing in a hypercube, as C calls it.
  *
  * The rules in whole stand in docs/RULES.md of the source repository: Labels for
- * hcube_label, One hop for hcube_hop, Walk for hcube_walk, Tables and the notice
- * for the functions that read a notice, Refusal numbers for all refusals, To C
- * for the answers.
+ * hcube_label, One hop for hcube_hop, Walk for hcube_walk, Why for the questions
+ * that say why, Tables and the notice for the functions that read a notice,
+ * Refusal numbers for all refusals, To C for the answers.
  *
  * A cube of dimension n, 1 to 12, has the nodes 0 to 2^n - 1. Nodes whose
  * numbers differ in bit i alone are neighbours across dimension i.
@@ -74,7 +74,7 @@ extern "C" {
 /* The version of this interface. Whatever a program that was right with an
  * earlier one would notice raises MAJOR, what is new MINOR, all else PATCH. */
 #define HCUBE_VERSION_MAJOR 1
-#define HCUBE_VERSION_MINOR 0
+#define HCUBE_VERSION_MINOR 1
 #define HCUBE_VERSION_PATCH 0
 #define HCUBE_VERSION                                                          \
     (HCUBE_VERSION_MAJOR * 10000 + HCUBE_VERSION_MINOR * 100 +                 \
@@ -147,6 +147,12 @@ extern "C" {
 #define HCUBE_WALK_DELIVERED 0
 #define HCUBE_WALK_HALTED 1
 
+/* Causes of a node's label. */
+#define HCUBE_CAUSE_NONE 0   /* it is not unsafe */
+#define HCUBE_CAUSE_FAULTY 1 /* two neighbours are faulty or draining */
+#define HCUBE_CAUSE_MARKED 2 /* three (HCUBE_RULE_LEE_HAYES: two) are faulty,
+                              * draining or marked in an earlier round */
+
 /* A refusal in words, for logs. */
 HCUBE_INLINE const char *hcube_refusal_text(uint32_t number)
 {
@@ -186,6 +192,27 @@ HCUBE_INLINE const char *hcube_refusal_text(uint32_t number)
     }
 }
 
+/* The scan that took a hop in words, for logs. */
+HCUBE_INLINE const char *hcube_scan_text(uint32_t scan)
+{
+    switch (scan) {
+    case 0:
+        return "to the destination, which is draining";
+    case 1:
+        return "forward to a safe node";
+    case 2:
+        return "forward to an ordinarily unsafe node";
+    case 3:
+        return "forward to a strongly unsafe node";
+    case 4:
+        return "aside to a safe node";
+    case 5:
+        return "aside to an ordinarily unsafe node";
+    default:
+        return "no such scan";
+    }
+}
+
 /* Parts of every answer, in its low 32 bits:
  * refusal * 16777216 + kind * 65536 + value. */
 #define HCUBE_REFUSAL(answer) (((answer) >> 24) & 0xff)
@@ -196,6 +223,18 @@ HCUBE_INLINE const char *hcube_refusal_text(uint32_t number)
  * dimension * 2^48 + count * 2^32. They want the whole answer, of 64 bits. */
 #define HCUBE_NOTICE_DIMENSION(answer) (((answer) >> 48) & 0xffff)
 #define HCUBE_NOTICE_COUNT(answer) (((answer) >> 32) & 0xffff)
+
+/* Parts of the answer of hcube_why_node above these, zero if it refuses:
+ * cause * 2^56 + third * 2^48 + second * 2^40 + first * 2^32. They want the
+ * whole answer, of 64 bits. */
+#define HCUBE_WHY_CAUSE(answer) (((answer) >> 56) & 0xff)
+#define HCUBE_WHY_FIRST(answer) (((answer) >> 32) & 0xff)
+#define HCUBE_WHY_SECOND(answer) (((answer) >> 40) & 0xff)
+#define HCUBE_WHY_THIRD(answer) (((answer) >> 48) & 0xff)
+
+/* Parts of the value of hcube_why_hop: scan * 256 + dimension. */
+#define HCUBE_WHY_SCAN(answer) (((answer) >> 8) & 0xff)
+#define HCUBE_WHY_DIMENSION(answer) ((answer) & 0xff)
 
 /*
  * Labels every node of the cube for one job, into that job's half of `labels`.
@@ -321,6 +360,67 @@ uint32_t hcube_hop(uint32_t n, uint32_t job, uint32_t c, uint32_t d,
 uint32_t hcube_walk(uint32_t n, uint32_t job, uint32_t s, uint32_t d,
                     const uint8_t *labels, size_t labels_len,
                     uint8_t *row, size_t row_len);
+
+/*
+ * Says why node x has its label. It is lent what hcube_label is lent, labels
+ * every node alike, into the job's half of `labels`, and watches x meanwhile.
+ *
+ * An unsafe node was marked by one of the rounds, which are counted from 1; each
+ * exchange but the last is one. In that round it met the rule, and in no earlier
+ * one. Its cause is what it met the rule by: two neighbours that are faulty, if
+ * it has two, and otherwise as many as the rule's number that are faulty or were
+ * marked in an earlier round. A draining neighbour counts as faulty here, and so
+ * does one that the job closes. The neighbours named are those across the lowest
+ * dimensions, and each that is unsafe has a smaller round of its own: whoever
+ * asks this of a neighbour that is named, and so on, comes to a node that does
+ * not work in at most as many steps as the round of x.
+ *
+ * Refusals, in order; those of hcube_label, then that of the node:
+ *   1   n is not 1 to 12
+ *   18  rule is not HCUBE_RULE_LEE_HAYES or HCUBE_RULE_CHIU_WU
+ *   19  job is not 0 or 1
+ *   2   faults_len, draining_len or closed_len is not HCUBE_FAULT_BYTES(n), or
+ *       labels_len not HCUBE_LABEL_BYTES(n)
+ *   3   n is 1 or 2 and a bit for a node of 2^n or more is set in `faults`, in
+ *       `draining` or in `closed`
+ *   5   x is 2^n or more
+ * Accepted: the kind is the label of x. All 2^n bytes of the job's half are
+ * written, as hcube_label writes them; no byte of the other half changes. The
+ * other fields, of which those not named here are zero:
+ *   unsafe: the value is the round that marked x. Cause HCUBE_CAUSE_FAULTY, with
+ *       the dimensions of the two neighbours as first and second; or
+ *       HCUBE_CAUSE_MARKED, with those of the neighbours as first, second and,
+ *       by HCUBE_RULE_CHIU_WU, third. The dimensions rise.
+ *   safe: cause HCUBE_CAUSE_NONE; first counts the neighbours that are faulty or
+ *       draining, second those that are not safe.
+ *   faulty or draining: the label alone.
+ */
+uint64_t hcube_why_node(uint32_t n, uint32_t rule, uint32_t job, uint32_t x,
+                        const uint8_t *faults, size_t faults_len,
+                        const uint8_t *draining, size_t draining_len,
+                        const uint8_t *closed, size_t closed_len,
+                        uint8_t *labels, size_t labels_len);
+
+/*
+ * Says why hcube_hop decides as it does, with the same arguments: which of its
+ * scans took the dimension. Of the bytes of `labels` only those of c and of its
+ * n neighbours in the job's half are read. Nothing is written.
+ *
+ * Refusals, in order; those of hcube_hop:
+ *   1   n is not 1 to 12
+ *   19  job is not 0 or 1
+ *   2   labels_len is not HCUBE_LABEL_BYTES(n)
+ *   5   c or d is 2^n or more
+ *   4   the label of c or of a neighbour of c is above 4
+ *   6   the label of c is 3, or it is 4 and c is not d
+ * Accepted: kind HCUBE_DELIVER with value 0; HCUBE_HOP with scan and dimension
+ * as HCUBE_WHY_SCAN and HCUBE_WHY_DIMENSION; or HCUBE_HALTED with value 0. Kind
+ * and dimension are those of hcube_hop. The dimension is the lowest that the scan
+ * takes, and no scan before it, from 0 on, takes any; where it is halted none
+ * takes any.
+ */
+uint32_t hcube_why_hop(uint32_t n, uint32_t job, uint32_t c, uint32_t d,
+                       const uint8_t *labels, size_t labels_len);
 
 /* The node at a place of a walk's row, 0 to 16: place 0 has the source, the
  * place of the hop count the node where the walk ended. */
