@@ -8,14 +8,16 @@ use denote.Ref.{now}
 use lib.ListN.{length}
 use Rattle.cube.specs.Contracts.{AsksNothing, Function, Nothing}
 use Rattle.cube.proofs.Contracts.{Says}
+use Rattle.cube.specs.Cube.{flip}
 use Rattle.cube.specs.Tables.{labelIn}
 use Rattle.jobs.specs.Jobs.{labelFor}
-use Rattle.hop.specs.Helpers.{placeRefusal}
+use Rattle.hop.specs.Helpers.{chosen, placeRefusal}
 use Rattle.hop.specs.Hop as spec
 use Rattle.hop.specs.declared.Decision.{Decision}
 use Rattle.hop.specs.declared.Hopped.{Hopped}
 use Rattle.hop.proofs.hop as hop-claims
 use Rattle.hop.proofs.place_refusal
+use Rattle.hop.proofs.chosen_at
 use Rattle.hop.proofs.hop_at
 
 abbrev pub hop : Function hop-claims.ended (ℕ × ℕ × ℕ × ℕ × List ℕ) Hopped Nothing
@@ -65,3 +67,18 @@ hop-at =
 
 pub hop-at-says : Says hop-at (λ i. spec.hop (i .0) (labelIn (i .3)) (i .1) (i .2)) (λ i. tt)
 hop-at-says = record { says = λ κs a r e p. (p, refl) }
+
+abbrev pub chosen-at : Function chosen_at.ended (ℕ × ℕ × ℕ × List ℕ) ℕ Nothing
+chosen-at =
+    record {
+      clauses = λ w. chosen_at.clauses (w .𝓤) (w .H) (w .𝓖 .A) (w .𝓜 .mem) (w .𝓡 .run);
+      asked = chosen_at.Reads.Asked;
+      post = chosen_at.Reads.Post;
+      handed = λ κs a. (a .0, a .1 .0, a .1 .1 .0, now (a .1 .1 .1 .0));
+      answered = λ κs r. r;
+      left = λ κs e. tt;
+    }
+
+pub chosen-at-says : Says chosen-at
+    (λ i. chosen (i .0) (i .1) (i .2) (labelIn (i .3) (i .1)) (λ k. labelIn (i .3) (flip k (i .1)))) (λ i. tt)
+chosen-at-says = record { says = λ κs a r e p. (p, refl) }

@@ -1,5 +1,6 @@
 // One hop: the decision at a node, for a job. `hop` is the question: it takes any numbers and bytes, and tests them. What reads labels is handed the job's
-// half alone. `place_refusal` and `hop_at` are lent to the walk, which tests that half once; the other functions are theirs.
+// half alone. `place_refusal` and `hop_at` are lent to the walk, which tests that half once, and `chosen_at` to the crate why, which says which scan took a hop;
+// the other functions are theirs.
 ghost use Prim.Native.Nat.{_+_, _*_, _<_, _≤_, _^_};
 ghost use Rattle.cube.specs.Count.{least, some};
 ghost use Rattle.cube.specs.Cube.{flip};
@@ -223,6 +224,17 @@ pub fn hop(n: usize, job: usize, c: usize, d: usize, labels: &[u8]) -> Hopped
     Hopped::Decided(Decision::Deliver)
 }
 
+// What the scans pick at c, away from the destination, by a label table that was tested.
+pub fn chosen_at(n: usize, c: usize, d: usize, labels: &[u8]) -> usize
+    requires { ⌜ Placed n c d (length (now labels)) × (c ≢ d) ⌝ }
+    ensures { λ r. ⌜ r ≡ chosen n c d (labelIn (now (labels .entry)) c) (λ i. labelIn (now (labels .entry)) (flip i c)) ⌝ }
+{
+    let own = labels[c];
+    let mut near = [0u8; 12];
+    gather(n, labels, c, &mut near);
+    chosen(n, c, d, own, &near)
+}
+
 // The decision at c by a label table that was tested: what a walk asks at each node. At the destination it reads nothing.
 pub fn hop_at(n: usize, c: usize, d: usize, labels: &[u8]) -> Decision
     requires { ⌜ Placed n c d (length (now labels)) ⌝ }
@@ -231,8 +243,5 @@ pub fn hop_at(n: usize, c: usize, d: usize, labels: &[u8]) -> Decision
     if c == d {
         return Decision::Deliver;
     }
-    let own = labels[c];
-    let mut near = [0u8; 12];
-    gather(n, labels, c, &mut near);
-    across(chosen(n, c, d, own, &near))
+    across(chosen_at(n, c, d, labels))
 }

@@ -79,7 +79,7 @@ module _ (K : Cabinet) (l : List ℕ) (r : ℕ) (T : Stands K l r) where
     pub swept-length : length l₁ ≡ size
     swept-length = ap length e₁ ∙ length-tab size after
 
-    swept-byte : (x : ℕ) → x < size → labelIn l₁ x ≡ after x
+    pub swept-byte : (x : ℕ) → x < size → labelIn l₁ x ≡ after x
     unfolding labelIn
     swept-byte x h = ap (λ (t : List ℕ). getD t x 0) e₁ ∙ getD-tab size after x h
 
@@ -107,7 +107,7 @@ module _ (K : Cabinet) (l : List ℕ) (r : ℕ) (T : Stands K l r) where
         go (inr t) (is-plain a b e) = settle-not l₁ x 0 (old t ∙ e) (λ q. omega arith) ∙ sym (held-plain K (suc r) x a (marks-on ∙ rw (b, t)))
 
     module _ (some-new : m ≡ 0 → ⊥) where
-      still-loud : (j : ℕ) → j < r + 1 → quiet (K .n) (K .rule) (out K) j ≡ false
+      pub still-loud : (j : ℕ) → j < r + 1 → quiet (K .n) (K .rule) (out K) j ≡ false
       unfolding quiet
       still-loud j h =
           ⊎-elim
@@ -129,7 +129,7 @@ module _ (K : Cabinet) (l : List ℕ) (r : ℕ) (T : Stands K l r) where
     -- ---- the end
 
     module _ (none-new : m ≡ 0) where
-      end-rounds : rounds (K .n) (K .rule) (out K) ≡ r
+      pub end-rounds : rounds (K .n) (K .rule) (out K) ≡ r
       unfolding quiet
       end-rounds =
           rounds-is (K .n) (K .rule) (out K) r (T .loud) (eq-eqb (count size (new K r)) 0 (sym (em ∙ marks-are K l r T) ∙ none-new))

@@ -58,7 +58,7 @@ module _ (n k : ℕ) (s : List ℕ) where
   swept-kept y b = by-cases KeptByte (fresh n k s y) (λ _. kept-new) (λ _. b)
 
   -- a test that takes 128 for 0 takes what the round writes for what stood there
-  swept-alike : (q : ℕ → Bool) → q 128 ≡ q 0 → (y : ℕ) → q (swept n k s y) ≡ q (labelIn s y)
+  pub swept-alike : (q : ℕ → Bool) → q 128 ≡ q 0 → (y : ℕ) → q (swept n k s y) ≡ q (labelIn s y)
   unfolding swept fresh plainIn
   swept-alike q e y =
       by-cases (λ b. q b ≡ q (labelIn s y)) (fresh n k s y)

@@ -1,7 +1,8 @@
 // Labelling: which working nodes are safe, ordinarily unsafe or strongly unsafe. The rounds are kept in the job's half of the lent label buffer itself, by the
 // bytes PLAIN, MARKED, OUT and NEW. A byte is what its node weighs in the test of a neighbour: 0, 2 or 3, and NEW weighs nothing in the low seven
 // bits, where the test looks. The last pass tells ORDINARY from MARKED and DRAINING from OUT; PLAIN, MARKED and OUT stay as safe, strongly unsafe and
-// faulty. A node that the job closes is faulty here. Only `label` knows that there are two jobs: the other functions are handed the half of one.
+// faulty. A node that the job closes is faulty here. Only `label` knows that there are two jobs: the other functions are handed the half of one. The refusals
+// and the passes are lent to the crate why, which watches one node between them.
 ghost use Prim.Native.Nat.{_/_, _<_, _≤_, _^_};
 ghost use Rattle.cube.specs.Count.{count, some};
 ghost use Rattle.cube.specs.Cube.{flip};
@@ -27,13 +28,13 @@ const PLAIN: u8 = 0; // no mark; in the end: safe
 
 const ORDINARY: u8 = 1; // in the end: ordinarily unsafe
 
-const MARKED: u8 = 2; // marked by an earlier round; in the end: strongly unsafe
+pub const MARKED: u8 = 2; // marked by an earlier round; in the end: strongly unsafe
 
-const OUT: u8 = 3; // does not work; in the end: faulty
+pub const OUT: u8 = 3; // does not work; in the end: faulty
 
 const DRAINING: u8 = 4; // in the end: draining
 
-const NEW: u8 = 128; // marked by this round
+pub const NEW: u8 = 128; // marked by this round
 
 pub enum Labelled {
     Exchanges(usize),
@@ -54,7 +55,8 @@ fn is_rule(k: usize) -> bool
     (2 <= k) & (k <= 3)
 }
 
-fn label_refusal(
+// The refusals of labelling, 0 for none: of a cabinet, a job, and a label buffer of m bytes.
+pub fn label_refusal(
     n: usize,
     rule: usize,
     job: usize,
@@ -203,7 +205,7 @@ fn start_byte(faults: &[u8], draining: &[u8], closed: &[u8], k: usize) -> u8
 }
 
 // The table before the first round.
-fn start(n: usize, faults: &[u8], draining: &[u8], closed: &[u8], labels: &mut [u8])
+pub fn start(n: usize, faults: &[u8], draining: &[u8], closed: &[u8], labels: &mut [u8])
     requires { ⌜ length (now faults) ≡ tableLen n ⌝ }
     requires { ⌜ length (now draining) ≡ tableLen n ⌝ }
     requires { ⌜ length (now closed) ≡ tableLen n ⌝ }
@@ -218,7 +220,7 @@ fn start(n: usize, faults: &[u8], draining: &[u8], closed: &[u8], labels: &mut [
 }
 
 // The marks of one round; answers how many.
-fn sweep(n: usize, rule: usize, labels: &mut [u8]) -> usize
+pub fn sweep(n: usize, rule: usize, labels: &mut [u8]) -> usize
     requires { ⌜ (2 ≤ rule) × (rule ≤ 3) ⌝ }
     requires { ⌜ Kept (now labels) ⌝ }
     requires { ⌜ Sized n (now labels) ⌝ }
@@ -244,7 +246,7 @@ fn settled_byte(byte: u8) -> u8
 }
 
 // The end of a round that marked something.
-fn settle(labels: &mut [u8])
+pub fn settle(labels: &mut [u8])
     ensures { λ _. ⌜ now (labels .exit) ≡ tab (length (now (labels .entry))) (settled (now (labels .entry))) ⌝ }
 {
     let mut x: usize = 0;
@@ -283,7 +285,7 @@ fn final_byte(n: usize, faults: &[u8], closed: &[u8], labels: &[u8], x: usize) -
 
 // The end of labelling: tells the ordinarily unsafe nodes from the strongly unsafe ones, and the draining nodes from the faulty ones. A node without a mark
 // keeps its byte.
-fn finish(n: usize, faults: &[u8], closed: &[u8], labels: &mut [u8])
+pub fn finish(n: usize, faults: &[u8], closed: &[u8], labels: &mut [u8])
     requires { ⌜ length (now faults) ≡ tableLen n ⌝ }
     requires { ⌜ length (now closed) ≡ tableLen n ⌝ }
     requires { ⌜ Sized n (now labels) ⌝ }

@@ -1,0 +1,3 @@
+pub mod Nth
+pub mod Causes
+pub mod Down

@@ -1,0 +1,2 @@
+pub mod Cause
+pub mod Laws

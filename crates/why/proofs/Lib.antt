@@ -1,0 +1,5 @@
+pub mod Causing
+pub mod Watching
+pub mod Reasons
+pub mod Refusal
+pub mod Hops

@@ -1,0 +1,3 @@
+pub mod NodeReasons
+pub mod HopReasons
+pub mod Helpers
