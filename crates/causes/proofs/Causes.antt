@@ -14,7 +14,7 @@ use Rattle.cube.proofs.Bools.{by-cases, clash, is-false, or-left, or-right, or-
 use Rattle.cube.proofs.Count.{count-same}
 use Rattle.cube.proofs.Search.{least-is, the-least}
 use Rattle.rule.specs.Rounds.{Unsafe}
-use Rattle.rule.specs.Rule.{marked, meets, newly, rounds}
+use Rattle.rule.specs.Rule.{exchanges, marked, newly, rounds}
 use Rattle.rule.proofs.Rounds.{marked-suc, marked-zero, marks, meets-says, newly-says}
 use Rattle.causes.specs.Cause.{badCause, badNear, causeOf, causeWith, earlier, nth, outNear, roundOf}
 use Rattle.causes.specs.Laws.{LeadsTo, Marked, MarkedBefore, MarkedIn, Names, TrueCause, TwoLowest, ThreeLowest, faulty, two, three}
@@ -59,6 +59,11 @@ module _ (n k : ℕ) (F : ℕ → Bool) where
   earlier-lt (suc r) x h e =
       let late : ¬ (r < earlier n k F x) = λ l. clash e (the-least _ (λ s. marked n k F (suc s) x) .before r l) in
       omega (arith, late)
+
+  -- of any node it is no more than the exchanges
+  pub round-within : (x : ℕ) → roundOf n k F x ≤ exchanges n k F
+  unfolding roundOf earlier exchanges
+  round-within x = omega (arith, the-least (rounds n k F) (λ s. marked n k F (suc s) x) .within)
 
   -- the round that marks a node is its round, and its cause is by the marks of the rounds before
   pub earlier-is : (r x : ℕ) → r < rounds n k F → newly n k F (marked n k F r) x ≡ true → earlier n k F x ≡ r

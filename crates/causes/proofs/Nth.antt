@@ -98,6 +98,9 @@ module _ (n : ℕ) (p : ℕ → Bool) where
             none = λ h. omega (arith, A .none l);
           }
 
+  pub nth-within : (j : ℕ) → nth n p j ≤ n
+  nth-within j = after j .within
+
   -- where more than j have p
   pub nth-there : (j : ℕ) → j < count n p → (nth n p j < n) × (p (nth n p j) ≡ true)
   nth-there j h = go (either (ltb (nth n p j) n))

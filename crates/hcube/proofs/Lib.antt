@@ -1,4 +1,5 @@
 pub mod Small
+pub mod Reasons
 pub mod Functions
 pub mod Parts
 pub mod Decoded

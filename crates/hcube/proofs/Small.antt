@@ -63,7 +63,7 @@ abbrev pub HopFits : Hopped → Type 0
 HopFits a = (H.refusalOf a < 256) × (H.valueOf a < 65536)
 
 module _ (n j c d m : ℕ) (lab : ℕ → ℕ) where
-  hop-refusal : H.hopRefusal n j c d m lab ≤ 19
+  pub hop-refusal : H.hopRefusal n j c d m lab ≤ 19
   unfolding H.hopRefusal
   hop-refusal = first-le 19 (H.hopTests n j c d m lab) refl
 

@@ -18,6 +18,10 @@ use Rattle.walk.specs.declared.Ending.{Ending}
 use Rattle.walk.specs.declared.Ending.the-variants as ending
 use Rattle.hop.specs.declared.Hopped.{Hopped}
 use Rattle.walk.specs.declared.Walked.{Walked}
+use Rattle.why.specs.HopReasons as X
+use Rattle.why.specs.NodeReasons as Y
+use Rattle.why.specs.declared.HopReason.{HopReason}
+use Rattle.why.specs.declared.NodeReason.{NodeReason}
 
 -- one number for the refusal, the kind and the value. An accepted answer has refusal 0; a refusal has kind 0, and value 0 but for a notice's place
 abbrev pub packed : (refusal kind value : ℕ) → ℕ
@@ -34,6 +38,18 @@ hopNumber a = packed (H.refusalOf a) (H.kindOf a) (H.valueOf a)
 -- walk: kind 0 delivered, 1 halted, the value is the hop count
 abbrev pub walkNumber : Walked → ℕ
 walkNumber w = packed (W.refusalOf (w .ending)) (W.kindOf (w .ending)) (w .hops)
+
+-- why a node has its label: the label is the kind, the round the value, and above them cause * 2 ^ 56 + third * 2 ^ 48 + second * 2 ^ 40 + first * 2 ^ 32
+abbrev pub packedReason : (cause third second first low : ℕ) → ℕ
+packedReason cause third second first low = cause * 72057594037927936 + third * 281474976710656 + second * 1099511627776 + first * 4294967296 + low
+
+abbrev pub nodeReasonNumber : NodeReason → ℕ
+nodeReasonNumber a =
+    packedReason (Y.causeIn a) (Y.thirdOf a) (Y.secondOf a) (Y.firstOf a) (packed (Y.refusalOf a) (Y.kindOf a) (Y.valueOf a))
+
+-- why a hop is taken: the hop's kind, the value is scan * 256 + dimension
+abbrev pub hopReasonNumber : HopReason → ℕ
+hopReasonNumber a = packed (X.refusalOf a) (X.kindOf a) (X.valueOf a)
 
 -- the dimension of a notice by itself: kind 0, the value is the dimension or, refused, the place
 abbrev pub dimensionNumber : Number → ℕ

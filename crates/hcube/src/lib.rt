@@ -2,16 +2,20 @@
 // narrowed, so none is mistaken for a smaller one.
 ghost use Prim.Native.Nat.{_<_, _≤_};
 ghost use Rattle.cube.specs.Tables.{tab};
-ghost use Rattle.hcube.specs.Answers.{dimensionNumber, hasRow, hopNumber, labelNumber, noticeNumber, packed, packedNotice, rowAfter, rowByte, walkNumber, walkedBy};
-ghost use Rattle.hcube.specs.Fits.{RowFits, WalkFits};
+ghost use Rattle.hcube.specs.Answers.{dimensionNumber, hasRow, hopNumber, hopReasonNumber, labelNumber, nodeReasonNumber, noticeNumber, packed, packedNotice, packedReason, rowAfter, rowByte, walkNumber, walkedBy};
+ghost use Rattle.hcube.specs.Fits.{CauseFits, RowFits, WalkFits};
 ghost use Rattle.jobs.specs.Jobs.{labelFor};
 ghost use Rattle.labels.specs.Labelling.{labelled, labelsAfter};
 ghost use Rattle.notice.specs.Notice.{dimensionAt, noticed, tableAfter};
 ghost use Rattle.hop.specs.Hop.{decisionKind, decisionValue, hopped};
 ghost use Rattle.walk.specs.Walk.{rowBytes};
+ghost use Rattle.why.specs.HopReasons.{hopReason};
+ghost use Rattle.why.specs.NodeReasons.{labelsLeft, nodeReason};
+ghost use Rattle.why.specs.declared.NodeReason.the-variants.{Unsafe};
 ghost use Rattle.rule.specs.Cabinet.{cabinet};
 ghost use lib.ListN.{length};
 ghost use mathlib.Core.Path.{_≡_};
+use causes::Cause;
 use groups::Number;
 use hop::Decision;
 use hop::Hopped;
@@ -19,6 +23,8 @@ use labels::Labelled;
 use notice::Noticed;
 use walk::Ending;
 use walk::Walked;
+use why::HopReason;
+use why::NodeReason;
 
 // One number for the refusal, the kind and the value.
 fn pack(refusal: u32, kind: u32, value: usize) -> u32
@@ -158,6 +164,77 @@ pub extern "C" fn hcube_walk(n: u32, job: u32, s: u32, d: u32, labels: &[u8], ro
     );
     write_row(walked, row);
     pack_walk(walked)
+}
+
+// The number of a node's reason: the label is the kind and the round the value, and above stand the cause and what goes with it.
+fn pack_reason(label: u8, round: usize, cause: u64, first: usize, second: usize, third: usize) -> u64
+    requires { ⌜ (round < 65536) × ((cause ≤ 2) × ((first ≤ 12) × ((second ≤ 12) × (third ≤ 12)))) ⌝ }
+    ensures { λ r. ⌜ r ≡ packedReason cause third second first (packed 0 label round) ⌝ }
+{
+    cause * 72057594037927936
+        + third as u64 * 281474976710656
+        + second as u64 * 1099511627776
+        + first as u64 * 4294967296
+        + pack(0, label as u32, round) as u64
+}
+
+// That of an unsafe node, by its cause.
+fn pack_cause(label: u8, round: usize, cause: Cause) -> u64
+    requires { ⌜ (round < 65536) × CauseFits cause ⌝ }
+    ensures { λ r. ⌜ r ≡ nodeReasonNumber (Unsafe label round cause) ⌝ }
+{
+    match cause {
+        Cause::Faulty(a, b) => pack_reason(label, round, 1, a, b, 0),
+        Cause::Two(a, b) => pack_reason(label, round, 2, a, b, 0),
+        Cause::Three(a, b, c) => pack_reason(label, round, 2, a, b, c),
+    }
+}
+
+// Why node x has its label, by the rule and for a job. The labels are left as labelling leaves them, or refused, as they were.
+#[no_mangle]
+pub extern "C" fn hcube_why_node(
+    n: u32,
+    rule: u32,
+    job: u32,
+    x: u32,
+    faults: &[u8],
+    draining: &[u8],
+    closed: &[u8],
+    labels: &mut [u8],
+) -> u64
+    ensures answer { λ r. ⌜ r ≡ nodeReasonNumber (nodeReason (cabinet n rule (now (faults .entry)) (now (draining .entry)) (now (closed .entry))) job (length (now (labels .entry))) x) ⌝ }
+    ensures labels { λ r. ⌜ now (labels .exit) ≡ labelsLeft (cabinet n rule (now (faults .entry)) (now (draining .entry)) (now (closed .entry))) job x (now (labels .entry)) ⌝ }
+{
+    let answer = why::why_node(
+        n as usize,
+        rule as usize,
+        job as usize,
+        x as usize,
+        faults,
+        draining,
+        closed,
+        labels,
+    );
+    match answer {
+        NodeReason::Safe(out, not_safe) => pack_reason(0, 0, 0, out, not_safe, 0),
+        NodeReason::Unsafe(label, round, cause) => pack_cause(label, round, cause),
+        NodeReason::Out(label) => pack_reason(label, 0, 0, 0, 0, 0),
+        NodeReason::Refused(k) => pack(k, 0, 0) as u64,
+    }
+}
+
+// Why the hop at c for d is taken, by the labels of a job.
+#[no_mangle]
+pub extern "C" fn hcube_why_hop(n: u32, job: u32, c: u32, d: u32, labels: &[u8]) -> u32
+    ensures { λ r. ⌜ r ≡ hopReasonNumber (hopReason n job c d (length (now (labels .entry))) (labelFor n job (now (labels .entry)))) ⌝ }
+{
+    let answer = why::why_hop(n as usize, job as usize, c as usize, d as usize, labels);
+    match answer {
+        HopReason::Deliver => pack(0, 0, 0),
+        HopReason::Hop(scan, i) => pack(0, 1, scan * 256 + i),
+        HopReason::Halted => pack(0, 2, 0),
+        HopReason::Refused(k) => pack(k, 0, 0),
+    }
 }
 
 // The dimension of the notice at the front of the bytes, or the refusal with its place.

@@ -4,13 +4,14 @@ use mathlib.Core.Path.{_≡_, refl, sym, _∙_}
 use mathlib.Core.Bool.{Bool, false}
 use mathlib.Core.List.{List, [], _++_}
 use Prim.Native.Nat.{ℕ, _^_}
+use native.Mathlib.Omega.{arith}
 use lib.Dec.{eqb, leb}
 use lib.ListN.{length}
 use borrow.Author.Tests.{ne-eqb, eqb-true, leb-false, ltb-true, not-false}
 use Rattle.cube.specs.Cube.{flip}
 use Rattle.cube.specs.Refusal.{Test, first}
 use Rattle.cube.specs.Tables.{isDimension}
-use Rattle.cube.proofs.Bools.{or-false}
+use Rattle.cube.proofs.Bools.{by-cases, or-false}
 use Rattle.cube.proofs.Refusal.{None, first-none, first-passes, first-stops}
 use Rattle.cube.proofs.Tables.{dimension-is}
 use Rattle.jobs.specs.Jobs.{Halved, half, isJob, labelBytes}
@@ -85,3 +86,10 @@ module _ (n j c d m : ℕ) (lab : ℕ → ℕ) where
   pub hop-decides : (x : Decision) → hopRefusal n j c d m lab ≡ 0 → x ≡ hop n lab c d → Decided x ≡ hopped n j c d m lab
   unfolding hopped
   hop-decides x e ex = rw (e, ex)
+
+  -- and what a decision says
+  pub of-decided : (x : Decision) → hopped n j c d m lab ≡ Decided x → (hopRefusal n j c d m lab ≡ 0) × (hop n lab c d ≡ x)
+  unfolding hopped
+  of-decided x =
+      by-cases (λ a. a ≡ Decided x → (hopRefusal n j c d m lab ≡ 0) × (hop n lab c d ≡ x)) (eqb (hopRefusal n j c d m lab) 0)
+      (λ z e. (eqb-true (hopRefusal n j c d m lab) 0 z, cc)) (λ _ e. let q : _≡_ {A = ℕ} 0 1 = cc in absurd (omega arith))

@@ -11,9 +11,6 @@ use Rattle.rule.specs.Cabinet.{Cabinet, exchangesOf}
 use Rattle.labels.specs.Labelling.{labelRefusal, labelled, labelsAfter}
 use Rattle.labels.specs.declared.Labelled.the-variants as labelled
 use Rattle.labels.proofs.Refusal.{of-refused}
-use Rattle.hop.specs.Hop.{hop, hopRefusal, hopped}
-use Rattle.hop.specs.declared.Decision.{Decision}
-use Rattle.hop.specs.declared.Hopped.the-variants as hopped
 use Rattle.walk.specs.Walk.{refused, refusalOf, walkRefusal, walked}
 use Rattle.walk.specs.declared.Ending.the-variants as ending
 use Rattle.walk.specs.declared.Walked.{Walked}
@@ -31,14 +28,6 @@ labels-kept K j before k e =
 pub answered : (K : Cabinet) (j m : ℕ) → labelRefusal K j m ≡ 0 → labelled K j m ≡ labelled.Exchanges (exchangesOf K)
 unfolding labelled
 answered K j m e = rw e
-
--- ---- the hop
-
-pub of-decided : (n j c d m : ℕ) (lab : ℕ → ℕ) (x : Decision) → hopped n j c d m lab ≡ hopped.Decided x → hop n lab c d ≡ x
-unfolding hopped
-of-decided n j c d m lab x =
-    by-cases (λ a. a ≡ hopped.Decided x → hop n lab c d ≡ x) (eqb (hopRefusal n j c d m lab) 0) (λ _ e. cc)
-    (λ _ e. let q : _≡_ {A = ℕ} 0 1 = cc in absurd (omega arith))
 
 -- ---- the walk
 

@@ -23,7 +23,8 @@ use Rattle.theorems.specs.Words.{place}
 use Rattle.theorems.proofs.Repeats.{walk-repeats}
 use Rattle.promises.specs.Library.{Library}
 use Rattle.promises.proofs.Library.{Faithful}
-use Rattle.promises.proofs.Outcomes.{of-blank, of-decided, of-ended}
+use Rattle.hop.proofs.Refusals.{of-decided}
+use Rattle.promises.proofs.Outcomes.{of-blank, of-ended}
 
 module _ (lib : Library) (F : Faithful lib) where
   pub blank : {n j s d room k : ℕ} {buffer : List ℕ} {w : Walked} → lib .walks n j s d buffer room w → w .ending ≡ ending.Refused k
@@ -56,7 +57,7 @@ module _ (lib : Library) (F : Faithful lib) where
   -- ---- a frame
 
   decided : {n j c d : ℕ} {buffer : List ℕ} {x : Decision} → lib .hops n j c d buffer (hopped.Decided x) → H.hop n (labelFor n j buffer) c d ≡ x
-  decided {n} {j} {c} {d} {buffer} {x} m = of-decided n j c d (length buffer) (labelFor n j buffer) x (sym (F .hops m))
+  decided {n} {j} {c} {d} {buffer} {x} m = of-decided n j c d (length buffer) (labelFor n j buffer) x (sym (F .hops m)) .1
 
   pub frame-once : {n j d t : ℕ} {buffer : List ℕ} {x : Decision} (at : ℕ → ℕ)
       → Forwarded (λ c a. lib .hops n j c d buffer (hopped.Decided a)) at t → lib .hops n j (at t) d buffer (hopped.Decided x) → W.stops x ≡ true

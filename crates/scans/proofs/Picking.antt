@@ -49,7 +49,7 @@ module _ (n : ℕ) (lab : ℕ → ℕ) (c d : ℕ) where
       }
 
   -- there is no scan but these
-  hit-scan : {s i : ℕ} → Hit lab c d s i → s < noScan
+  pub hit-scan : {s i : ℕ} → Hit lab c d s i → s < noScan
   hit-scan (scan0 _ _) = omega arith
   hit-scan (scan1 _ _) = omega arith
   hit-scan (scan2 _ _) = omega arith

@@ -20,7 +20,7 @@ use Rattle.hop.specs.declared.Decision.{Decision}
 use Rattle.hop.specs.declared.Decision.the-variants as decision
 use Rattle.hop.specs.declared.Hopped.the-variants as hopped
 use Rattle.hop.proofs.Gathered.{arrives}
-use Rattle.hop.proofs.Refusals.{half-placed, hop-good}
+use Rattle.hop.proofs.Refusals.{hop-good, of-decided}
 use Rattle.why.specs.HopReasons.{answer, explain, hopReason, withoutScan}
 use Rattle.why.specs.declared.HopReason.{HopReason}
 use Rattle.why.specs.declared.HopReason.the-variants.{Deliver, Hop, Halted, Refused}
@@ -110,15 +110,8 @@ module _ (n j c d m : ℕ) (lab : ℕ → ℕ) where
   -- ---- a decision, and what the scans picked
 
   module _ (x : Decision) (e : H.hopped n j c d m lab ≡ hopped.Decided x) where
-    decided : (H.hopRefusal n j c d m lab ≡ 0) × (H.hop n lab c d ≡ x)
-    unfolding H.hopped
-    decided = go (either (eqb (H.hopRefusal n j c d m lab) 0))
-      where
-        go : (eqb (H.hopRefusal n j c d m lab) 0 ≡ true) ⊎ (eqb (H.hopRefusal n j c d m lab) 0 ≡ false)
-            → (H.hopRefusal n j c d m lab ≡ 0) × (H.hop n lab c d ≡ x)
-        go (inl a) = let q : hopped.Decided (H.hop n lab c d) ≡ hopped.Decided x = rw a at e in (eqb-true (H.hopRefusal n j c d m lab) 0 a, cc)
-        go (inr a) =
-            let q : hopped.Refused (H.hopRefusal n j c d m lab) ≡ hopped.Decided x = rw a at e in let z : _≡_ {A = ℕ} 0 1 = cc in absurd (omega arith)
+    abbrev decided : (H.hopRefusal n j c d m lab ≡ 0) × (H.hop n lab c d ≡ x)
+    decided = of-decided n j c d m lab x e
 
     pub asked : Asked n j c d m
     asked = hop-good n j c d m lab (decided .0)

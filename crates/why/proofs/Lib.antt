@@ -3,3 +3,4 @@ pub mod Watching
 pub mod Reasons
 pub mod Refusal
 pub mod Hops
+pub mod Laws

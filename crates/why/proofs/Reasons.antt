@@ -68,7 +68,7 @@ module _ (K : Cabinet) where
     near-out : count n (λ i. leb 3 (lab (flip i x))) ≡ count n (λ i. out K (flip i x))
     near-out = count-same n (λ i. leb 3 (lab (flip i x))) (λ i. out K (flip i x)) (λ i h. label-out (flip i x) (flip-lt n i x h hx))
 
-    near-not-safe : count n (λ i. leb 1 (lab (flip i x))) ≡ count n (λ i. not (S (flip i x)))
+    pub near-not-safe : count n (λ i. leb 1 (lab (flip i x))) ≡ count n (λ i. not (S (flip i x)))
     near-not-safe = count-same n (λ i. leb 1 (lab (flip i x))) (λ i. not (S (flip i x))) (λ i h. label-not-safe (flip i x) (flip-lt n i x h hx))
 
     out-label : out K x ≡ true → label n (K .rule) (out K) (outByte K) x ≡ outByte K x

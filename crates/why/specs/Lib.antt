@@ -1,3 +1,4 @@
 pub mod NodeReasons
 pub mod HopReasons
 pub mod Helpers
+pub mod Laws
