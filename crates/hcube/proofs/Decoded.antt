@@ -59,6 +59,7 @@ use Rattle.hcube.specs.Decoded.{
   valuePart,
   walkedFrom,
 }
+use Rattle.hcube.proofs.DecodedReasons.{hop-reason-decoded, node-reason-decoded}
 use Rattle.hcube.proofs.Parts.{above, count-is, cut, dimension-is, kind-is, refusal-is, value-is}
 use Rattle.hcube.proofs.Small.{HopFits, LabelFits, dimension-small, has-row, hop-small, label-small, walk-small, written}
 
@@ -241,4 +242,14 @@ notice-decoded bytes before = go (N.noticed bytes before) refl
         rw (r, c, ne-eqb k 0 (λ z. omega (arith, p .number .0)))
 
 pub decodes : Decodes
-decodes = record { label = label-decoded; hop = hop-decoded; walk = walk-decoded; dimension = dimension-decoded; notice = notice-decoded; cut = cut }
+decodes =
+    record {
+      label = label-decoded;
+      hop = hop-decoded;
+      walk = walk-decoded;
+      why-node = node-reason-decoded;
+      why-hop = hop-reason-decoded;
+      dimension = dimension-decoded;
+      notice = notice-decoded;
+      cut = cut;
+    }

@@ -11,11 +11,25 @@ use Rattle.jobs.specs.Jobs.{labelFor}
 use Rattle.rule.specs.Cabinet.{cabinet}
 use Rattle.labels.specs.Labelling.{labelled, labelsAfter}
 use Rattle.hop.specs.Hop.{hopped}
+use Rattle.why.specs.HopReasons.{hopReason}
+use Rattle.why.specs.NodeReasons.{labelsLeft, nodeReason}
 use Rattle.notice.specs.Notice.{dimensionAt, noticed, tableAfter}
-use Rattle.hcube.specs.Answers.{dimensionNumber, hopNumber, labelNumber, noticeNumber, rowAfter, walkNumber, walkedBy}
+use Rattle.hcube.specs.Answers.{
+  dimensionNumber,
+  hopNumber,
+  hopReasonNumber,
+  labelNumber,
+  nodeReasonNumber,
+  noticeNumber,
+  rowAfter,
+  walkNumber,
+  walkedBy,
+}
 use Rattle.hcube.proofs.hcube_label
 use Rattle.hcube.proofs.hcube_hop
 use Rattle.hcube.proofs.hcube_walk
+use Rattle.hcube.proofs.hcube_why_node
+use Rattle.hcube.proofs.hcube_why_hop
 use Rattle.hcube.proofs.hcube_notice_dimension
 use Rattle.hcube.proofs.hcube_read_notice
 
@@ -74,6 +88,45 @@ pub walk-says :
     Says walk (λ i. walkNumber (walkedBy (i .0) (i .1) (i .2) (i .3) (i .4) (i .5)))
     (λ i. rowAfter (walkedBy (i .0) (i .1) (i .2) (i .3) (i .4) (i .5)) (i .5))
 walk-says = record { says = λ κs a r e p. (p .0, p .1) }
+
+-- handed what labelling is, and between the job and the tables the node
+abbrev pub why-node : Function hcube_why_node.ended (ℕ × ℕ × ℕ × ℕ × List ℕ × List ℕ × List ℕ × List ℕ) ℕ (List ℕ)
+why-node =
+    record {
+      clauses = λ w. hcube_why_node.clauses (w .𝓤) (w .H) (w .𝓖 .A) (w .𝓜 .mem) (w .𝓡 .run);
+      asked = hcube_why_node.Reads.Asked;
+      post = hcube_why_node.Reads.Post;
+      handed = λ κs a.
+          (a .0, a .1 .0, a .1 .1 .0, a .1 .1 .1 .0, now (a .1 .1 .1 .1 .0), now (a .1 .1 .1 .1 .1 .0), now (a .1 .1 .1 .1 .1 .1 .0), now (a .1 .1 .1 .1 .1 .1 .1 .0));
+      answered = λ κs r. r;
+      left = λ κs e. now (e .1 .1 .1 .1 .1 .1 .1 .0);
+    }
+
+pub why-node-asks : AsksNothing why-node
+why-node-asks = record { asked = λ κs a. tt; empty = λ w κs a. (tt, refl) }
+
+pub why-node-says :
+    Says why-node (λ i. nodeReasonNumber (nodeReason (cabinet (i .0) (i .1) (i .4) (i .5) (i .6)) (i .2) (length (i .7)) (i .3)))
+    (λ i. labelsLeft (cabinet (i .0) (i .1) (i .4) (i .5) (i .6)) (i .2) (i .3) (i .7))
+why-node-says = record { says = λ κs a r e p. (p .0, p .1) }
+
+abbrev pub why-hop : Function hcube_why_hop.ended (ℕ × ℕ × ℕ × ℕ × List ℕ) ℕ Nothing
+why-hop =
+    record {
+      clauses = λ w. hcube_why_hop.clauses (w .𝓤) (w .H) (w .𝓖 .A) (w .𝓜 .mem) (w .𝓡 .run);
+      asked = hcube_why_hop.Reads.Asked;
+      post = hcube_why_hop.Reads.Post;
+      handed = λ κs a. (a .0, a .1 .0, a .1 .1 .0, a .1 .1 .1 .0, now (a .1 .1 .1 .1 .0));
+      answered = λ κs r. r;
+      left = λ κs e. tt;
+    }
+
+pub why-hop-asks : AsksNothing why-hop
+why-hop-asks = record { asked = λ κs a. tt; empty = λ w κs a. (tt, refl) }
+
+pub why-hop-says :
+    Says why-hop (λ i. hopReasonNumber (hopReason (i .0) (i .1) (i .2) (i .3) (length (i .4)) (labelFor (i .0) (i .1) (i .4)))) (λ i. tt)
+why-hop-says = record { says = λ κs a r e p. (p, refl) }
 
 abbrev pub notice-dimension : Function hcube_notice_dimension.ended (List ℕ) ℕ Nothing
 notice-dimension =

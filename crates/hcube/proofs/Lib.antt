@@ -1,5 +1,6 @@
 pub mod Small
 pub mod Reasons
+pub mod DecodedReasons
 pub mod Functions
 pub mod Parts
 pub mod Decoded

@@ -3,8 +3,19 @@
 use mathlib.Core.Path.{_≡_}
 use Prim.Native.Nat.{ℕ, _+_, _*_, _/_, _%_, _≤_, _<_}
 use native.Mathlib.Omega.{arith}
-use Rattle.hcube.specs.Answers.{packed, packedNotice}
-use Rattle.hcube.specs.Decoded.{Shows, countPart, dimensionPart, kindPart, refusalPart, valuePart}
+use Rattle.hcube.specs.Answers.{packed, packedNotice, packedReason}
+use Rattle.hcube.specs.Decoded.{
+  Shows,
+  causePart,
+  countPart,
+  dimensionPart,
+  firstPart,
+  kindPart,
+  refusalPart,
+  secondPart,
+  thirdPart,
+  valuePart,
+}
 
 pub refusal-is : (k kind v : ℕ) → k < 256 → kind < 256 → v < 65536 → refusalPart (packed k kind v) ≡ k
 refusal-is k kind v c a b = omega arith
@@ -40,3 +51,25 @@ pub count-is : (n m taken : ℕ) → m ≤ 4096 → taken ≤ 4099 → countPart
 count-is n m taken b c =
     let q : packedNotice n m (packed 0 0 taken) / 4294967296 ≡ n * 65536 + m = omega arith in
     omega arith
+
+-- a node's reason: its four parts above
+module _ (cause third second first low : ℕ) (hc : cause < 256) (ht : third < 256) (hs : second < 256) (hf : first < 256) (hl : low < 4294967296) where
+  abbrev r : ℕ
+  r = packedReason cause third second first low
+
+  pub reason-shows : Shows r low
+  reason-shows =
+      let e : (cause * 16777216 + third * 65536 + second * 256 + first) * 4294967296 + low ≡ r = omega arith in
+      rw e at (shows (cause * 16777216 + third * 65536 + second * 256 + first) low)
+
+  pub first-is : firstPart r ≡ first
+  first-is = let q : r / 4294967296 ≡ cause * 16777216 + third * 65536 + second * 256 + first = omega arith in omega arith
+
+  pub second-is : secondPart r ≡ second
+  second-is = let q : r / 1099511627776 ≡ cause * 65536 + third * 256 + second = omega arith in omega arith
+
+  pub third-is : thirdPart r ≡ third
+  third-is = let q : r / 281474976710656 ≡ cause * 256 + third = omega arith in omega arith
+
+  pub cause-is : causePart r ≡ cause
+  cause-is = let q : r / 72057594037927936 ≡ cause = omega arith in omega arith

@@ -4,7 +4,7 @@ use mathlib.Core.Bool.{Bool, not}
 use Prim.Native.Nat.{ℕ, _+_, _*_, _^_, _≤_, _<_}
 use native.Mathlib.Omega.{arith}
 use lib.Dec.{eqb, leb}
-use borrow.Author.Tests.{eqb-true}
+use borrow.Author.Tests.{eqb-false, eqb-true}
 use Rattle.cube.specs.Count.{count}
 use Rattle.cube.specs.Cube.{flip}
 use Rattle.cube.specs.Tables.{highest}
@@ -136,7 +136,7 @@ abbrev taken : HopReason → (small : ℕ) → Type 0
 taken Deliver n = Unit {0}
 taken (Hop s i) n = (s < 6) × (i < n)
 taken Halted n = Unit {0}
-taken (Refused k) n = k < 256
+taken (Refused k) n = (1 ≤ k) × (k < 256)
 
 pub record HopReasonFits (a : HopReason) : Type 0 where
   pub taken : taken a 12
@@ -153,4 +153,4 @@ hop-reason-small n j c d m lab =
     (λ e. record {
       taken = taken-small n lab c d _ (hop-explained n lab c d) (hop-good n j c d m lab (eqb-true (H.hopRefusal n j c d m lab) 0 e) .halved .small);
     })
-    (λ _. record { taken = omega (arith, hop-refusal n j c d m lab) })
+    (λ e. let z = eqb-false (H.hopRefusal n j c d m lab) 0 e in record { taken = (omega (arith, z), omega (arith, hop-refusal n j c d m lab)) })

@@ -4,10 +4,12 @@ use mathlib.Core.Bool.{cond}
 use mathlib.Core.List.{List}
 use mathlib.Core.Path.{_≡_}
 use Prim.Native.Nat.{ℕ, _+_, _*_, _/_, _%_}
-use lib.Dec.{eqb}
+use lib.Dec.{eqb, leb}
 use lib.ListN.{getD}
 use Rattle.cube.specs.Tables.{tab}
 use Rattle.rule.specs.Cabinet.{Cabinet}
+use Rattle.causes.specs.declared.Cause.{Cause}
+use Rattle.causes.specs.declared.Cause.the-variants as cause
 use Rattle.labels.specs.Labelling.{labelled}
 use Rattle.labels.specs.declared.Labelled.{Labelled}
 use Rattle.labels.specs.declared.Labelled.the-variants as labelled
@@ -20,10 +22,26 @@ use Rattle.walk.specs.Walk.{refused}
 use Rattle.walk.specs.declared.Ending.{Ending}
 use Rattle.walk.specs.declared.Ending.the-variants as ending
 use Rattle.walk.specs.declared.Walked.{Walked}
+use Rattle.why.specs.HopReasons.{hopReason}
+use Rattle.why.specs.NodeReasons.{nodeReason}
+use Rattle.why.specs.declared.HopReason.{HopReason}
+use Rattle.why.specs.declared.HopReason.the-variants as reason
+use Rattle.why.specs.declared.NodeReason.{NodeReason}
+use Rattle.why.specs.declared.NodeReason.the-variants as node
 use Rattle.notice.specs.Notice.{Told, dimensionAt, noticed}
 use Rattle.notice.specs.declared.Noticed.{Noticed}
 use Rattle.notice.specs.declared.Noticed.the-variants as noticed
-use Rattle.hcube.specs.Answers.{dimensionNumber, hopNumber, labelNumber, noticeNumber, rowAfter, walkNumber, walkedBy}
+use Rattle.hcube.specs.Answers.{
+  dimensionNumber,
+  hopNumber,
+  hopReasonNumber,
+  labelNumber,
+  nodeReasonNumber,
+  noticeNumber,
+  rowAfter,
+  walkNumber,
+  walkedBy,
+}
 
 -- HCUBE_REFUSAL, HCUBE_KIND and HCUBE_VALUE: each takes its own bits, so they serve answers of 32 and of 64 bits
 abbrev pub refusalPart : ℕ → ℕ
@@ -41,6 +59,26 @@ dimensionPart r = r / 281474976710656 % 65536
 
 abbrev pub countPart : ℕ → ℕ
 countPart r = r / 4294967296 % 65536
+
+-- HCUBE_WHY_CAUSE, HCUBE_WHY_THIRD, HCUBE_WHY_SECOND and HCUBE_WHY_FIRST
+abbrev pub causePart : ℕ → ℕ
+causePart r = r / 72057594037927936 % 256
+
+abbrev pub thirdPart : ℕ → ℕ
+thirdPart r = r / 281474976710656 % 256
+
+abbrev pub secondPart : ℕ → ℕ
+secondPart r = r / 1099511627776 % 256
+
+abbrev pub firstPart : ℕ → ℕ
+firstPart r = r / 4294967296 % 256
+
+-- HCUBE_WHY_SCAN and HCUBE_WHY_DIMENSION
+abbrev pub scanPart : ℕ → ℕ
+scanPart r = r / 256 % 256
+
+abbrev pub acrossPart : ℕ → ℕ
+acrossPart r = r % 256
 
 -- the node at place k of a row: two bytes, low byte first
 abbrev pub nodeAt : (row : List ℕ) (k : ℕ) → ℕ
@@ -64,6 +102,27 @@ unfoldable pub walkedFrom : ℕ → (row : List ℕ) → Walked
 walkedFrom r row =
     cond (eqb (refusalPart r) 0) (record { row = tab 17 (nodeAt row); hops = valuePart r; ending = endingFrom (kindPart r) }) (refused (refusalPart r))
 
+-- of an unsafe node, by its label, round and cause; the caller knows by which rule it asked
+abbrev pub causeFrom : (rule number first second third : ℕ) → Cause
+causeFrom rule number first second third =
+    cond (eqb number 1) (cause.Faulty first second) (cond (eqb rule 2) (cause.Two first second) (cause.Three first second third))
+
+unfoldable pub nodeReasonFrom : (rule : ℕ) → ℕ → NodeReason
+nodeReasonFrom rule r =
+    cond (eqb (refusalPart r) 0)
+    (cond (eqb (kindPart r) 0)
+    (node.Safe (firstPart r) (secondPart r))
+    (cond (leb 3 (kindPart r))
+    (node.Out (kindPart r))
+    (node.Unsafe (kindPart r) (valuePart r) (causeFrom rule (causePart r) (firstPart r) (secondPart r) (thirdPart r)))))
+    (node.Refused (refusalPart r))
+
+unfoldable pub hopReasonFrom : ℕ → HopReason
+hopReasonFrom r =
+    cond (eqb (refusalPart r) 0)
+    (cond (eqb (kindPart r) 0) reason.Deliver (cond (eqb (kindPart r) 1) (reason.Hop (scanPart r) (acrossPart r)) reason.Halted))
+    (reason.Refused (refusalPart r))
+
 unfoldable pub noticedFrom : ℕ → Noticed
 noticedFrom r =
     cond (eqb (refusalPart r) 0) (noticed.Notice (dimensionPart r) (countPart r) (valuePart r)) (noticed.Refused (refusalPart r) (valuePart r))
@@ -81,6 +140,8 @@ pub record Decodes : Type 0 where
   pub walk :
       (n j s d : ℕ) (labels before : List ℕ)
       → walkedFrom (walkNumber (walkedBy n j s d labels before)) (rowAfter (walkedBy n j s d labels before) before) ≡ walkedBy n j s d labels before
+  pub why-node : (K : Cabinet) (j m x : ℕ) → nodeReasonFrom (K .rule) (nodeReasonNumber (nodeReason K j m x)) ≡ nodeReason K j m x
+  pub why-hop : (n j c d m : ℕ) (lab : ℕ → ℕ) → hopReasonFrom (hopReasonNumber (hopReason n j c d m lab)) ≡ hopReason n j c d m lab
   pub dimension :
       (bytes : List ℕ)
       → Told (dimensionAt bytes) (refusalPart (dimensionNumber (dimensionAt bytes))) (valuePart (dimensionNumber (dimensionAt bytes)))

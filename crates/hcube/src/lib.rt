@@ -167,7 +167,14 @@ pub extern "C" fn hcube_walk(n: u32, job: u32, s: u32, d: u32, labels: &[u8], ro
 }
 
 // The number of a node's reason: the label is the kind and the round the value, and above stand the cause and what goes with it.
-fn pack_reason(label: u8, round: usize, cause: u64, first: usize, second: usize, third: usize) -> u64
+fn pack_reason(
+    label: u8,
+    round: usize,
+    cause: u64,
+    first: usize,
+    second: usize,
+    third: usize,
+) -> u64
     requires { ⌜ (round < 65536) × ((cause ≤ 2) × ((first ≤ 12) × ((second ≤ 12) × (third ≤ 12)))) ⌝ }
     ensures { λ r. ⌜ r ≡ packedReason cause third second first (packed 0 label round) ⌝ }
 {

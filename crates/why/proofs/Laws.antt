@@ -11,7 +11,7 @@ use Rattle.cube.specs.Tables.{labelIn}
 use Rattle.cube.proofs.Bools.{clash, either}
 use Rattle.rule.specs.Cabinet.{Cabinet, labelsOf, out, outByte}
 use Rattle.rule.specs.Rule.{label, labelOf, marked, rounds, safe}
-use Rattle.rule.proofs.Bytes.{Label, four} 
+use Rattle.rule.proofs.Bytes.{Label, four}
 use Rattle.rule.proofs.Bytes as bytes
 use Rattle.rule.proofs.Cabinet.{is-zero, label-in, out-high}
 use Rattle.rule.proofs.Rounds.{marks-work}

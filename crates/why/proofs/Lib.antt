@@ -4,3 +4,4 @@ pub mod Reasons
 pub mod Refusal
 pub mod Hops
 pub mod Laws
+pub mod Functions

@@ -36,9 +36,9 @@ use labels::sweep;
 
 // Why a node has its label.
 pub enum NodeReason {
-    Safe(usize, usize),       // how many neighbours do not work, and how many are not safe
+    Safe(usize, usize), // how many neighbours do not work, and how many are not safe
     Unsafe(u8, usize, Cause), // its label, the round that marked it, and its cause
-    Out(u8),                  // its label: it does not work
+    Out(u8), // its label: it does not work
     Refused(u32),
 }
 
@@ -245,7 +245,14 @@ pub fn why_node(
 // ---- a hop
 
 // Why the hop question decided x.
-fn decision_reason(n: usize, job: usize, c: usize, d: usize, labels: &[u8], x: Decision) -> HopReason
+fn decision_reason(
+    n: usize,
+    job: usize,
+    c: usize,
+    d: usize,
+    labels: &[u8],
+    x: Decision,
+) -> HopReason
     requires { ⌜ hopped n job c d (length (now labels)) (labelFor n job (now labels)) ≡ Decided x ⌝ }
     ensures { λ r. ⌜ r ≡ hopReason n job c d (length (now (labels .entry))) (labelFor n job (now (labels .entry))) ⌝ }
 {
