@@ -22,21 +22,31 @@ named n k Out Earlier x _ (three _ _ L) i (inl e) = rw e (L .two .first)
 named n k Out Earlier x _ (three _ _ L) i (inr (inl e)) = rw e (L .two .second)
 named n k Out Earlier x _ (three _ _ L) i (inr (inr e)) = rw e (L .third)
 
--- and it names one
-names : (n k : ℕ) (Out Earlier : ℕ → Type 0) (x : ℕ) (c : Cause) → TrueCause n k Out Earlier x c → (i : ℕ) × (i < n) × Names c i
-names n k Out Earlier x _ (faulty {a} L) = (a, omega (arith, L .rising, L .inside), inl refl)
-names n k Out Earlier x _ (two {a} _ _ L) = (a, omega (arith, L .rising, L .inside), inl refl)
-names n k Out Earlier x _ (three {a} _ _ L) = (a, omega (arith, L .two .rising, L .two .inside), inl refl)
+-- it is across one of the n dimensions,
+named-inside : (n k : ℕ) (Out Earlier : ℕ → Type 0) (x : ℕ) (c : Cause) → TrueCause n k Out Earlier x c → (i : ℕ) → Names c i → i < n
+named-inside n k Out Earlier x _ (faulty L) i (inl e) = omega (arith, e, L .rising, L .inside)
+named-inside n k Out Earlier x _ (faulty L) i (inr e) = omega (arith, e, L .inside)
+named-inside n k Out Earlier x _ (two _ _ L) i (inl e) = omega (arith, e, L .rising, L .inside)
+named-inside n k Out Earlier x _ (two _ _ L) i (inr e) = omega (arith, e, L .inside)
+named-inside n k Out Earlier x _ (three _ _ L) i (inl e) = omega (arith, e, L .two .rising, L .two .inside)
+named-inside n k Out Earlier x _ (three _ _ L) i (inr (inl e)) = omega (arith, e, L .two .inside)
+named-inside n k Out Earlier x _ (three _ _ L) i (inr (inr e)) = omega (arith, e, L .inside)
+
+-- and there is one
+names : (n k : ℕ) (Out Earlier : ℕ → Type 0) (x : ℕ) (c : Cause) → TrueCause n k Out Earlier x c → (i : ℕ) × Names c i
+names n k Out Earlier x _ (faulty {a} L) = (a, inl refl)
+names n k Out Earlier x _ (two {a} _ _ L) = (a, inl refl)
+names n k Out Earlier x _ (three {a} _ _ L) = (a, inl refl)
 
 module _ (n k : ℕ) (F : ℕ → Bool) (low : 2 ≤ k) (high : k ≤ 3) where
   leads : (x y : ℕ) → Marked n k F x → LeadsTo n k F x y → (F y ≡ true) ⊎ MarkedBefore n k F x y
   leads x y M l =
-      rw (l .3) (named n k (λ z. F z ≡ true) (MarkedBefore n k F x) x (causeOf n k F x) (cause n k F low high x M) (l .0) (l .2))
+      rw (l .2) (named n k (λ z. F z ≡ true) (MarkedBefore n k F x) x (causeOf n k F x) (cause n k F low high x M) (l .0) (l .1))
 
   goes-on : (x : ℕ) → Marked n k F x → (y : ℕ) × LeadsTo n k F x y
   goes-on x M =
       let a = names n k (λ z. F z ≡ true) (MarkedBefore n k F x) x (causeOf n k F x) (cause n k F low high x M) in
-      (flip (a .0) x, (a .0, a .1, a .2, refl))
+      (flip (a .0) x, (a .0, a .1, refl))
 
   -- most bounds the round of where the way begins
   comes-down : (most : ℕ) (at : ℕ → ℕ) → roundOf n k F (at 0) ≤ most → Marked n k F (at 0) → Down n k F at → ComesDown n k F at (roundOf n k F (at 0))
@@ -63,6 +73,7 @@ module _ (n k : ℕ) (F : ℕ → Bool) (low : 2 ≤ k) (high : k ≤ 3) where
         round-few = λ x M. omega (arith, in-time n k F x M);
         alone = λ x r M. alone n k F x M r;
         cause = cause n k F low high;
+        inside = λ x M. named-inside n k _ _ x (causeOf n k F x) (cause n k F low high x M);
         leads = leads;
         goes-on = goes-on;
         down = λ at M D. comes-down (roundOf n k F (at 0)) at (omega arith) M D;

@@ -66,7 +66,7 @@ MarkedBefore n k F x y = Marked n k F y × (roundOf n k F y < roundOf n k F x)
 
 -- y is a neighbour that the cause of x names
 abbrev pub LeadsTo : (n k : ℕ) (F : ℕ → Bool) (x y : ℕ) → Type 0
-LeadsTo n k F x y = (i : ℕ) × (i < n) × Names (causeOf n k F x) i × (y ≡ flip i x)
+LeadsTo n k F x y = (i : ℕ) × Names (causeOf n k F x) i × (y ≡ flip i x)
 
 -- a way down: at 0, at 1, .., each after an unsafe one named by its cause
 abbrev pub Down : (n k : ℕ) (F : ℕ → Bool) (at : ℕ → ℕ) → Type 0
@@ -83,6 +83,7 @@ pub record Causes (n k : ℕ) (F : ℕ → Bool) : Type 0 where
   pub alone : (x r : ℕ) → Marked n k F x → MarkedIn n k F x r → r ≡ roundOf n k F x
   -- its cause is true
   pub cause : (x : ℕ) → Marked n k F x → TrueCause n k (λ y. F y ≡ true) (MarkedBefore n k F x) x (causeOf n k F x)
+  pub inside : (x : ℕ) → Marked n k F x → (i : ℕ) → Names (causeOf n k F x) i → i < n
   -- each neighbour that it names does not work or was marked in an earlier round, and it names some
   pub leads : (x y : ℕ) → Marked n k F x → LeadsTo n k F x y → (F y ≡ true) ⊎ MarkedBefore n k F x y
   pub goes-on : (x : ℕ) → Marked n k F x → (y : ℕ) × LeadsTo n k F x y

@@ -52,7 +52,7 @@ hop-dim n lab c d i e = decide-dim n c d (lab c) (λ j. lab (flip j c)) i e
 -- ---- the question: labels that agree at c and at its neighbours are answered alike, refused or not
 
 module _ (n j c d m : ℕ) (lab lab′ : ℕ → ℕ) (own : lab c ≡ lab′ c) (near : (i : ℕ) → i < n → lab (flip i c) ≡ lab′ (flip i c)) where
-  refusal-same : hopRefusal n j c d m lab ≡ hopRefusal n j c d m lab′
+  pub refusal-same : hopRefusal n j c d m lab ≡ hopRefusal n j c d m lab′
   unfolding hopRefusal
   refusal-same =
       rw (own, some-same n (λ i. ltb highest (lab (flip i c))) (λ i. ltb highest (lab′ (flip i c))) (λ i h. ap (ltb highest) (near i h)))

@@ -29,12 +29,29 @@ use Rattle.walk.specs.declared.Walked.{Walked}
 use Rattle.walk.proofs.Functions as walk
 use Rattle.walk.proofs.Refusals.{hops-few}
 use Rattle.theorems.specs.Words.{place}
-use Rattle.hcube.specs.Answers.{dimensionNumber, hasRow, hopNumber, labelNumber, noticeNumber, rowAfter, rowByte, walkNumber, walkedBy}
+use Rattle.causes.specs.declared.Cause.the-variants as cause
+use Rattle.why.specs.declared.HopReason.{HopReason}
+use Rattle.why.specs.declared.NodeReason.{NodeReason}
+use Rattle.why.specs.declared.NodeReason.the-variants as because
+use Rattle.why.proofs.Functions as why
+use Rattle.hcube.specs.Answers.{
+  dimensionNumber,
+  hasRow,
+  hopNumber,
+  hopReasonNumber,
+  labelNumber,
+  nodeReasonNumber,
+  noticeNumber,
+  rowAfter,
+  rowByte,
+  walkNumber,
+  walkedBy,
+}
 use Rattle.hcube.specs.Decoded.{endingFrom, kindPart, nodeAt, refusalPart, valuePart, walkedFrom}
 use Rattle.hcube.proofs.Decoded.{high-byte, low-byte}
 use Rattle.hcube.proofs.Functions as hcube
 use Rattle.hcube.proofs.Small.{row-fits, written}
-use Rattle.promises.specs.InC.{InC}
+use Rattle.promises.specs.InC.{InC, nodeNumber}
 use Rattle.promises.proofs.Demands.{c-demands, rattle-demands}
 use Rattle.promises.proofs.Library.{c-faithful}
 
@@ -47,6 +64,18 @@ label-same m v = told hcube.label-says m .0 ∙ ap labelNumber (sym (told labels
 
 hop-same : {n j c d r : ℕ} {x : Hopped} {buffer : List ℕ} → May hcube.hop (n, j, c, d, buffer) r tt → May hop.hop (n, j, c, d, buffer) x tt → r ≡ hopNumber x
 hop-same m v = told hcube.hop-says m .0 ∙ ap hopNumber (sym (told hop.hop-says v .0))
+
+why-hop-same : {n j c d r : ℕ} {x : HopReason} {buffer : List ℕ} → May hcube.why-hop (n, j, c, d, buffer) r tt → May why.why-hop (n, j, c, d, buffer) x tt
+    → r ≡ hopReasonNumber x
+why-hop-same m v = told hcube.why-hop-says m .0 ∙ ap hopReasonNumber (sym (told why.why-hop-says v .0))
+
+node-number : (a : NodeReason) → nodeReasonNumber a ≡ nodeNumber a
+node-number (because.Safe a b) = omega arith
+node-number (because.Unsafe l q (cause.Faulty a b)) = omega arith
+node-number (because.Unsafe l q (cause.Two a b)) = omega arith
+node-number (because.Unsafe l q (cause.Three a b c)) = omega arith
+node-number (because.Out l) = omega arith
+node-number (because.Refused k) = omega arith
 
 walk-same : {n j s d r : ℕ} {buffer before after : List ℕ} {w : Walked} → May hcube.walk (n, j, s, d, buffer, before) r after
     → May walk.walk-for (n, j, s, d, buffer, length before) w tt → (r ≡ walkNumber w) × (after ≡ rowAfter w before)
@@ -150,6 +179,11 @@ in-c =
       hop-hops = λ m v. hop-same m v;
       hop-halts = λ m v. hop-same m v;
       hop-refuses = λ {n} {j} {c} {d} {r} m v. let e = hop-same m v in omega arith;
+      why-hop-delivers = λ m v. why-hop-same m v;
+      why-hop-hops = λ m v. omega (arith, why-hop-same m v);
+      why-hop-halts = λ m v. why-hop-same m v;
+      why-hop-refuses = λ m v. omega (arith, why-hop-same m v);
+      why-node-number = λ {a = a} m v. told hcube.why-node-says m .0 ∙ ap nodeReasonNumber (sym (told why.why-node-says v .0)) ∙ node-number a;
       walk-delivers = λ {n} {j} {s} {d} {r} m v e. let f = walk-same m v .0 in let g = ap W.refusalOf e in let h = ap W.kindOf e in omega arith;
       walk-halts = λ {n} {j} {s} {d} {r} m v e. let f = walk-same m v .0 in let g = ap W.refusalOf e in let h = ap W.kindOf e in omega arith;
       walk-refuses = walk-refuses;

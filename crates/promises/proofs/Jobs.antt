@@ -17,47 +17,25 @@ use Rattle.rule.specs.Rule.{exchanges, label}
 use Rattle.labels.specs.Labelling.{labelRefusal, labelled, labelsAfter}
 use Rattle.labels.specs.declared.Labelled.{Labelled}
 use Rattle.labels.specs.declared.Labelled.the-variants.{Exchanges}
-use Rattle.labels.proofs.Refusal.{buffer-sized, fitting, labels-written, length-kept, of-exchanges, others-kept, says-refused}
+use Rattle.labels.proofs.Refusal.{buffer-sized, fitting, length-kept, of-exchanges}
 use Rattle.hop.specs.Hop.{hopRefusal, hopped}
 use Rattle.hop.specs.declared.Hopped.{Hopped}
+use Rattle.why.specs.HopReasons.{hopReason}
+use Rattle.why.specs.NodeReasons.{nodeReason, nodeRefusal}
+use Rattle.why.specs.declared.NodeReason.{NodeReason}
 use Rattle.walk.specs.Walk.{rowBytes, walkRefusal, walked}
 use Rattle.walk.specs.declared.Walked.{Walked}
 use Rattle.theorems.specs.Demand3.{Walks}
 use Rattle.theorems.specs.Words.{Takes, Works}
 use Rattle.promises.specs.Answers.{Answers}
 use Rattle.promises.specs.Demands.{Demands}
-use Rattle.promises.specs.Jobs.{Jobs, Meanwhile, SameTo, another, nothing}
+use Rattle.promises.specs.Jobs.{Jobs, Meanwhile, SameTo, another, another-why, nothing}
 use Rattle.promises.specs.Library.{Library, rattle, c}
 use Rattle.promises.proofs.Answers.{c-answers, rattle-answers}
 use Rattle.promises.proofs.Demands.{c-demands, rattle-demands}
 use Rattle.promises.proofs.Given.{job-below}
+use Rattle.promises.proofs.Left.{kept, left-other, left-same, other-same, own-same, same-after, written}
 use Rattle.promises.proofs.Library.{Faithful, rattle-faithful, c-faithful}
-
--- ---- what labelling leaves
-
-module _ (K : Cabinet) (j : ℕ) where
-  written : (l : List ℕ) → labelRefusal K j (length l) ≡ 0 → labelsAfter K j l ≡ withHalf j (2 ^ K .n) (labelsOf K) l
-  unfolding labelsAfter
-  written l z = rw z
-
-  kept : (l : List ℕ) → labelRefusal K j (length l) ≢ 0 → labelsAfter K j l ≡ l
-  kept l z = sym (says-refused K j l _ refl z .1)
-
-  -- its own half goes by that half and the length
-  own-same : (l l′ : List ℕ) → SameTo (K .n) j l l′ → half j (2 ^ K .n) (labelsAfter K j l) ≡ half j (2 ^ K .n) (labelsAfter K j l′)
-  own-same l l′ s =
-      elim (ℕ-discrete (labelRefusal K j (length l)) 0) [
-        | yes z ↦ labels-written K j l z ∙ sym (labels-written K j l′ (ap (labelRefusal K j) (sym (s .long)) ∙ z))
-        | no z ↦ ap (half j (2 ^ K .n)) (kept l z) ∙ s .own
-            ∙ sym (ap (half j (2 ^ K .n)) (kept l′ (λ e. z (ap (labelRefusal K j) (s .long) ∙ e))))
-      ]
-
-  same-after : (l l′ : List ℕ) → SameTo (K .n) j l l′ → SameTo (K .n) j (labelsAfter K j l) (labelsAfter K j l′)
-  same-after l l′ s = record { long = length-kept K j l ∙ s .long ∙ sym (length-kept K j l′); own = own-same l l′ s }
-
-  -- to another job the buffer is the same
-  other-same : (i : ℕ) → i < 2 → i ≢ j → (l : List ℕ) → SameTo (K .n) i l (labelsAfter K j l)
-  other-same i h d l = record { long = sym (length-kept K j l); own = sym (others-kept K j l i h d) }
 
 -- ---- the labels go by which nodes do not work, and by which of these drain
 
@@ -148,6 +126,14 @@ module _ {i j : ℕ} (hi : i < 2) (hj : j < 2) where
   unfolding hopped hopRefusal
   hop-alike n c d m lab = rw (is-job i hi, is-job j hj)
 
+  why-node-alike : (K : Cabinet) (m x : ℕ) → nodeReason K i m x ≡ nodeReason K j m x
+  unfolding nodeReason nodeRefusal
+  why-node-alike K m x = rw (is-job i hi, is-job j hj)
+
+  why-hop-alike : (n c d m : ℕ) (lab : ℕ → ℕ) → hopReason n i c d m lab ≡ hopReason n j c d m lab
+  unfolding hopReason hopRefusal
+  why-hop-alike n c d m lab = rw (is-job i hi, is-job j hj)
+
   walk-alike : (n s d m room : ℕ) (lab : ℕ → ℕ) → walked n i s d m room lab ≡ walked n j s d m room lab
   unfolding walked walkRefusal
   walk-alike n s d m room lab = rw (is-job i hi, is-job j hj)
@@ -180,16 +166,21 @@ module _ (lib : Library) (F : Faithful lib) (A : Answers lib) (D : Demands lib) 
         f .1 ∙ written K j l (o .0) ∙ ap₂ (λ (n : ℕ) (h : List ℕ). withHalf j (2 ^ n) h l) en labels ∙ sym (f′ .1 ∙ written K′ j l (o′ .0)),
       )
 
+  -- one after the other
+  then : {n j : ℕ} {l l₁ l′ : List ℕ} → SameTo n j l l₁ → SameTo n j l₁ l′ → SameTo n j l l′
+  then s t = record { long = s .long ∙ t .long; own = s .own ∙ t .own }
+
   -- one labelling of another, and any number of them
   unmoved-by : {K : Cabinet} {i j : ℕ} {l l′ : List ℕ} {x : Labelled} → j < 2 → i ≢ j → lib .labels K i l x l′ → SameTo (K .n) j l l′
   unmoved-by {K} {i} {j} {l} h d m = rw (F .labels m .1) (other-same K i j h (λ q. d (sym q)) l)
 
+  unmoved-why : {K : Cabinet} {i j x : ℕ} {l l′ : List ℕ} {a : NodeReason} → j < 2 → i ≢ j → lib .explains K i x l a l′ → SameTo (K .n) j l l′
+  unmoved-why {K} {i} {j} {x} {l} h d m = rw (F .explains m .1) (left-other K i x j h (λ q. d (sym q)) l)
+
   unmoved : {n j : ℕ} {l l′ : List ℕ} → j < 2 → Meanwhile lib n j l l′ → SameTo n j l l′
   unmoved h nothing = record { long = refl; own = refl }
-  unmoved h (another d e m rest) =
-      let s = rw e at (unmoved-by h d m) in
-      let t = unmoved h rest in
-      record { long = s .long ∙ t .long; own = s .own ∙ t .own }
+  unmoved h (another d e m rest) = then (rw e at (unmoved-by h d m)) (unmoved h rest)
+  unmoved h (another-why d e m rest) = then (rw e at (unmoved-why h d m)) (unmoved h rest)
 
   -- the walk on the buffer as it is now is the walk on the buffer as labelling left it
   still-walks : {K : Cabinet} {j e s d : ℕ} {before l l′ : List ℕ} {w : Walked} → lib .labels K j before (Exchanges e) l → Meanwhile lib (K .n) j l l′
@@ -225,9 +216,15 @@ module _ (lib : Library) (F : Faithful lib) (A : Answers lib) (D : Demands lib) 
         label-own = λ {K} {j} m m′ e. F .labels m .0 ∙ ap (labelled K j) e ∙ sym (F .labels m′ .0);
         labels-own = λ m m′ s. labels-own m m′ s;
         hop-own = λ m m′ s. hop-own m m′ s;
+        why-node-own = λ {K} {j} {x} m m′ e.
+            F .explains m .0 ∙ ap (λ (k : ℕ). nodeReason K j k x) e ∙ sym (F .explains m′ .0);
+        why-labels-own = λ {K} {j} {x} {l} {l′} m m′ s. rw (F .explains m .1, F .explains m′ .1) (left-same K j x l l′ s);
+        why-hop-own = λ {n} {j} {c} {d} m m′ s.
+            F .reasons m ∙ ap₂ (λ (k : ℕ) (t : List ℕ). hopReason n j c d k (labelIn t)) (s .long) (s .own) ∙ sym (F .reasons m′);
         walk-own = λ v v′ e. walk-own v v′ e;
         closed-as-faulty = λ en er ed same m m′. closed-as-faulty en er ed same m m′;
         other-labelled = λ job d m. unmoved-by (job-below job) d m;
+        other-explained = λ job d m. unmoved-why (job-below job) d m;
         unmoved = λ job m. unmoved (job-below job) m;
         still-walks = λ m meanwhile hs hd v. still-walks m meanwhile hs hd v;
         both = λ e m₀ m₁. both e m₀ m₁;
@@ -237,6 +234,11 @@ module _ (lib : Library) (F : Faithful lib) (A : Answers lib) (D : Demands lib) 
         hop-alike = λ {n} {i} {j} {c} {d} {l} {l′} hi hj m m′ e o.
             F .hops m ∙ hop-alike (job-below hi) (job-below hj) n c d (length l) (labelFor n i l)
             ∙ ap₂ (λ (k : ℕ) (t : List ℕ). hopped n j c d k (labelIn t)) e o ∙ sym (F .hops m′);
+        why-node-alike = λ {K} {i} {j} {x} {l} hi hj m m′ e.
+            F .explains m .0 ∙ why-node-alike (job-below hi) (job-below hj) K (length l) x ∙ ap (λ (k : ℕ). nodeReason K j k x) e ∙ sym (F .explains m′ .0);
+        why-hop-alike = λ {n} {i} {j} {c} {d} {l} {l′} hi hj m m′ e o.
+            F .reasons m ∙ why-hop-alike (job-below hi) (job-below hj) n c d (length l) (labelFor n i l)
+            ∙ ap₂ (λ (k : ℕ) (t : List ℕ). hopReason n j c d k (labelIn t)) e o ∙ sym (F .reasons m′);
         walk-alike = λ {n} {i} {j} {s} {d} {room} {l} {l′} hi hj v v′ e o.
             F .walks v ∙ walk-alike (job-below hi) (job-below hj) n s d (length l) room (labelFor n i l)
             ∙ ap₂ (λ (k : ℕ) (t : List ℕ). walked n j s d k room (labelIn t)) e o ∙ sym (F .walks v′);

@@ -3,7 +3,9 @@ pub mod Notices
 pub mod Library
 pub mod Sizes
 pub mod Eight
+pub mod LabelRefusals
 pub mod Refusals
+pub mod Why
 pub mod Outcomes
 pub mod Walks
 pub mod Demands
@@ -12,6 +14,7 @@ pub mod InRattle
 pub mod Answers
 pub mod Tied
 pub mod Settled
+pub mod Left
 pub mod Jobs
 pub mod Worked
 pub mod Promises

@@ -10,6 +10,7 @@ use Rattle.rule.proofs.Largest.{safe-largest}
 use Rattle.rule.proofs.Nodes.{nodes}
 use Rattle.rule.proofs.Rounds.{marks, rested}
 use Rattle.rule.proofs.Rules.{rules}
+use Rattle.causes.proofs.Down.{cause-laws}
 use Rattle.enough.proofs.Enough.{enough, few-out-safe}
 use Rattle.enough.proofs.NotEnough.{not-enough}
 use Rattle.scans.proofs.Hit.{table-hits}
@@ -18,6 +19,7 @@ use Rattle.hop.proofs.Local.{hop-local}
 use Rattle.walk.proofs.Laws.{message-laws}
 use Rattle.walk.proofs.Local.{walk-local}
 use Rattle.walk.proofs.Once.{once}
+use Rattle.why.proofs.Laws.{why-laws}
 use Rattle.theorems.proofs.Before.{as-before}
 use Rattle.theorems.proofs.Decision.{hop-picked}
 use Rattle.theorems.proofs.Delivers.{few-out-delivers}
@@ -36,6 +38,7 @@ use Rattle.promises.proofs.Jobs.{c-jobs, rattle-jobs}
 use Rattle.promises.proofs.Refusals.{refusals}
 use Rattle.promises.proofs.Settled.{settled, unasked}
 use Rattle.promises.proofs.Tied.{all-tied, in-order}
+use Rattle.promises.proofs.Why.{c-whys, rattle-whys}
 use Rattle.promises.proofs.Worked.{worked}
 
 pub promises : Promises
@@ -51,6 +54,8 @@ promises =
       c-demands = c-demands;
       rattle-jobs = rattle-jobs;
       c-jobs = c-jobs;
+      rattle-whys = rattle-whys;
+      c-whys = c-whys;
       in-c = in-c;
       in-rattle = in-rattle;
       decodes = decodes;
@@ -63,6 +68,8 @@ promises =
       good = labels-good;
       rules = rules;
       two-rules = two-rules;
+      causes = cause-laws;
+      why = why-laws;
       enough = enough;
       not-enough = not-enough;
       few-out-safe = few-out-safe;

@@ -3,27 +3,23 @@
 use mathlib.Core.Path.{_≡_, refl, sym, ap, _∙_}
 use mathlib.Core.Logic.{_⊎_, inl, inr, ⊎-elim, _↔_, _≢_}
 use mathlib.Core.Bool.{Bool, true, false, not, _&&_, _||_}
-use mathlib.Core.List.{List}
 use Prim.Native.Nat.{ℕ, _^_, _<_}
 use lib.Dec.{eqb, leb, ltb}
-use lib.ListN.{length}
 use borrow.Author.Tests.{eqb-true, eq-eqb, le-leb, leb-true}
 use Rattle.cube.specs.Count.{some}
 use Rattle.cube.specs.Cube.{flip}
 use Rattle.cube.specs.Refusal.{first}
-use Rattle.cube.specs.Tables.{highest, isDimension, tableLen, unusedSet}
+use Rattle.cube.specs.Tables.{highest, isDimension}
 use Rattle.cube.proofs.Bools.{by-cases, clash, either}
 use Rattle.jobs.specs.Jobs.{isJob, labelBytes}
-use Rattle.rule.specs.Cabinet.{Cabinet, isRule}
-use Rattle.labels.specs.Labelling as L
 use Rattle.hop.specs.Hop as H
 use Rattle.walk.specs.Walk as W
+use Rattle.why.specs.HopReasons as X
+use Rattle.why.proofs.Laws.{explained-none}
 use Rattle.theorems.proofs.Repeats.{walk-repeats}
 use Rattle.promises.specs.Refusals.{
   HopGiven,
   HopWhen,
-  LabelGiven,
-  LabelWhen,
   Refusals,
   WalkGiven,
   WalkWhen,
@@ -35,16 +31,6 @@ use Rattle.promises.specs.Refusals.{
   hop-5,
   hop-6-draining,
   hop-6-faulty,
-  label-1,
-  label-18,
-  label-19,
-  label-2-closed,
-  label-2-draining,
-  label-2-faults,
-  label-2-labels,
-  label-3-closed,
-  label-3-draining,
-  label-3-faults,
   none,
   walk-1,
   walk-19,
@@ -67,63 +53,14 @@ use Rattle.promises.proofs.Given.{
   or-says,
   outside,
   some-says,
-  unused-says,
   wrong-dimension,
   wrong-halves,
   wrong-job,
-  wrong-rule,
-  wrong-table,
 }
 use Rattle.promises.proofs.Eight.{eight}
+use Rattle.promises.proofs.LabelRefusals.{label-given, label-refusal, node-given, node-refusal}
 use Rattle.promises.proofs.Notices.{notice-given, notice-one, number-given}
 use Rattle.promises.proofs.Sizes.{dimension-given, dimension-one}
-
--- ---- labelling
-
-module _ (K : Cabinet) (j m : ℕ) where
-  label-refusal : L.labelRefusal K j m ≡ L.refusalOf (L.labelled K j m)
-  unfolding L.labelled
-  label-refusal = by-cases (λ a. L.labelRefusal K j m ≡ L.refusalOf a) (eqb (L.labelRefusal K j m) 0) (λ z. eqb-true _ _ z) (λ _. refl)
-
-  -- a table has another length than it should
-  abbrev wrong : List ℕ → Bool
-  wrong t = not (eqb (length t) (tableLen (K .n)))
-
-  label-given : LabelGiven K j m (L.labelRefusal K j m)
-  unfolding L.labelRefusal first
-  label-given =
-      one-test _ (λ e. label-1 (wrong-dimension (K .n) .0 e)) said-1
-      (one-test _ (λ e. label-18 (wrong-rule (K .rule) .0 e)) said-18
-      (one-test _ (λ e. label-19 (wrong-job j .0 e)) said-19
-      (also-test _ (λ e. label-2-faults (wrong-table (K .n) (length (K .faults)) .0 e)) (λ f.
-      also-test _ (λ e. label-2-draining (wrong-table (K .n) (length (K .draining)) .0 e)) (λ g.
-      also-test _ (λ e. label-2-closed (wrong-table (K .n) (length (K .closed)) .0 e)) (λ h.
-      one-test _ (λ e. label-2-labels (wrong-halves (K .n) m .0 e)) (said-2 f g h)
-      (also-test _ (λ e. label-3-faults (unused-says (K .n) (K .faults) .0 e)) (λ f.
-      also-test _ (λ e. label-3-draining (unused-says (K .n) (K .draining) .0 e)) (λ g.
-      one-test _ (λ e. label-3-closed (unused-says (K .n) (K .closed) .0 e)) (said-3 f g) none)))))))))
-    where
-      said-1 : LabelWhen K j m 1 → not (isDimension (K .n)) ≡ true
-      said-1 (label-1 w) = wrong-dimension (K .n) .1 w
-
-      said-18 : LabelWhen K j m 18 → not (isRule (K .rule)) ≡ true
-      said-18 (label-18 w) = wrong-rule (K .rule) .1 w
-
-      said-19 : LabelWhen K j m 19 → not (isJob j) ≡ true
-      said-19 (label-19 w) = wrong-job j .1 w
-
-      said-2 : wrong (K .faults) ≡ false → wrong (K .draining) ≡ false → wrong (K .closed) ≡ false → LabelWhen K j m 2
-          → not (eqb m (labelBytes (K .n))) ≡ true
-      said-2 f g h (label-2-faults w) = absurd (clash (wrong-table (K .n) (length (K .faults)) .1 w) f)
-      said-2 f g h (label-2-draining w) = absurd (clash (wrong-table (K .n) (length (K .draining)) .1 w) g)
-      said-2 f g h (label-2-closed w) = absurd (clash (wrong-table (K .n) (length (K .closed)) .1 w) h)
-      said-2 f g h (label-2-labels w) = wrong-halves (K .n) m .1 w
-
-      said-3 : unusedSet (K .n) (K .faults) ≡ false → unusedSet (K .n) (K .draining) ≡ false → LabelWhen K j m 3
-          → unusedSet (K .n) (K .closed) ≡ true
-      said-3 f g (label-3-faults u) = absurd (clash (unused-says (K .n) (K .faults) .1 u) f)
-      said-3 f g (label-3-draining u) = absurd (clash (unused-says (K .n) (K .draining) .1 u) g)
-      said-3 f g (label-3-closed u) = unused-says (K .n) (K .closed) .1 u
 
 -- ---- a hop
 
@@ -131,6 +68,13 @@ module _ (n j c d m : ℕ) (lab : ℕ → ℕ) where
   hop-refusal : H.hopRefusal n j c d m lab ≡ H.refusalOf (H.hopped n j c d m lab)
   unfolding H.hopped
   hop-refusal = by-cases (λ a. H.hopRefusal n j c d m lab ≡ H.refusalOf a) (eqb (H.hopRefusal n j c d m lab) 0) (λ z. eqb-true _ _ z) (λ _. refl)
+
+  -- why it is taken goes by the same number
+  pub reason-refusal : H.hopRefusal n j c d m lab ≡ X.refusalOf (X.hopReason n j c d m lab)
+  unfolding X.hopReason
+  reason-refusal =
+      by-cases (λ a. H.hopRefusal n j c d m lab ≡ X.refusalOf a) (eqb (H.hopRefusal n j c d m lab) 0)
+      (λ z. eqb-true _ _ z ∙ sym (explained-none n lab c d)) (λ _. refl)
 
   abbrev near : Bool
   near = some n (λ i. ltb highest (lab (flip i c)))
@@ -240,6 +184,8 @@ refusals = record {
   one-dimension = dimension-one;
   labelling = λ K j m. rw (← label-refusal K j m) (label-given K j m);
   hop = λ n j c d m lab. rw (← hop-refusal n j c d m lab) (hop-given n j c d m lab);
+  why-node = λ K j m x. rw (← node-refusal K j m x) (node-given K j m x);
+  why-hop = λ n j c d m lab. rw (← reason-refusal n j c d m lab) (hop-given n j c d m lab);
   walk = λ n j s d m room lab. rw (← walk-refusal n j s d m room lab) (walk-given n j s d m room lab);
   number = number-given;
   notice = notice-given;

@@ -8,6 +8,7 @@ use Rattle.jobs.proofs.Functions as jobs
 use Rattle.labels.proofs.Functions as labels
 use Rattle.hop.proofs.Functions as hop
 use Rattle.walk.proofs.Functions as walk
+use Rattle.why.proofs.Functions as why
 use Rattle.hcube.proofs.Functions as hcube
 use Rattle.promises.specs.Settled.{Settled, Unasked}
 
@@ -17,13 +18,19 @@ settled =
       hcube-label = settles hcube.label-says;
       hcube-hop = settles hcube.hop-says;
       hcube-walk = settles hcube.walk-says;
+      hcube-why-node = settles hcube.why-node-says;
+      hcube-why-hop = settles hcube.why-hop-says;
       hcube-notice-dimension = settles hcube.notice-dimension-says;
       hcube-read-notice = settles hcube.read-notice-says;
       labels-label = settles labels.label-says;
+      labels-label-refusal = settles labels.label-refusal-says;
+      labels-settle = settles labels.settle-says;
       hop-hop = settles hop.hop-says;
       hop-place-refusal = settles hop.place-refusal-says;
       walk-walk = settles walk.walk-says;
       walk-walk-for = settles walk.walk-for-says;
+      why-why-node = settles why.why-node-says;
+      why-why-hop = settles why.why-hop-says;
       notice-dimension = settles notice.dimension-says;
       notice-read = settles notice.read-says;
       notice-tail = settles notice.tail-says;
@@ -34,6 +41,10 @@ settled =
       cube-distance = settles cube.distance-says;
       cube-is-dimension = settles cube.is-dimension-says;
       jobs-is-job = settles jobs.is-job-says;
+      labels-start = settles labels.start-says;
+      labels-sweep = settles labels.sweep-says;
+      labels-finish = settles labels.finish-says;
+      hop-chosen-at = settles hop.chosen-at-says;
       hop-hop-at = settles hop.hop-at-says;
       cube-nodes = settles cube.nodes-says;
       cube-neighbour = settles cube.neighbour-says;
@@ -50,13 +61,19 @@ unasked =
       hcube-label = hcube.label-asks;
       hcube-hop = hcube.hop-asks;
       hcube-walk = hcube.walk-asks;
+      hcube-why-node = hcube.why-node-asks;
+      hcube-why-hop = hcube.why-hop-asks;
       hcube-notice-dimension = hcube.notice-dimension-asks;
       hcube-read-notice = hcube.read-notice-asks;
       labels-label = labels.label-asks;
+      labels-label-refusal = labels.label-refusal-asks;
+      labels-settle = labels.settle-asks;
       hop-hop = hop.hop-asks;
       hop-place-refusal = hop.place-refusal-asks;
       walk-walk = walk.walk-asks;
       walk-walk-for = walk.walk-for-asks;
+      why-why-node = why.why-node-asks;
+      why-why-hop = why.why-hop-asks;
       notice-dimension = notice.dimension-asks;
       notice-read = notice.read-asks;
       notice-tail = notice.tail-asks;

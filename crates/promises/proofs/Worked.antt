@@ -23,6 +23,11 @@ use Rattle.hop.specs.Hop.{answer, decide, hop, hopRefusal, hopped}
 use Rattle.hop.specs.declared.Hopped.{Hopped}
 use Rattle.walk.specs.Walk.{onto, stops, spot, turn, hops, last, row, rowBytes, refused, walkFrom, walkRefusal, walked}
 use Rattle.walk.specs.declared.Walked.{Walked}
+use Rattle.causes.specs.Cause.{badCause, causeOf, causeWith, earlier, from, nth, roundOf}
+use Rattle.why.specs.HopReasons as X
+use Rattle.why.specs.HopReasons.{explain, hopReason}
+use Rattle.why.specs.NodeReasons.{reasonOf}
+use Rattle.why.specs.declared.HopReason.{HopReason}
 use Rattle.theorems.specs.Words.{labelAt, walkOf}
 use Rattle.promises.specs.Worked.{k4, k4-by, k4-closes, k4-closes-both, k4-drains, k4-nine, p2, q3, those, visited, Worked}
 use Rattle.promises.proofs.Outcomes.{answered}
@@ -64,6 +69,11 @@ hop-on : {x : Hopped} (K : Cabinet) (j c d m : ℕ) (labels : List ℕ) → labe
     → hopped (K .n) j c d m (labelAt K) ≡ x
 hop-on K j c d m labels e f = ap (λ (l : List ℕ). hopped (K .n) j c d m (labelIn l)) e ∙ f
 
+-- and so is why
+why-on : {x : HopReason} (K : Cabinet) (j c d m : ℕ) (labels : List ℕ) → labelsOf K ≡ labels → hopReason (K .n) j c d m (labelIn labels) ≡ x
+    → hopReason (K .n) j c d m (labelAt K) ≡ x
+why-on K j c d m labels e f = ap (λ (l : List ℕ). hopReason (K .n) j c d m (labelIn l)) e ∙ f
+
 -- a walk on the labels of a cabinet is the walk on what they compute to
 on : {w : Walked} (K : Cabinet) (j s d : ℕ) (labels : List ℕ) → labelsOf K ≡ labels
     → walked (K .n) j s d (labelBytes (K .n)) rowBytes (labelIn labels) ≡ w → walkOf K j s d ≡ w
@@ -83,6 +93,7 @@ pub worked : Worked
 unfolding those visited walked walkRefusal walkFrom refused first row last hops turn spot stops onto hopped hopRefusal hop decide answer firstScan lowest
     takes suits apart dist ones labelIn tab isDimension isRule tableLen unusedSet nodeBit bit flip some least count labelled labelRefusal exchangesOf
     exchanges labelsOf label labelOf safe rounds working quiet newly meets marked isJob labelBytes labelsAfter withHalf late
+    reasonOf roundOf causeOf earlier causeWith badCause nth from hopReason explain X.answer
 worked =
     record {
       table-bytes = refl;
@@ -149,6 +160,15 @@ worked =
       p2-out = refl;
       p2-labels = p2-labels;
       p2-1-2 = on p2 0 1 2 _ p2-labels refl;
+      k4-why-14 = refl;
+      k4-why-0 = refl;
+      k4-why-1 = refl;
+      k4-why-2 = refl;
+      k4-older-why-14 = refl;
+      k4-drains-why-15 = refl;
+      k4-why-13-0 = why-on k4 0 13 0 32 _ k4-labels refl;
+      k4-why-6-0 = why-on k4 0 6 0 32 _ k4-labels refl;
+      k4-drains-why-7-15 = why-on k4-drains 0 7 15 32 _ k4-drains-labels refl;
       r3-at-1 = refl;
       r3-at-0 = refl;
       r3-1-7 = refl;

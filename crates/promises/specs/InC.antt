@@ -13,6 +13,11 @@ use Rattle.labels.proofs.Functions as labels
 use Rattle.hop.specs.declared.Decision.the-variants.{Deliver, Hop, Halted}
 use Rattle.hop.specs.declared.Hopped.the-variants as hopped
 use Rattle.hop.proofs.Functions as hop
+use Rattle.causes.specs.declared.Cause.the-variants as cause
+use Rattle.why.specs.declared.HopReason.the-variants as reason
+use Rattle.why.specs.declared.NodeReason.{NodeReason}
+use Rattle.why.specs.declared.NodeReason.the-variants as because
+use Rattle.why.proofs.Functions as why
 use Rattle.walk.specs.Walk.{rowBytes}
 use Rattle.walk.specs.declared.Ending.the-variants as ending
 use Rattle.walk.specs.declared.Walked.{Walked}
@@ -20,6 +25,16 @@ use Rattle.walk.proofs.Functions as walk
 use Rattle.theorems.specs.Words.{place}
 use Rattle.hcube.specs.Decoded.{nodeAt, refusalPart, valuePart}
 use Rattle.hcube.proofs.Functions as hcube
+
+-- the number of a node's reason, case by case
+abbrev pub nodeNumber : NodeReason → ℕ
+nodeNumber (because.Safe faulty bad) = bad * 1099511627776 + faulty * 4294967296
+nodeNumber (because.Unsafe l round (cause.Faulty a b)) = 72057594037927936 + b * 1099511627776 + a * 4294967296 + l * 65536 + round
+nodeNumber (because.Unsafe l round (cause.Two a b)) = 2 * 72057594037927936 + b * 1099511627776 + a * 4294967296 + l * 65536 + round
+nodeNumber (because.Unsafe l round (cause.Three a b c)) =
+    2 * 72057594037927936 + c * 281474976710656 + b * 1099511627776 + a * 4294967296 + l * 65536 + round
+nodeNumber (because.Out l) = l * 65536
+nodeNumber (because.Refused k) = k * 16777216
 
 pub record InC : Type 0 where
   -- "to C each answers one number: refusal × 16,777,216 + kind × 65,536 + value": that of the answer that the library's own function gives.
@@ -40,6 +55,24 @@ pub record InC : Type 0 where
       {n j c d r : ℕ} {buffer : List ℕ} → May hcube.hop (n, j, c, d, buffer) r tt → May hop.hop (n, j, c, d, buffer) (hopped.Decided Halted) tt → r ≡ 131072
   pub hop-refuses :
       {n j c d r k : ℕ} {buffer : List ℕ} → May hcube.hop (n, j, c, d, buffer) r tt → May hop.hop (n, j, c, d, buffer) (hopped.Refused k) tt → r ≡ k * 16777216
+  -- "Why a hop is taken: the hop's kind, value is scan × 256 + dimension"
+  pub why-hop-delivers :
+      {n j c d r : ℕ} {buffer : List ℕ} → May hcube.why-hop (n, j, c, d, buffer) r tt → May why.why-hop (n, j, c, d, buffer) reason.Deliver tt → r ≡ 0
+  pub why-hop-hops :
+      {n j c d r s i : ℕ} {buffer : List ℕ} → May hcube.why-hop (n, j, c, d, buffer) r tt → May why.why-hop (n, j, c, d, buffer) (reason.Hop s i) tt
+      → r ≡ 65536 + s * 256 + i
+  pub why-hop-halts :
+      {n j c d r : ℕ} {buffer : List ℕ} → May hcube.why-hop (n, j, c, d, buffer) r tt → May why.why-hop (n, j, c, d, buffer) reason.Halted tt → r ≡ 131072
+  pub why-hop-refuses :
+      {n j c d r k : ℕ} {buffer : List ℕ} → May hcube.why-hop (n, j, c, d, buffer) r tt → May why.why-hop (n, j, c, d, buffer) (reason.Refused k) tt
+      → r ≡ k * 16777216
+  -- "Why a node has its label: kind is the label, value the round that marked it, and cause × 2^56 + third × 2^48 + second × 2^40 + first × 2^32 are added:
+  -- cause 1 has two faulty neighbours, by their dimensions, cause 2 the k neighbours faulty or marked in an earlier round, and for a safe node cause is 0, first
+  -- counts the faulty and second the non-safe neighbours; a field that is not named is 0"
+  pub why-node-number :
+      {n rule j x r : ℕ} {faults draining closed before after after′ : List ℕ} {a : NodeReason}
+      → May hcube.why-node (n, rule, j, x, faults, draining, closed, before) r after
+      → May why.why-node (n, rule, j, x, faults, draining, closed, before) a after′ → r ≡ nodeNumber a
   -- "Walk: kind 0 delivered, 1 halted, value is the hop count"
   pub walk-delivers :
       {n j s d r : ℕ} {buffer before after : List ℕ} {w : Walked} → May hcube.walk (n, j, s, d, buffer, before) r after

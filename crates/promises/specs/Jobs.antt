@@ -14,6 +14,8 @@ use Rattle.rule.specs.Cabinet.{Cabinet, labelsOf}
 use Rattle.labels.specs.declared.Labelled.{Labelled}
 use Rattle.labels.specs.declared.Labelled.the-variants.{Exchanges}
 use Rattle.hop.specs.declared.Hopped.{Hopped}
+use Rattle.why.specs.declared.HopReason.{HopReason}
+use Rattle.why.specs.declared.NodeReason.{NodeReason}
 use Rattle.walk.specs.Walk.{rowBytes}
 use Rattle.walk.specs.declared.Walked.{Walked}
 use Rattle.theorems.specs.Demand3.{Walks}
@@ -32,6 +34,10 @@ pub data Meanwhile (lib : Library) (n j : ℕ) : (l l′ : List ℕ) → Type 0 
   another :
       {l l₁ l′ : List ℕ} {i : ℕ} {K : Cabinet} {x : Labelled} → i ≢ j → K .n ≡ n → lib .labels K i l x l₁ → Meanwhile lib n j l₁ l′
       → Meanwhile lib n j l l′
+  -- or were told why a node has its label, which labels them too
+  another-why :
+      {l l₁ l′ : List ℕ} {i x : ℕ} {K : Cabinet} {a : NodeReason} → i ≢ j → K .n ≡ n → lib .explains K i x l a l₁ → Meanwhile lib n j l₁ l′
+      → Meanwhile lib n j l l′
 
 pub record Jobs (lib : Library) : Type 0 where
   -- ---- what a job sees: K has the shared tables and its own closed one
@@ -48,6 +54,15 @@ pub record Jobs (lib : Library) : Type 0 where
       {n j c d : ℕ} {l l′ : List ℕ} {x x′ : Hopped} → lib .hops n j c d l x → lib .hops n j c d l′ x′ → SameTo n j l l′ → x ≡ x′
   pub walk-own :
       {n j s d room : ℕ} {l l′ : List ℕ} {w w′ : Walked} → lib .walks n j s d l room w → lib .walks n j s d l′ room w′ → SameTo n j l l′ → w ≡ w′
+  -- and so do the questions that say why
+  pub why-node-own :
+      {K : Cabinet} {j x : ℕ} {l l′ after after′ : List ℕ} {a a′ : NodeReason} → lib .explains K j x l a after → lib .explains K j x l′ a′ after′
+      → length l ≡ length l′ → a ≡ a′
+  pub why-labels-own :
+      {K : Cabinet} {j x : ℕ} {l l′ after after′ : List ℕ} {a a′ : NodeReason} → lib .explains K j x l a after → lib .explains K j x l′ a′ after′
+      → SameTo (K .n) j l l′ → SameTo (K .n) j after after′
+  pub why-hop-own :
+      {n j c d : ℕ} {l l′ : List ℕ} {a a′ : HopReason} → lib .reasons n j c d l a → lib .reasons n j c d l′ a′ → SameTo n j l l′ → a ≡ a′
   -- "closed counts as faulty": in which of the two tables a node stands makes no difference. So a job has the labels and the count of a cabinet of its own in
   -- which the nodes that it closes are in the fault table
   pub closed-as-faulty :
@@ -60,6 +75,8 @@ pub record Jobs (lib : Library) : Type 0 where
   -- was accepted or refused,
   pub other-labelled :
       {K : Cabinet} {i j : ℕ} {l after : List ℕ} {x : Labelled} → Job j → i ≢ j → lib .labels K i l x after → SameTo (K .n) j l after
+  pub other-explained :
+      {K : Cabinet} {i j x : ℕ} {l after : List ℕ} {a : NodeReason} → Job j → i ≢ j → lib .explains K i x l a after → SameTo (K .n) j l after
   -- and however often it was labelled meanwhile,
   pub unmoved : {n j : ℕ} {l l′ : List ℕ} → Job j → Meanwhile lib n j l l′ → SameTo n j l l′
   -- and the walks that its labelling promised arrive as promised
@@ -85,6 +102,12 @@ pub record Jobs (lib : Library) : Type 0 where
   pub hop-alike :
       {n i j c d : ℕ} {l l′ : List ℕ} {x x′ : Hopped} → Job i → Job j → lib .hops n i c d l x → lib .hops n j c d l′ x′ → length l ≡ length l′
       → half i (2 ^ n) l ≡ half j (2 ^ n) l′ → x ≡ x′
+  pub why-node-alike :
+      {K : Cabinet} {i j x : ℕ} {l l′ after after′ : List ℕ} {a a′ : NodeReason} → Job i → Job j → lib .explains K i x l a after
+      → lib .explains K j x l′ a′ after′ → length l ≡ length l′ → a ≡ a′
+  pub why-hop-alike :
+      {n i j c d : ℕ} {l l′ : List ℕ} {a a′ : HopReason} → Job i → Job j → lib .reasons n i c d l a → lib .reasons n j c d l′ a′ → length l ≡ length l′
+      → half i (2 ^ n) l ≡ half j (2 ^ n) l′ → a ≡ a′
   pub walk-alike :
       {n i j s d room : ℕ} {l l′ : List ℕ} {w w′ : Walked} → Job i → Job j → lib .walks n i s d l room w → lib .walks n j s d l′ room w′
       → length l ≡ length l′ → half i (2 ^ n) l ≡ half j (2 ^ n) l′ → w ≡ w′

@@ -2,6 +2,7 @@ pub mod Library
 pub mod Refusals
 pub mod Demands
 pub mod Jobs
+pub mod Why
 pub mod InC
 pub mod InRattle
 pub mod Answers

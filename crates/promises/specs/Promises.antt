@@ -13,6 +13,7 @@ use Rattle.rule.specs.Good.{LabelsGood}
 use Rattle.rule.specs.Nodes.{Nodes}
 use Rattle.rule.specs.Rounds.{Marks, Rested}
 use Rattle.rule.specs.Rules.{Rules}
+use Rattle.causes.specs.Laws.{CauseLaws}
 use Rattle.enough.specs.Enough.{Enough, FewOutSafe, NotEnough}
 use Rattle.scans.specs.Hit.{TableHits}
 use Rattle.scans.specs.Progress.{ScansProgress}
@@ -21,6 +22,7 @@ use Rattle.hop.specs.declared.Decision.{Decision}
 use Rattle.walk.specs.Laws.{MessageLaws}
 use Rattle.walk.specs.Local.{WalkLocal}
 use Rattle.walk.specs.Once.{Once}
+use Rattle.why.specs.Laws.{WhyLaws}
 use Rattle.theorems.specs.Before.{AsBefore}
 use Rattle.theorems.specs.Delivers.{FewOutDelivers}
 use Rattle.theorems.specs.Demand2.{Demand2}
@@ -40,6 +42,7 @@ use Rattle.promises.specs.Library as library
 use Rattle.promises.specs.Refusals.{Refusals}
 use Rattle.promises.specs.Settled.{Settled, Unasked}
 use Rattle.promises.specs.Tied.{AllTied, InOrder}
+use Rattle.promises.specs.Why.{Whys}
 use Rattle.promises.specs.Worked.{Worked}
 
 pub record Promises : Type 2 where
@@ -56,6 +59,9 @@ pub record Promises : Type 2 where
   -- two jobs: neither sees anything of the other
   pub rattle-jobs : Jobs library.rattle
   pub c-jobs : Jobs library.c
+  -- why a node has its label, and why a hop is taken
+  pub rattle-whys : Whys library.rattle
+  pub c-whys : Whys library.c
   -- what C and a caller in Rattle have in hand
   pub in-c : InC
   pub in-rattle : InRattle
@@ -70,6 +76,8 @@ pub record Promises : Type 2 where
   pub good : LabelsGood
   pub rules : (n : ℕ) (F : ℕ → Bool) → Rules n F
   pub two-rules : TwoRules
+  pub causes : CauseLaws
+  pub why : WhyLaws
   pub enough : (n : ℕ) (F : ℕ → Bool) → Enough n F
   pub not-enough : (n : ℕ) → NotEnough n
   pub few-out-safe : FewOutSafe

@@ -16,6 +16,8 @@ use Rattle.labels.specs.Labelling as L
 use Rattle.hop.specs.Hop as H
 use Rattle.hop.specs.declared.Decision.the-variants.{Hop}
 use Rattle.walk.specs.Walk as W
+use Rattle.why.specs.HopReasons as X
+use Rattle.why.specs.NodeReasons as Y
 
 -- the first number of the order whose case holds is given, and 0 where none does
 pub data Given (When : ℕ → Type 0) : (order : List ℕ) (k : ℕ) → Type 0 where
@@ -71,6 +73,14 @@ pub data LabelWhen (K : Cabinet) (j m : ℕ) : ℕ → Type 0 where
 
 abbrev pub LabelGiven : (K : Cabinet) (j m : ℕ) → ℕ → Type 0
 LabelGiven K j m = Given (LabelWhen K j m) (1 ∷ 18 ∷ 19 ∷ 2 ∷ 3 ∷ [])
+
+-- ---- why node x has its label, with what labelling is lent: "those of labelling, then 5 for the node"
+
+abbrev pub NodeWhen : (K : Cabinet) (j m x : ℕ) → ℕ → Type 0
+NodeWhen K j m x k = LabelWhen K j m k ⊎ ((k ≡ 5) × (2 ^ K .n ≤ x))
+
+abbrev pub NodeGiven : (K : Cabinet) (j m x : ℕ) → ℕ → Type 0
+NodeGiven K j m x = Given (NodeWhen K j m x) (1 ∷ 18 ∷ 19 ∷ 2 ∷ 3 ∷ 5 ∷ [])
 
 -- ---- a hop at c for d, for job j with a label buffer of m bytes: "1, 19, 2, 5, 4, 6". lab are the labels of the job's half, and no byte of the other is
 -- in a case
@@ -175,6 +185,8 @@ pub record Refusals : Type 1 where
   -- each question's refusal, 0 for none, is the number given, and a notice's place the one given with it
   pub labelling : (K : Cabinet) (j m : ℕ) → LabelGiven K j m (L.refusalOf (L.labelled K j m))
   pub hop : (n j c d m : ℕ) (lab : ℕ → ℕ) → HopGiven n j c d m lab (H.refusalOf (H.hopped n j c d m lab))
+  pub why-node : (K : Cabinet) (j m x : ℕ) → NodeGiven K j m x (Y.refusalOf (Y.nodeReason K j m x))
+  pub why-hop : (n j c d m : ℕ) (lab : ℕ → ℕ) → HopGiven n j c d m lab (X.refusalOf (X.hopReason n j c d m lab))
   pub walk : (n j s d m room : ℕ) (lab : ℕ → ℕ) → WalkGiven n j s d m room lab (W.refusalOf (W.walked n j s d m room lab .ending))
   pub number : (bytes : List ℕ) (at : ℕ) → NumberGiven bytes at (refusalIn (numberAt bytes at))
   pub notice : (bytes table : List ℕ) → NoticeGiven bytes table (N.refusalOf (N.noticed bytes table)) (N.placeOf (N.noticed bytes table))

@@ -9,19 +9,26 @@ use Rattle.jobs.proofs.Functions as jobs
 use Rattle.labels.proofs.Functions as labels
 use Rattle.hop.proofs.Functions as hop
 use Rattle.walk.proofs.Functions as walk
+use Rattle.why.proofs.Functions as why
 use Rattle.hcube.proofs.Functions as hcube
 
 pub record Settled : Type 0 where
   pub hcube-label : Settles hcube.label
   pub hcube-hop : Settles hcube.hop
   pub hcube-walk : Settles hcube.walk
+  pub hcube-why-node : Settles hcube.why-node
+  pub hcube-why-hop : Settles hcube.why-hop
   pub hcube-notice-dimension : Settles hcube.notice-dimension
   pub hcube-read-notice : Settles hcube.read-notice
   pub labels-label : Settles labels.label
+  pub labels-label-refusal : Settles labels.label-refusal
+  pub labels-settle : Settles labels.settle
   pub hop-hop : Settles hop.hop
   pub hop-place-refusal : Settles hop.place-refusal
   pub walk-walk : Settles walk.walk
   pub walk-walk-for : Settles walk.walk-for
+  pub why-why-node : Settles why.why-node
+  pub why-why-hop : Settles why.why-hop
   pub notice-dimension : Settles notice.dimension
   pub notice-read : Settles notice.read
   -- the returned part: its bytes, and its place in the caller's memory. (The ghost name that the logic gives a reference is not settled: no
@@ -35,7 +42,11 @@ pub record Settled : Type 0 where
   pub cube-is-dimension : Settles cube.is-dimension
   pub jobs-is-job : Settles jobs.is-job
   -- what one crate lends another
+  pub labels-start : Settles labels.start
+  pub labels-sweep : Settles labels.sweep
+  pub labels-finish : Settles labels.finish
   pub hop-hop-at : Settles hop.hop-at
+  pub hop-chosen-at : Settles hop.chosen-at
   pub cube-nodes : Settles cube.nodes
   pub cube-neighbour : Settles cube.neighbour
   pub cube-table-len : Settles cube.table-len
@@ -45,18 +56,24 @@ pub record Settled : Type 0 where
   -- the half of a job: its bytes, and its place in the caller's memory
   pub jobs-half : Settles jobs.half
 
--- all but those last eight
+-- all but those last twelve
 pub record Unasked : Type 2 where
   pub hcube-label : AsksNothing hcube.label
   pub hcube-hop : AsksNothing hcube.hop
   pub hcube-walk : AsksNothing hcube.walk
+  pub hcube-why-node : AsksNothing hcube.why-node
+  pub hcube-why-hop : AsksNothing hcube.why-hop
   pub hcube-notice-dimension : AsksNothing hcube.notice-dimension
   pub hcube-read-notice : AsksNothing hcube.read-notice
   pub labels-label : AsksNothing labels.label
+  pub labels-label-refusal : AsksNothing labels.label-refusal
+  pub labels-settle : AsksNothing labels.settle
   pub hop-hop : AsksNothing hop.hop
   pub hop-place-refusal : AsksNothing hop.place-refusal
   pub walk-walk : AsksNothing walk.walk
   pub walk-walk-for : AsksNothing walk.walk-for
+  pub why-why-node : AsksNothing why.why-node
+  pub why-why-hop : AsksNothing why.why-hop
   pub notice-dimension : AsksNothing notice.dimension
   pub notice-read : AsksNothing notice.read
   pub notice-tail : AsksNothing notice.tail

@@ -33,20 +33,31 @@ use Rattle.jobs.proofs.half as jobs-half
 use Rattle.jobs.proofs.is_job as jobs-is-job
 use Rattle.jobs.proofs.label_bytes as jobs-label-bytes
 use Rattle.labels.proofs.Functions as labels
+use Rattle.labels.proofs.finish as labels-finish
 use Rattle.labels.proofs.label as labels-label
+use Rattle.labels.proofs.label_refusal as labels-label-refusal
+use Rattle.labels.proofs.settle as labels-settle
+use Rattle.labels.proofs.start as labels-start
+use Rattle.labels.proofs.sweep as labels-sweep
 use Rattle.hop.proofs.Functions as hop
+use Rattle.hop.proofs.chosen_at as hop-chosen-at
 use Rattle.hop.proofs.hop as hop-hop
 use Rattle.hop.proofs.hop_at as hop-hop-at
 use Rattle.hop.proofs.place_refusal as hop-place-refusal
 use Rattle.walk.proofs.Functions as walk
 use Rattle.walk.proofs.walk as walk-walk
 use Rattle.walk.proofs.walk_for as walk-walk-for
+use Rattle.why.proofs.Functions as why
+use Rattle.why.proofs.why_hop as why-why-hop
+use Rattle.why.proofs.why_node as why-why-node
 use Rattle.hcube.proofs.Functions as hcube
 use Rattle.hcube.proofs.hcube_hop as hcube-hop
 use Rattle.hcube.proofs.hcube_label as hcube-label
 use Rattle.hcube.proofs.hcube_notice_dimension as hcube-notice-dimension
 use Rattle.hcube.proofs.hcube_read_notice as hcube-read-notice
 use Rattle.hcube.proofs.hcube_walk as hcube-walk
+use Rattle.hcube.proofs.hcube_why_hop as hcube-why-hop
+use Rattle.hcube.proofs.hcube_why_node as hcube-why-node
 
 module _ {T : Ended} {A X B : Type 0} (f : Function T A X B) (written : Written T) where
   -- a method that holds a borrow, of which the check makes no claims: these are its clauses, and the claim is what whoever has its `ensures` learns
@@ -64,6 +75,12 @@ pub record AllTied : Type 2 where
   pub hcube-walk :
       Tied hcube.walk (λ w. hcube-walk.clauses (w .𝓤) (w .H) (w .𝓖 .A) (w .𝓜 .mem) (w .𝓡 .run))
       hcube-walk.Reads.Asked hcube-walk.Reads.Post
+  pub hcube-why-node :
+      Tied hcube.why-node (λ w. hcube-why-node.clauses (w .𝓤) (w .H) (w .𝓖 .A) (w .𝓜 .mem) (w .𝓡 .run))
+      hcube-why-node.Reads.Asked hcube-why-node.Reads.Post
+  pub hcube-why-hop :
+      Tied hcube.why-hop (λ w. hcube-why-hop.clauses (w .𝓤) (w .H) (w .𝓖 .A) (w .𝓜 .mem) (w .𝓡 .run))
+      hcube-why-hop.Reads.Asked hcube-why-hop.Reads.Post
   pub hcube-notice-dimension :
       Tied hcube.notice-dimension (λ w. hcube-notice-dimension.clauses (w .𝓤) (w .H) (w .𝓖 .A) (w .𝓜 .mem) (w .𝓡 .run))
       hcube-notice-dimension.Reads.Asked hcube-notice-dimension.Reads.Post
@@ -73,10 +90,28 @@ pub record AllTied : Type 2 where
   pub labels-label :
       Tied labels.label (λ w. labels-label.clauses (w .𝓤) (w .H) (w .𝓖 .A) (w .𝓜 .mem) (w .𝓡 .run))
       labels-label.Reads.Asked labels-label.Reads.Post
+  pub labels-label-refusal :
+      Tied labels.label-refusal (λ w. labels-label-refusal.clauses (w .𝓤) (w .H) (w .𝓖 .A) (w .𝓜 .mem) (w .𝓡 .run))
+      labels-label-refusal.Reads.Asked labels-label-refusal.Reads.Post
+  pub labels-start :
+      Tied labels.start (λ w. labels-start.clauses (w .𝓤) (w .H) (w .𝓖 .A) (w .𝓜 .mem) (w .𝓡 .run))
+      labels-start.Reads.Asked labels-start.Reads.Post
+  pub labels-sweep :
+      Tied labels.sweep (λ w. labels-sweep.clauses (w .𝓤) (w .H) (w .𝓖 .A) (w .𝓜 .mem) (w .𝓡 .run))
+      labels-sweep.Reads.Asked labels-sweep.Reads.Post
+  pub labels-settle :
+      Tied labels.settle (λ w. labels-settle.clauses (w .𝓤) (w .H) (w .𝓖 .A) (w .𝓜 .mem) (w .𝓡 .run))
+      labels-settle.Reads.Asked labels-settle.Reads.Post
+  pub labels-finish :
+      Tied labels.finish (λ w. labels-finish.clauses (w .𝓤) (w .H) (w .𝓖 .A) (w .𝓜 .mem) (w .𝓡 .run))
+      labels-finish.Reads.Asked labels-finish.Reads.Post
   pub hop-hop : Tied hop.hop (λ w. hop-hop.clauses (w .𝓤) (w .H) (w .𝓖 .A) (w .𝓜 .mem) (w .𝓡 .run)) hop-hop.Reads.Asked hop-hop.Reads.Post
   pub hop-place-refusal :
       Tied hop.place-refusal (λ w. hop-place-refusal.clauses (w .𝓤) (w .H) (w .𝓖 .A) (w .𝓜 .mem) (w .𝓡 .run))
       hop-place-refusal.Reads.Asked hop-place-refusal.Reads.Post
+  pub hop-chosen-at :
+      Tied hop.chosen-at (λ w. hop-chosen-at.clauses (w .𝓤) (w .H) (w .𝓖 .A) (w .𝓜 .mem) (w .𝓡 .run))
+      hop-chosen-at.Reads.Asked hop-chosen-at.Reads.Post
   pub hop-hop-at :
       Tied hop.hop-at (λ w. hop-hop-at.clauses (w .𝓤) (w .H) (w .𝓖 .A) (w .𝓜 .mem) (w .𝓡 .run))
       hop-hop-at.Reads.Asked hop-hop-at.Reads.Post
@@ -84,6 +119,12 @@ pub record AllTied : Type 2 where
   pub walk-walk-for :
       Tied walk.walk-for (λ w. walk-walk-for.clauses (w .𝓤) (w .H) (w .𝓖 .A) (w .𝓜 .mem) (w .𝓡 .run))
       walk-walk-for.Reads.Asked walk-walk-for.Reads.Post
+  pub why-why-node :
+      Tied why.why-node (λ w. why-why-node.clauses (w .𝓤) (w .H) (w .𝓖 .A) (w .𝓜 .mem) (w .𝓡 .run))
+      why-why-node.Reads.Asked why-why-node.Reads.Post
+  pub why-why-hop :
+      Tied why.why-hop (λ w. why-why-hop.clauses (w .𝓤) (w .H) (w .𝓖 .A) (w .𝓜 .mem) (w .𝓡 .run))
+      why-why-hop.Reads.Asked why-why-hop.Reads.Post
   pub notice-dimension :
       Tied notice.dimension (λ w. notice-dimension.clauses (w .𝓤) (w .H) (w .𝓖 .A) (w .𝓜 .mem) (w .𝓡 .run))
       notice-dimension.Reads.Asked notice-dimension.Reads.Post
@@ -135,7 +176,7 @@ abbrev pub Handed : {T : Ended} {A X B : Type 0} → Function T A X B → ((κs 
 Handed {T} f seen = (κs : Lfts (T .signature .lifetimes)) (a : Args (T .signature) κs) → f .handed κs a ≡ seen κs a
 
 -- the questions are handed their parameters one after the other, numbers as they are and tables by their bytes: so the first number is the dimension and
--- the job stands before the nodes, the first node is the one that a hop is decided at or a walk begins at, and of labelling's tables the first is the fault
+-- the job stands before the nodes, the first node is the one that a hop is decided at, a walk begins at or a label is asked about, and of labelling's tables the first is the fault
 -- table, the second that of the draining nodes and the third that of the nodes that the job closes
 pub record InOrder : Type 0 where
   pub hcube-label :
@@ -143,6 +184,18 @@ pub record InOrder : Type 0 where
       (a .0, a .1 .0, a .1 .1 .0, now (a .1 .1 .1 .0), now (a .1 .1 .1 .1 .0), now (a .1 .1 .1 .1 .1 .0), now (a .1 .1 .1 .1 .1 .1 .0)))
   pub hcube-hop : Handed hcube.hop (λ κs a. (a .0, a .1 .0, a .1 .1 .0, a .1 .1 .1 .0, now (a .1 .1 .1 .1 .0)))
   pub hcube-walk : Handed hcube.walk (λ κs a. (a .0, a .1 .0, a .1 .1 .0, a .1 .1 .1 .0, now (a .1 .1 .1 .1 .0), now (a .1 .1 .1 .1 .1 .0)))
+  pub hcube-why-node :
+      Handed hcube.why-node (λ κs a. (
+        a .0,
+        a .1 .0,
+        a .1 .1 .0,
+        a .1 .1 .1 .0,
+        now (a .1 .1 .1 .1 .0),
+        now (a .1 .1 .1 .1 .1 .0),
+        now (a .1 .1 .1 .1 .1 .1 .0),
+        now (a .1 .1 .1 .1 .1 .1 .1 .0),
+      ))
+  pub hcube-why-hop : Handed hcube.why-hop (λ κs a. (a .0, a .1 .0, a .1 .1 .0, a .1 .1 .1 .0, now (a .1 .1 .1 .1 .0)))
   pub hcube-notice-dimension : Handed hcube.notice-dimension (λ κs a. now (a .0))
   pub hcube-read-notice : Handed hcube.read-notice (λ κs a. (now (a .0), now (a .1 .0)))
   pub labels-label :
@@ -151,5 +204,17 @@ pub record InOrder : Type 0 where
   pub hop-hop : Handed hop.hop (λ κs a. (a .0, a .1 .0, a .1 .1 .0, a .1 .1 .1 .0, now (a .1 .1 .1 .1 .0)))
   pub walk-walk : Handed walk.walk (λ κs a. (a .0, a .1 .0, a .1 .1 .0, a .1 .1 .1 .0, now (a .1 .1 .1 .1 .0)))
   pub walk-walk-for : Handed walk.walk-for (λ κs a. (a .0, a .1 .0, a .1 .1 .0, a .1 .1 .1 .0, now (a .1 .1 .1 .1 .0), a .1 .1 .1 .1 .1 .0))
+  pub why-why-node :
+      Handed why.why-node (λ κs a. (
+        a .0,
+        a .1 .0,
+        a .1 .1 .0,
+        a .1 .1 .1 .0,
+        now (a .1 .1 .1 .1 .0),
+        now (a .1 .1 .1 .1 .1 .0),
+        now (a .1 .1 .1 .1 .1 .1 .0),
+        now (a .1 .1 .1 .1 .1 .1 .1 .0),
+      ))
+  pub why-why-hop : Handed why.why-hop (λ κs a. (a .0, a .1 .0, a .1 .1 .0, a .1 .1 .1 .0, now (a .1 .1 .1 .1 .0)))
   pub notice-dimension : Handed notice.dimension (λ κs a. now (a .0))
   pub notice-read : Handed notice.read (λ κs a. (now (a .0), now (a .1 .0)))

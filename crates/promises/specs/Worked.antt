@@ -21,6 +21,11 @@ use Rattle.walk.specs.Walk.{refused, rowBytes, walked}
 use Rattle.walk.specs.declared.Ending.{Ending}
 use Rattle.walk.specs.declared.Ending.the-variants.{Delivered, Halted}
 use Rattle.walk.specs.declared.Walked.{Walked}
+use Rattle.causes.specs.declared.Cause.the-variants.{Faulty, Two, Three}
+use Rattle.why.specs.HopReasons.{hopReason}
+use Rattle.why.specs.NodeReasons.{reasonOf}
+use Rattle.why.specs.declared.HopReason.the-variants as why
+use Rattle.why.specs.declared.NodeReason.the-variants.{Safe, Unsafe, Out}
 use Rattle.theorems.specs.HowLong.{isOut, isUnsafe}
 use Rattle.theorems.specs.Words.{labelAt, walkOf}
 
@@ -178,6 +183,21 @@ pub record Worked : Type 0 where
   pub p2-out : outOfWork p2 ≡ 2
   pub p2-labels : labelsOf p2 ≡ 3 ∷ 2 ∷ 2 ∷ 3 ∷ []
   pub p2-1-2 : walkOf p2 0 1 2 ≡ visited (1 ∷ []) 0 16 Halted
+  -- ---- why
+
+  -- k4's node 14 met the rule in round 2: of its neighbours 15 is faulty, and 12 and 10 were marked in round 1, as was 6, which is not named
+  pub k4-why-14 : reasonOf k4 14 ≡ Unsafe 2 2 (Three 0 1 2)
+  -- 0 has three faulty neighbours, of which the two lowest are named; 1 is safe, with one neighbour that is not; and 2 is faulty
+  pub k4-why-0 : reasonOf k4 0 ≡ Unsafe 1 1 (Faulty 1 2)
+  pub k4-why-1 : reasonOf k4 1 ≡ Safe 0 1
+  pub k4-why-2 : reasonOf k4 2 ≡ Out 3
+  -- by rule 2 two are enough: 14 is marked in round 2 by 15 and 12, and 3 in round 2
+  pub k4-older-why-14 : reasonOf (k4-by 2) 14 ≡ Unsafe 2 2 (Two 0 1)
+  pub k4-drains-why-15 : reasonOf k4-drains 15 ≡ Out 4
+  -- 13 to 0 begins with a forward hop to a safe node, 6 to 0 with a spare one, and 7 to 15, which drains, is before the scans
+  pub k4-why-13-0 : hopReason 4 0 13 0 32 (labelAt k4) ≡ why.Hop 1 2
+  pub k4-why-6-0 : hopReason 4 0 6 0 32 (labelAt k4) ≡ why.Hop 4 0
+  pub k4-drains-why-7-15 : hopReason 4 0 7 15 32 (labelAt k4-drains) ≡ why.Hop 0 3
   -- ---- labels that no tables give
 
   -- a frame goes round: from 1 to 0, from 0 to 1, and never comes to 7; the walk is refused

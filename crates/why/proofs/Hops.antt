@@ -14,12 +14,14 @@ use Rattle.cube.proofs.Bools.{by-cases, either}
 use Rattle.cube.proofs.Search.{the-least}
 use Rattle.jobs.specs.Jobs.{Halved, half, labelFor}
 use Rattle.scans.specs.Scans.{firstScan, lowest, noScan, takes}
+use Rattle.scans.proofs.Local.{first-same, lowest-same}
 use Rattle.hop.specs.Helpers.{Asked, Placed, chosen}
 use Rattle.hop.specs.Hop as H
 use Rattle.hop.specs.declared.Decision.{Decision}
 use Rattle.hop.specs.declared.Decision.the-variants as decision
 use Rattle.hop.specs.declared.Hopped.the-variants as hopped
 use Rattle.hop.proofs.Gathered.{arrives}
+use Rattle.hop.proofs.Local.{refusal-same}
 use Rattle.hop.proofs.Refusals.{hop-good, of-decided}
 use Rattle.why.specs.HopReasons.{answer, explain, hopReason, withoutScan}
 use Rattle.why.specs.declared.HopReason.{HopReason}
@@ -106,6 +108,18 @@ module _ (n j c d m : ℕ) (lab : ℕ → ℕ) where
           let q : hopped.Refused (H.hopRefusal n j c d m lab) ≡ hopped.Refused k = rw a at e in
           let p : H.hopRefusal n j c d m lab ≡ k = cc in
           rw a (ap Refused (sym p))
+
+  -- it goes by the label of c and those of its neighbours, as the hop does
+  pub reason-same : (lab′ : ℕ → ℕ) → lab c ≡ lab′ c → ((i : ℕ) → i < n → lab (flip i c) ≡ lab′ (flip i c))
+      → hopReason n j c d m lab ≡ hopReason n j c d m lab′
+  unfolding hopReason explain
+  reason-same lab′ same-own same-near =
+      rw (
+        refusal-same n j c d m lab lab′ same-own same-near,
+        same-own,
+        first-same n c d (lab′ c) near (λ i. lab′ (flip i c)) same-near,
+        lowest-same n c d (lab′ c) near (λ i. lab′ (flip i c)) same-near,
+      )
 
   -- ---- a decision, and what the scans picked
 

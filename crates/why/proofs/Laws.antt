@@ -8,7 +8,7 @@ use lib.Dec.{eqb, leb, ltb}
 use borrow.Author.Tests.{eqb-true, eqb-false, ltb-true, ltb-false}
 use Rattle.cube.specs.Cube.{dist, flip}
 use Rattle.cube.specs.Tables.{labelIn}
-use Rattle.cube.proofs.Bools.{clash, either}
+use Rattle.cube.proofs.Bools.{by-cases, clash, either}
 use Rattle.rule.specs.Cabinet.{Cabinet, labelsOf, out, outByte}
 use Rattle.rule.specs.Rule.{label, labelOf, marked, rounds, safe}
 use Rattle.rule.proofs.Bytes.{Label, four}
@@ -19,9 +19,12 @@ use Rattle.causes.specs.Cause.{causeOf, roundOf}
 use Rattle.causes.proofs.Down.{cause-laws}
 use Rattle.scans.specs.Scans.{noScan}
 use Rattle.scans.proofs.Picking.{first-picks, firstScanAt, lowestAt, none-picks}
+use Rattle.why.specs.HopReasons as X
 use Rattle.why.specs.HopReasons.{answer, explain}
 use Rattle.why.specs.Laws.{HopExplained, NodeExplained, WhyLaws, arrived, is-out, is-safe, is-unsafe, stopped, took}
+use Rattle.why.specs.NodeReasons as Y
 use Rattle.why.specs.NodeReasons.{reasonOf}
+use Rattle.why.specs.declared.HopReason.{HopReason}
 use Rattle.why.proofs.Hops.{same-hop}
 use Rattle.why.proofs.Reasons.{near-not-safe}
 
@@ -93,6 +96,22 @@ module _ (n : ℕ) (lab : ℕ → ℕ) (c d : ℕ) where
       go (inl a) _ = rw a (arrived (eqb-true (dist c d) 0 a))
       go (inr a) (inl b) = rw (a, b) (took (far a) (first-picks n lab c d (ltb-true first noScan b)))
       go (inr a) (inr b) = rw (a, b) (stopped (far a) (none-picks n lab c d (ltb-false first noScan b)))
+
+-- ---- what is explained is not refused
+
+pub explained-none : (n : ℕ) (lab : ℕ → ℕ) (c d : ℕ) → X.refusalOf (explain n c d (lab c) (λ i. lab (flip i c))) ≡ 0
+explained-none n lab c d = go (hop-explained n lab c d)
+  where
+    go : {a : HopReason} → HopExplained n lab c d a → X.refusalOf a ≡ 0
+    go (arrived _) = refl
+    go (took _ _) = refl
+    go (stopped _ _) = refl
+
+pub reason-none : (K : Cabinet) (x : ℕ) → Y.refusalOf (reasonOf K x) ≡ 0
+unfolding reasonOf
+reason-none K x =
+    by-cases (λ a. Y.refusalOf a ≡ 0) (out K x) (λ _. refl)
+    (λ _. by-cases (λ a. Y.refusalOf a ≡ 0) (safe (K .n) (K .rule) (out K) x) (λ _. refl) (λ _. refl))
 
 pub why-laws : WhyLaws
 why-laws = record { node = node-explained; hop = hop-explained; same-hop = same-hop }
