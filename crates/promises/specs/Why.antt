@@ -55,8 +55,8 @@ pub record Whys (lib : Library) : Type 0 where
   pub named :
       {K : Cabinet} {j x l r : ℕ} {c : Cause} {before after before′ after′ : List ℕ} {b : NodeReason} → lib .explains K j x before (Unsafe l r c) after
       → (i : ℕ) → Names c i → length before ≡ length before′ → lib .explains K j (flip i x) before′ b after′ → Earlier r b
-  -- and whoever asks on so, from an unsafe node on, whichever neighbour he takes each time, "comes to a node that does not work" in at most as many steps as the
-  -- first node's round, and is told of unsafe nodes only on the way
+  -- and whoever asks on so, from an unsafe node on, whichever neighbour he takes each time, is led "to a node that does not work, in as many steps as the first
+  -- node's round at most", and is told of unsafe nodes only on the way
   pub down :
       {K : Cabinet} {j l r m : ℕ} {c : Cause} (at : ℕ → ℕ) (a : ℕ → NodeReason) (before after : ℕ → List ℕ)
       → ((t : ℕ) → lib .explains K j (at t) (before t) (a t) (after t)) → ((t : ℕ) → length (before t) ≡ m)
