@@ -108,16 +108,11 @@ static unsigned round_of(uint32_t x)
 static const char *label_text(uint32_t x)
 {
     switch (HCUBE_KIND(answers[x])) {
-    case HCUBE_SAFE:
-        return "safe";
-    case HCUBE_ORDINARY:
-        return "ordinarily unsafe";
-    case HCUBE_STRONG:
-        return "strongly unsafe";
-    case HCUBE_DRAINING:
-        return "draining";
-    default:
-        return faults[x / 8] >> x % 8 & 1 ? "faulty" : "closed";
+    case HCUBE_SAFE: return "safe";
+    case HCUBE_ORDINARY: return "ordinarily unsafe";
+    case HCUBE_STRONG: return "strongly unsafe";
+    case HCUBE_DRAINING: return "draining";
+    default: return faults[x / 8] >> x % 8 & 1 ? "faulty" : "closed";
     }
 }
 
@@ -197,34 +192,36 @@ static void say_chain(uint32_t x)
 
 /* ---- a frame */
 
-static void say_hop(uint32_t c, uint32_t d)
+/* What is decided at c for a frame to d that has come so many hops. */
+static void say_decision(uint32_t c, uint32_t d, uint32_t hops)
 {
     uint32_t answer =
         hcube_why_hop(n, JOB, c, d, labels, HCUBE_LABEL_BYTES(n));
     uint32_t i = HCUBE_WHY_DIMENSION(answer), scan = HCUBE_WHY_SCAN(answer);
+    int delivered = HCUBE_KIND(answer) == HCUBE_DELIVER;
     expect_accepted("question", answer);
-    printf("%u to %u across dimension %u: scan %u, %s\n", c, c ^ 1u << i, i,
-           scan, hcube_scan_text(scan));
+    if (HCUBE_KIND(answer) == HCUBE_HOP)
+        printf("%u to %u across dimension %u: scan %u, %s\n", c, c ^ 1u << i, i,
+               scan, hcube_scan_text(scan));
+    else
+        printf("%s at %u after %u hop%s%s\n",
+               delivered ? "delivered" : "halted", c, hops,
+               hops == 1 ? "" : "s",
+               delivered ? "" : ": no scan takes any dimension");
 }
 
 /* The walk is asked first: by hops alone a frame to a faulty node might go
  * round for ever. A walk has n + 4 hops at most. */
-static void say_hops(uint32_t s, uint32_t d)
+static void say_frame(uint32_t s, uint32_t d)
 {
     uint8_t row[HCUBE_ROW_BYTES];
-    uint32_t walked, hops;
-    int delivered;
+    uint32_t walked;
     find(s); /* for the labels */
     walked = hcube_walk(n, JOB, s, d, labels, HCUBE_LABEL_BYTES(n), row,
                         sizeof row);
     expect_accepted("question", walked);
-    hops = HCUBE_VALUE(walked);
-    for (uint32_t place = 0; place < hops; place++)
-        say_hop(hcube_row_node(row, place), d);
-    delivered = HCUBE_KIND(walked) == HCUBE_WALK_DELIVERED;
-    printf("%s at %u after %u hop%s%s\n", delivered ? "delivered" : "halted",
-           hcube_row_node(row, hops), hops, hops == 1 ? "" : "s",
-           delivered ? "" : ": no scan takes any dimension");
+    for (uint32_t place = 0; place <= HCUBE_VALUE(walked); place++)
+        say_decision(hcube_row_node(row, place), d, place);
 }
 
 int main(int argc, char **argv)
@@ -240,8 +237,8 @@ int main(int argc, char **argv)
     if (argc == 6)
         say_chain((uint32_t)strtoul(argv[5], NULL, 10));
     else
-        say_hops((uint32_t)strtoul(argv[5], NULL, 10),
-                 (uint32_t)strtoul(argv[6], NULL, 10));
+        say_frame((uint32_t)strtoul(argv[5], NULL, 10),
+                  (uint32_t)strtoul(argv[6], NULL, 10));
     if (fflush(stdout) == 0 && !ferror(stdout))
         return 0;
     perror("why: the answer could not be written");
