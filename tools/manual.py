@@ -9,6 +9,7 @@ the functions and the macros. The words are taken as they stand. What becomes of
     a line that begins as in SECTIONS        a new paragraph, which opens the section
     - text                                   a point
     indented, with a number and two blanks   a list: the number, then the text
+    indented, with words and a colon         the same: the words, then the text
     indented otherwise                       left as it stands; where it is C, the text before it opens EXAMPLES
     `name`, HCUBE_NAME, hcube_name           italic, bold, bold
 
@@ -30,7 +31,8 @@ ITEM = re.compile(r"""
 """, re.X | re.M | re.S)
 
 SECTIONS = (("Refusals", "REFUSALS"), ("Accepted:", "RETURN VALUE"))
-LIST_ITEM = re.compile(r"( +)(\d+)  +(\S.*)")
+LIST_ITEM = re.compile(r"( +)(\d+(?=  )|[a-z][a-z ]*:) +(\S.*)")
+PROTOTYPE_MAX = 73  # columns, beside the margin of a page of 80
 
 
 class Header:
@@ -142,7 +144,7 @@ def blocks(lines):
 
 
 def listed(lines):
-    """A list of numbers with their text."""
+    """A list of numbers or words with their text."""
     items = []
     for line in lines:
         item = LIST_ITEM.match(line)
@@ -195,10 +197,16 @@ def brief(comment):
     return escaped(text[0].lower() + text[1:])
 
 
+def narrow(prototype):
+    """A prototype whose lines fit a page: the last parameter of one that does not goes on a line of its own."""
+    below = ",\n" + " " * (prototype.index("(") + 1)
+    return "\n".join(below.join(line.rsplit(", ", 1)) if len(line) > PROTOTYPE_MAX else line for line in prototype.split("\n"))
+
+
 def synopsis(prototype=""):
     out = [".SH SYNOPSIS", ".nf", r"\fB#include <hcube.h>\fR"]
     if prototype:
-        marked = re.sub(r"(\w+)(?=[,)])", r"\\fI\1\\fB", prototype + ";")
+        marked = re.sub(r"(\w+)(?=[,)])", r"\\fI\1\\fB", narrow(prototype + ";"))
         out += [".PP", *(rf"\fB{line}\fR" for line in marked.split("\n"))]
     return out + [".fi", ".PP", r"Compile and link with \fB$(pkg\-config \-\-cflags \-\-libs hcube)\fR."]
 
