@@ -57,7 +57,7 @@ library_files='tests/library.c tests/report.c tests/asked.c tests/check.c tests/
     tests/worked.c tests/orders.c tests/orders_label.c tests/orders_notice.c tests/combinations.c tests/combinations_label.c
     tests/refusals.c tests/lengths.c tests/tables.c tests/exchanges.c tests/draining.c tests/bounds.c tests/enough.c tests/closed.c
     tests/jobs.c tests/halves.c tests/long_walks.c tests/frames.c tests/dimensions.c tests/notices.c tests/places.c
-    tests/long_notices.c tests/cases.c tests/reference.c tests/reference_notice.c'
+    tests/long_notices.c tests/cases.c tests/reference.c tests/reference_notice.c tests/reference_why.c'
 reads_files='tests/reads.c tests/reads_asked.c tests/noted.c tests/watch.c tests/cases.c'
 listing_files='tests/listing_cases.c tests/listing_refused.c tests/cases.c tests/reference.c tests/reference_notice.c'
 
