@@ -93,6 +93,13 @@ HOLDS(why_scan, HCUBE_KIND(HOPS) == HCUBE_HOP && HCUBE_WHY_SCAN(HOPS) == 5 &&
                     HCUBE_WHY_DIMENSION(HOPS) == 11);
 HOLDS(bits_of_scan, HCUBE_WHY_SCAN(ALL_BITS) == 0xff &&
                         HCUBE_WHY_DIMENSION(ALL_BITS) == 0xff);
+/* Of an expression. */
+HOLDS(why_of_two, HCUBE_WHY_CAUSE(THREE | 0) == 2 &&
+                      HCUBE_WHY_FIRST(THREE | 0) == 5 &&
+                      HCUBE_WHY_SECOND(THREE | 0) == 7 &&
+                      HCUBE_WHY_THIRD(THREE | 0) == 11 &&
+                      HCUBE_WHY_SCAN(HOPS | 0) == 5 &&
+                      HCUBE_WHY_DIMENSION(HOPS | 0) == 11);
 HOLDS(causes, HCUBE_CAUSE_NONE == 0 && HCUBE_CAUSE_FAULTY == 1 &&
                   HCUBE_CAUSE_MARKED == 2);
 

@@ -91,17 +91,20 @@ static void scans(void)
 /* The words of a text say what the scan takes: how it goes, and to which node. */
 static void scan_words(void)
 {
-    static const char *const way[] = {"to the destination", "forward", "forward",
-                                      "forward", "aside", "aside"};
-    static const char *const node[] = {"draining",        " safe",
-                                       "ordinarily unsafe", "strongly unsafe",
-                                       " safe",           "ordinarily unsafe"};
+    static const struct {
+        const char *way, *node;
+    } of[] = {{"to the destination", "draining"},
+              {"forward", " safe"},
+              {"forward", "ordinarily unsafe"},
+              {"forward", "strongly unsafe"},
+              {"aside", " safe"},
+              {"aside", "ordinarily unsafe"}};
     uint32_t scan;
 
     for (scan = 0; scan <= 5; scan++) {
         const char *text = hcube_scan_text(scan);
-        expect(strncmp(text, way[scan], strlen(way[scan])) == 0, "the way", scan);
-        expect(strstr(text, node[scan]) != 0, "the node", scan);
+        expect(strstr(text, of[scan].way) == text, "the way, scan", scan);
+        expect(strstr(text, of[scan].node) != 0, "the node, scan", scan);
     }
 }
 
