@@ -127,8 +127,12 @@ static void print_scaling(void)
 
 static void print_head(const char *name)
 {
-    printf("%s n rule job table         exchanges   label, ns ratio     hop, ns "
-           "ratio    walk, ns ratio\n", name);
+    static const char *const columns[] = {"label", "hop", "walk", "why label",
+                                          "why hop"};
+    printf("%s n rule job table         exchanges", name);
+    for (unsigned k = 0; k < COUNT(columns); k++)
+        printf("%s%11s ratio", k ? "  " : "", columns[k]);
+    printf("\n");
 }
 
 int main(int count, char **words)

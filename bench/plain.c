@@ -1,23 +1,11 @@
 /*
- * plain.c: the library's algorithm in plain C, to measure the archive against.
- * PREFIX is the prefix of the functions' names.
+ * plain.c: the library's algorithm in plain C, to measure the archive against:
+ * labelling, and why a node has its label. Hop and walk are in plain_hop.c. PREFIX
+ * is the prefix of the functions' names.
  */
 #include "plain.h"
 
-#include <string.h>
-
-#define JOIN2(a, b) a##b
-#define JOIN(a, b) JOIN2(a, b)
-#define NAME(name) JOIN(PREFIX, name)
-
-enum { SAFE, ORDINARY, STRONG, FAULTY, DRAINING };
 enum { MARKED = STRONG, FRESH = 128 }; /* while the exchanges go on */
-enum { DELIVER, HOP, HALTED };
-
-static uint32_t refused(uint32_t refusal)
-{
-    return refusal << 24;
-}
 
 /* ---- labelling, in the job's half of the lent buffer */
 
@@ -82,13 +70,22 @@ static void put_draining(const uint8_t *faults, const uint8_t *draining,
             labels[8 * k + (size_t)__builtin_ctz(alone)] = DRAINING;
 }
 
-uint32_t NAME(label)(uint32_t n, uint32_t rule, uint32_t job,
-                     const uint8_t *faults, size_t faults_len,
-                     const uint8_t *draining, size_t draining_len,
-                     const uint8_t *closed, size_t closed_len,
-                     uint8_t *labels, size_t labels_len)
+static void finish(uint32_t n, const uint8_t *faults, const uint8_t *draining,
+                   const uint8_t *closed, size_t bytes, uint8_t *labels)
 {
-    uint32_t exchanges = 1;
+    for (uint32_t k = 0; k < 1u << n; k++)
+        if (labels[k] == MARKED && has_safe_neighbour(n, k, labels))
+            labels[k] = ORDINARY;
+    put_draining(faults, draining, closed, bytes, labels);
+}
+
+/* The answer where labelling refuses, or 0. */
+static uint32_t label_refusal(uint32_t n, uint32_t rule, uint32_t job,
+                              const uint8_t *faults, size_t faults_len,
+                              const uint8_t *draining, size_t draining_len,
+                              const uint8_t *closed, size_t closed_len,
+                              size_t labels_len)
+{
     size_t nodes;
     if (n < 1 || n > 12)
         return refused(1);
@@ -102,143 +99,90 @@ uint32_t NAME(label)(uint32_t n, uint32_t rule, uint32_t job,
         return refused(2);
     if (n < 3 && (faults[0] | draining[0] | closed[0]) >> nodes)
         return refused(3);
+    return 0;
+}
+
+uint32_t NAME(label)(uint32_t n, uint32_t rule, uint32_t job,
+                     const uint8_t *faults, size_t faults_len,
+                     const uint8_t *draining, size_t draining_len,
+                     const uint8_t *closed, size_t closed_len,
+                     uint8_t *labels, size_t labels_len)
+{
+    uint32_t exchanges = 1;
+    uint32_t refusal = label_refusal(n, rule, job, faults, faults_len, draining,
+                                     draining_len, closed, closed_len,
+                                     labels_len);
+    size_t nodes;
+    if (refusal)
+        return refusal;
+    nodes = (size_t)1 << n;
     labels += job * nodes;
     start(faults, draining, closed, labels, nodes);
     while (sweep(n, rule, labels, nodes)) {
         settle(labels, nodes);
         exchanges++;
     }
-    for (uint32_t k = 0; k < nodes; k++)
-        if (labels[k] == MARKED && has_safe_neighbour(n, k, labels))
-            labels[k] = ORDINARY;
-    put_draining(faults, draining, closed, closed_len, labels);
+    finish(n, faults, draining, closed, closed_len, labels);
     return exchanges;
 }
 
-/* ---- one hop, from a copy of the labels around it */
+/* ---- why a node has its label: labelling, which watches the node */
 
-struct around {
-    uint8_t own;
-    uint8_t neighbour[12];
-};
-
-static int all_labels(const uint8_t *labels, size_t count)
+/* The lowest dimensions across which two are faulty, if there are two, or else so
+ * many are faulty or marked; the fresh ones are of this round, and do not count. */
+static uint64_t cause(uint32_t n, uint32_t rule, uint32_t x,
+                      const uint8_t *labels)
 {
-    uint8_t largest = 0;
-    for (size_t k = 0; k < count; k++)
-        if (labels[k] > largest)
-            largest = labels[k];
-    return largest <= DRAINING;
-}
-
-/* Reads the n + 1 labels; whether each is one. Where none is draining they show it
- * at once, joined; otherwise they are looked at one by one. */
-static int gather(uint32_t n, uint32_t c, const uint8_t *labels,
-                  struct around *around)
-{
-    uint8_t bits = around->own = labels[c];
-    for (uint32_t i = 0, step = 1; i < n; i++, step += step)
-        bits |= around->neighbour[i] = labels[c ^ step];
-    return bits <= DRAINING ||
-           (around->own <= DRAINING && all_labels(around->neighbour, n));
-}
-
-/* First dimension of the set whose neighbour has this label at most; else n. */
-static uint32_t scan(uint32_t n, uint32_t dimensions, uint8_t most,
-                     const struct around *around)
-{
-    for (; dimensions; dimensions &= dimensions - 1) {
-        uint32_t i = (uint32_t)__builtin_ctz(dimensions);
-        if (around->neighbour[i] <= most)
-            return i;
+    uint64_t faulty = 0, bad = 0;
+    unsigned count_faulty = 0, count_bad = 0;
+    for (uint32_t i = 0; i < n && count_faulty < 2; i++) {
+        uint8_t label = labels[x ^ 1u << i];
+        if (label == FAULTY)
+            faulty |= (uint64_t)i << (32 + 8 * count_faulty++);
+        if ((label == FAULTY || label == MARKED) && count_bad < rule)
+            bad |= (uint64_t)i << (32 + 8 * count_bad++);
     }
-    return n;
+    return count_faulty == 2 ? faulty | (uint64_t)1 << 56
+                             : bad | (uint64_t)2 << 56;
 }
 
-/* The dimension to hop across, forward ones being where c and d differ; or n. */
-static uint32_t chosen(uint32_t n, uint32_t forward,
-                       const struct around *around)
+/* How many neighbours of a safe node are faulty, and how many are not safe. */
+static uint64_t counts(uint32_t n, uint32_t x, const uint8_t *labels)
 {
-    uint32_t spare = forward ^ ((1u << n) - 1), i;
-    if (!(forward & (forward - 1))) { /* then the neighbour across it is d */
-        i = (uint32_t)__builtin_ctz(forward);
-        if (around->neighbour[i] == DRAINING)
-            return i;
+    uint64_t counts = 0;
+    for (uint32_t i = 0; i < n; i++) {
+        uint8_t label = labels[x ^ 1u << i];
+        counts += ((uint64_t)(label >= FAULTY) << 32) +
+                  ((uint64_t)(label != SAFE) << 40);
     }
-    if ((i = scan(n, forward, SAFE, around)) < n)
-        return i;
-    if ((i = scan(n, forward, ORDINARY, around)) < n)
-        return i;
-    if (around->own == STRONG || __builtin_popcount(forward) <= 2)
-        if ((i = scan(n, forward, STRONG, around)) < n)
-            return i;
-    if ((i = scan(n, spare, SAFE, around)) < n)
-        return i;
-    return scan(n, spare, ORDINARY, around);
+    return counts;
 }
 
-uint32_t NAME(hop)(uint32_t n, uint32_t job, uint32_t c, uint32_t d,
-                   const uint8_t *labels, size_t labels_len)
+uint64_t NAME(why_node)(uint32_t n, uint32_t rule, uint32_t job, uint32_t x,
+                        const uint8_t *faults, size_t faults_len,
+                        const uint8_t *draining, size_t draining_len,
+                        const uint8_t *closed, size_t closed_len,
+                        uint8_t *labels, size_t labels_len)
 {
-    struct around around;
-    uint32_t i;
-    if (n < 1 || n > 12)
-        return refused(1);
-    if (job > 1)
-        return refused(19);
-    if (labels_len != 2u << n)
-        return refused(2);
-    if (c >> n || d >> n)
+    uint64_t found = 0, round = 1;
+    uint32_t refusal = label_refusal(n, rule, job, faults, faults_len, draining,
+                                     draining_len, closed, closed_len,
+                                     labels_len);
+    size_t nodes;
+    if (refusal)
+        return refusal;
+    nodes = (size_t)1 << n;
+    if (x >> n)
         return refused(5);
-    labels += (size_t)job << n;
-    if (!gather(n, c, labels, &around))
-        return refused(4);
-    if (around.own == FAULTY || (around.own == DRAINING && c != d))
-        return refused(6);
-    if (c == d)
-        return DELIVER << 16;
-    i = chosen(n, c ^ d, &around);
-    return i < n ? (HOP << 16) + i : HALTED << 16;
-}
-
-/* ---- walk */
-
-uint32_t NAME(walk)(uint32_t n, uint32_t job, uint32_t s, uint32_t d,
-                    const uint8_t *labels, size_t labels_len,
-                    uint8_t *row, size_t row_len)
-{
-    uint16_t places[17] = {0};
-    uint32_t hops = 0, c = s, i;
-    struct around around;
-    if (n < 1 || n > 12)
-        return refused(1);
-    if (job > 1)
-        return refused(19);
-    if (labels_len != 2u << n || row_len != 34)
-        return refused(2);
-    if (s >> n || d >> n)
-        return refused(5);
-    labels += (size_t)job << n;
-    if (!all_labels(labels, (size_t)1 << n))
-        return refused(4);
-    if (labels[s] >= FAULTY)
-        return refused(6);
-    if (labels[d] == FAULTY)
-        return refused(7);
-    places[0] = (uint16_t)s;
-    while (c != d) {
-        gather(n, c, labels, &around);
-        i = chosen(n, c ^ d, &around);
-        if (i == n)
-            break;
-        if (hops == n + 4)
-            return refused(8);
-        c ^= 1u << i;
-        places[++hops] = (uint16_t)c;
+    labels += job * nodes;
+    start(faults, draining, closed, labels, nodes);
+    for (; sweep(n, rule, labels, nodes); round++) {
+        if (labels[x] == FRESH)
+            found = cause(n, rule, x, labels) + round;
+        settle(labels, nodes);
     }
-    for (unsigned k = 0; k < 17; k++) {
-        row[2 * k] = (uint8_t)places[k];
-        row[2 * k + 1] = (uint8_t)(places[k] >> 8);
-    }
-    return (c == d ? 0 : 0x10000) + hops;
+    finish(n, faults, draining, closed, closed_len, labels);
+    if (labels[x] == SAFE)
+        found = counts(n, x, labels);
+    return found + ((uint64_t)labels[x] << 16);
 }

@@ -1,6 +1,6 @@
 /*
- * plain.h: labelling, hop and walk in plain C, compiled by two compilers (gcc_,
- * clang_).
+ * plain.h: labelling, hop, walk and the questions that say why in plain C, compiled
+ * by two compilers (gcc_, clang_); and what its two files share.
  */
 #ifndef PLAIN_H
 #define PLAIN_H
@@ -18,9 +18,30 @@
                          const uint8_t *labels, size_t labels_len);            \
     uint32_t prefix##walk(uint32_t n, uint32_t job, uint32_t s, uint32_t d,    \
                           const uint8_t *labels, size_t labels_len,            \
-                          uint8_t *row, size_t row_len);
+                          uint8_t *row, size_t row_len);                       \
+    uint64_t prefix##why_node(uint32_t n, uint32_t rule, uint32_t job,         \
+                              uint32_t x, const uint8_t *faults,               \
+                              size_t faults_len, const uint8_t *draining,      \
+                              size_t draining_len, const uint8_t *closed,      \
+                              size_t closed_len, uint8_t *labels,              \
+                              size_t labels_len);                              \
+    uint32_t prefix##why_hop(uint32_t n, uint32_t job, uint32_t c, uint32_t d, \
+                             const uint8_t *labels, size_t labels_len);
 
 DECLARE(gcc_)
 DECLARE(clang_)
+
+#ifdef PREFIX
+#define JOIN2(a, b) a##b
+#define JOIN(a, b) JOIN2(a, b)
+#define NAME(name) JOIN(PREFIX, name)
+
+enum { SAFE, ORDINARY, STRONG, FAULTY, DRAINING };
+
+static inline uint32_t refused(uint32_t refusal)
+{
+    return refusal << 24;
+}
+#endif
 
 #endif

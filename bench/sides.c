@@ -1,4 +1,7 @@
-/* sides.c: label, hop and walk as the archive and the two C builds answer them. */
+/*
+ * sides.c: label, hop, walk and the questions that say why, as the archive and the
+ * two C builds answer them.
+ */
 #include "sides.h"
 
 #include <stdio.h>
@@ -11,6 +14,7 @@
 #include "times.h"
 
 #define PAIRS 512u
+#define WHYS 8u /* nodes whose label is asked about; one of them is measured */
 #define UNTOUCHED 0xff
 
 uint32_t n, rule, job;
@@ -18,9 +22,9 @@ uint8_t faults[MOST_TABLE], draining[MOST_TABLE], closed[MOST_TABLE];
 static size_t fault_bytes, label_bytes;
 static uint8_t labels[HCUBE_LABEL_BYTES(12)], scratch[HCUBE_LABEL_BYTES(12)];
 static uint8_t row[HCUBE_ROW_BYTES];
-static uint32_t from[PAIRS], to[PAIRS];
+static uint32_t from[PAIRS], to[PAIRS], asked_about;
 
-/* ---- the three questions of the three sides */
+/* ---- the questions of the three sides */
 
 #define LABEL(prefix)                                                          \
     prefix##label(n, rule, job, faults, fault_bytes, draining, fault_bytes,    \
@@ -29,6 +33,11 @@ static uint32_t from[PAIRS], to[PAIRS];
     prefix##hop(n, job, from[k], to[k], labels, label_bytes)
 #define WALK(prefix, k)                                                        \
     prefix##walk(n, job, from[k], to[k], labels, label_bytes, row, sizeof row)
+#define WHY_NODE(prefix)                                                       \
+    prefix##why_node(n, rule, job, asked_about, faults, fault_bytes, draining, \
+                     fault_bytes, closed, fault_bytes, scratch, label_bytes)
+#define WHY_HOP(prefix, k)                                                     \
+    prefix##why_hop(n, job, from[k], to[k], labels, label_bytes)
 
 static uint32_t label_once(int side)
 {
@@ -59,6 +68,24 @@ static uint32_t walk_all(int side)
     return sum;
 }
 
+static uint32_t why_once(int side)
+{
+    uint64_t answer = side == ARCHIVE ? WHY_NODE(hcube_)
+                      : side == GCC   ? WHY_NODE(gcc_)
+                                      : WHY_NODE(clang_);
+    return (uint32_t)answer * 31 + (uint32_t)(answer >> 32);
+}
+
+static uint32_t why_hop_all(int side)
+{
+    uint32_t sum = 0;
+    for (unsigned k = 0; k < PAIRS; k++)
+        sum = sum * 31 + (side == ARCHIVE ? WHY_HOP(hcube_, k)
+                          : side == GCC   ? WHY_HOP(gcc_, k)
+                                          : WHY_HOP(clang_, k));
+    return sum;
+}
+
 /* ---- the three sides answer alike, or the times say nothing */
 
 static void expect(int alike, const char *name)
@@ -75,15 +102,16 @@ static void expect_alike(asked *question, const char *name)
     expect(answer == question(GCC) && answer == question(CLANG), name);
 }
 
-/* Byte for byte, the other job's half among them. */
-static void expect_labels(void)
+/* Byte for byte what the archive's labelling leaves, the other job's half among
+ * it. */
+static void expect_labels(asked *question, const char *name)
 {
     for (int side = ARCHIVE; side < SIDES; side++) {
         memset(scratch, UNTOUCHED, label_bytes);
-        label_once(side);
-        if (side == ARCHIVE)
+        question(side);
+        if (side == ARCHIVE && question == label_once)
             memcpy(labels, scratch, label_bytes);
-        expect(memcmp(labels, scratch, label_bytes) == 0, "label");
+        expect(memcmp(labels, scratch, label_bytes) == 0, name);
     }
 }
 
@@ -123,13 +151,19 @@ static void prepare(void)
     fault_bytes = HCUBE_FAULT_BYTES(n);
     label_bytes = HCUBE_LABEL_BYTES(n);
     expect_alike(label_once, "label");
-    expect_labels();
+    expect_labels(label_once, "label");
     for (unsigned k = 0; k < PAIRS; k++) {
         from[k] = working_node(half);
         to[k] = destination(half, k);
     }
     expect_alike(hop_all, "hop");
     expect_alike(walk_all, "walk");
+    expect_alike(why_hop_all, "why hop");
+    for (unsigned k = WHYS; k-- > 0;) {
+        asked_about = from[k];
+        expect_alike(why_once, "why label");
+    }
+    expect_labels(why_once, "why label");
 }
 
 void print_row(const char *name)
@@ -139,6 +173,8 @@ void print_row(const char *name)
     measure(label_once, 1);
     measure(hop_all, PAIRS);
     measure(walk_all, PAIRS);
+    measure(why_once, 1);
+    measure(why_hop_all, PAIRS);
     printf("\n");
     fflush(stdout);
 }

@@ -35,17 +35,22 @@ static void keep_bytes(const char *name, const uint8_t *bytes, size_t len)
     last->count++;
 }
 
+static void keep_tables(struct label_question asked)
+{
+    last->count = 0;
+    keep_bytes("faults", asked.faults, asked.faults_len);
+    keep_bytes("draining", asked.draining, asked.draining_len);
+    keep_bytes("closed", asked.closed, asked.closed_len);
+    keep_bytes("labels", asked.labels, asked.labels_len);
+}
+
 void keep_label(struct label_question asked)
 {
     if (!last)
         return;
     snprintf(last->call, sizeof last->call, "hcube_label, n %u, rule %u, job %u",
              asked.n, asked.rule, asked.job);
-    last->count = 0;
-    keep_bytes("faults", asked.faults, asked.faults_len);
-    keep_bytes("draining", asked.draining, asked.draining_len);
-    keep_bytes("closed", asked.closed, asked.closed_len);
-    keep_bytes("labels", asked.labels, asked.labels_len);
+    keep_tables(asked);
 }
 
 void keep_hop(struct hop_question asked)
@@ -67,6 +72,27 @@ void keep_walk(struct walk_question asked)
     last->count = 0;
     keep_bytes("labels", asked.labels, asked.labels_len);
     keep_bytes("row", asked.row, asked.row_len);
+}
+
+void keep_why_node(struct label_question asked, uint32_t x)
+{
+    if (!last)
+        return;
+    snprintf(last->call, sizeof last->call,
+             "hcube_why_node, n %u, rule %u, job %u, x %u", asked.n, asked.rule,
+             asked.job, x);
+    keep_tables(asked);
+}
+
+void keep_why_hop(struct hop_question asked)
+{
+    if (!last)
+        return;
+    snprintf(last->call, sizeof last->call,
+             "hcube_why_hop, n %u, job %u, c %u, d %u", asked.n, asked.job,
+             asked.c, asked.d);
+    last->count = 0;
+    keep_bytes("labels", asked.labels, asked.labels_len);
 }
 
 void keep_dimension(const uint8_t *bytes, size_t len)

@@ -14,6 +14,8 @@ void keep_questions(void);
 void keep_label(struct label_question asked);
 void keep_hop(struct hop_question asked);
 void keep_walk(struct walk_question asked);
+void keep_why_node(struct label_question asked, uint32_t x);
+void keep_why_hop(struct hop_question asked);
 void keep_dimension(const uint8_t *bytes, size_t len);
 void keep_notice(const uint8_t *bytes, size_t len, const uint8_t *faults,
                  size_t faults_len);

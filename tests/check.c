@@ -9,11 +9,10 @@
 static struct lent read_only, draining, closed, writable;
 static uint8_t wanted[MOST_LENT];
 
-uint32_t check_label(struct label_question asked)
+/* The same question with guarded buffers. */
+static struct label_question lend_tables(struct label_question asked)
 {
     struct label_question lent = asked;
-    uint32_t answer, want;
-    int same;
     lend(&read_only, asked.faults, asked.faults_len);
     lend(&draining, asked.draining, asked.draining_len);
     lend(&closed, asked.closed, asked.closed_len);
@@ -22,6 +21,21 @@ uint32_t check_label(struct label_question asked)
     lent.draining = draining.bytes;
     lent.closed = closed.bytes;
     lent.labels = writable.bytes;
+    return lent;
+}
+
+/* The tables are as they were, and the label buffer is as wanted. */
+static int tables_are(struct label_question asked)
+{
+    return lent_is(&read_only, asked.faults) &&
+           lent_is(&draining, asked.draining) &&
+           lent_is(&closed, asked.closed) && lent_is(&writable, wanted);
+}
+
+uint32_t check_label(struct label_question asked)
+{
+    struct label_question lent = lend_tables(asked);
+    uint32_t answer, want;
     memcpy(wanted, asked.labels, asked.labels_len);
     want = ref_label(asked.n, asked.rule, asked.job, asked.faults,
                      asked.faults_len, asked.draining, asked.draining_len,
@@ -29,22 +43,70 @@ uint32_t check_label(struct label_question asked)
     answer = ask_label(lent);
     expect(answer == want, "label n=%u by %u, job %u: %08x, not %08x", asked.n,
            asked.rule, asked.job, answer, want);
-    same = lent_is(&read_only, asked.faults) &&
-           lent_is(&draining, asked.draining) &&
-           lent_is(&closed, asked.closed) && lent_is(&writable, wanted);
-    expect(same, "label n=%u by %u, job %u (%08x): wrong bytes", asked.n,
-           asked.rule, asked.job, want);
+    expect(tables_are(asked), "label n=%u by %u, job %u (%08x): wrong bytes",
+           asked.n, asked.rule, asked.job, want);
     saw_label(asked, want, wanted);
     memcpy(asked.labels, writable.bytes, asked.labels_len);
     return answer;
 }
 
-uint32_t check_hop(struct hop_question asked)
+uint64_t check_why_node(struct label_question asked, uint32_t x)
+{
+    struct label_question lent = lend_tables(asked);
+    uint64_t answer, want;
+    memcpy(wanted, asked.labels, asked.labels_len);
+    want = ref_why_node(asked.n, asked.rule, asked.job, x, asked.faults,
+                        asked.faults_len, asked.draining, asked.draining_len,
+                        asked.closed, asked.closed_len, wanted,
+                        asked.labels_len);
+    answer = ask_why_node(lent, x);
+    expect(answer == want, "why n=%u by %u, job %u, node %u: %016llx, not %016llx",
+           asked.n, asked.rule, asked.job, x, (unsigned long long)answer,
+           (unsigned long long)want);
+    expect(tables_are(asked), "why n=%u by %u, job %u, node %u: wrong bytes",
+           asked.n, asked.rule, asked.job, x);
+    saw_why_node(asked, want);
+    memcpy(asked.labels, writable.bytes, asked.labels_len);
+    return answer;
+}
+
+static struct hop_question lend_labels(struct hop_question asked)
 {
     struct hop_question lent = asked;
-    uint32_t answer, want;
     lend(&read_only, asked.labels, asked.labels_len);
     lent.labels = read_only.bytes;
+    return lent;
+}
+
+static uint32_t why_by(struct hop_question asked, struct hop_question lent)
+{
+    uint32_t want = ref_why_hop(asked.n, asked.job, asked.c, asked.d,
+                                asked.labels, asked.labels_len);
+    uint32_t answer = ask_why_hop(lent);
+    expect(answer == want, "why hop n=%u, job %u, %u to %u: %08x, not %08x",
+           asked.n, asked.job, asked.c, asked.d, answer, want);
+    saw_why_hop(asked, want);
+    return answer;
+}
+
+uint32_t check_why_hop(struct hop_question asked)
+{
+    uint32_t answer = why_by(asked, lend_labels(asked));
+    expect(lent_is(&read_only, asked.labels),
+           "why hop n=%u, job %u: a byte changed", asked.n, asked.job);
+    return answer;
+}
+
+/* Without the scan, why a hop is taken is what the hop answers. */
+static uint32_t without_scan(uint32_t why)
+{
+    return why >> 16 == HCUBE_HOP ? (why & ~0xff00u) : why;
+}
+
+uint32_t check_hop(struct hop_question asked)
+{
+    struct hop_question lent = lend_labels(asked);
+    uint32_t answer, want, why = why_by(asked, lent);
     want = ref_hop(asked.n, asked.job, asked.c, asked.d, asked.labels,
                    asked.labels_len);
     answer = ask_hop(lent);
@@ -52,6 +114,9 @@ uint32_t check_hop(struct hop_question asked)
            asked.job, asked.c, asked.d, answer, want);
     expect(lent_is(&read_only, asked.labels), "hop n=%u, job %u: a byte changed",
            asked.n, asked.job);
+    expect(answer == without_scan(why),
+           "hop n=%u, job %u, %u to %u: %08x, but why it is taken %08x", asked.n,
+           asked.job, asked.c, asked.d, answer, why);
     saw_hop(asked, want);
     return answer;
 }

@@ -19,6 +19,9 @@
  * last works, and that none stands in the row twice. The caller's own writable
  * buffer then has what the library left in it. The library's answer is returned. */
 uint32_t check_label(struct label_question asked);
+uint64_t check_why_node(struct label_question asked, uint32_t x);
+uint32_t check_why_hop(struct hop_question asked);
+/* Also that why it is taken agrees with the hop. */
 uint32_t check_hop(struct hop_question asked);
 uint32_t check_walk(struct walk_question asked);
 uint32_t check_dimension(const uint8_t *bytes, size_t len);

@@ -1,6 +1,7 @@
 /*
  * combinations.c: hop and walk with all that they refuse, in every combination;
- * labelling is in combinations_label.c. Which refusal is due stands here once more,
+ * labelling is in combinations_label.c, and why a hop is taken is asked with each
+ * hop, by check.c. Which refusal is due stands here once more,
  * in the order of RULES (Refusal numbers), and is not asked of the reference. That
  * nothing is written then is checked by check.c.
  */
@@ -34,10 +35,11 @@ size_t length_of(unsigned kind, size_t exact)
     return lengths[kind];
 }
 
-void is_due(const char *what, unsigned from, uint32_t answer, unsigned due)
+void is_due(const char *what, unsigned from, uint64_t answer, unsigned due)
 {
     expect(due ? answer == REFUSED(due) : HCUBE_REFUSAL(answer) == 0,
-           "%s, combination %u: %08x, where %u is due", what, from, answer, due);
+           "%s, combination %u: %08llx, where %u is due", what, from,
+           (unsigned long long)answer, due);
 }
 
 void check_all(const char *title, unsigned (*ask)(unsigned from))

@@ -24,7 +24,7 @@ enum { RIGHT, SHORT, LONG, HALVED, EMPTY, DOUBLED, LENGTHS };
 size_t length_of(unsigned kind, size_t exact);
 
 /* Expects this refusal, or none where it is 0, of combination `from`. */
-void is_due(const char *what, unsigned from, uint32_t answer, unsigned due);
+void is_due(const char *what, unsigned from, uint64_t answer, unsigned due);
 
 /* A group that asks the combinations from 0 on, up to the one that has a part too
  * many. `ask` gives what is left of the number, which is then not 0. */

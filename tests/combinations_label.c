@@ -1,6 +1,7 @@
 /*
- * combinations_label.c: labelling with all that it refuses, in every combination.
- * Which refusal is due stands here once more, as in combinations.c.
+ * combinations_label.c: labelling with all that it refuses, in every combination,
+ * and why a node has its label, where it is the last node or, as often, none. Which
+ * refusal is due stands here once more, as in combinations.c.
  */
 #include "combinations.h"
 
@@ -33,6 +34,8 @@ static void label_combination(uint32_t n, uint32_t rule, uint32_t job,
 {
     struct label_question asked = fit_label(n & 255, faults, labels);
     int wrong_length = lengths[0] || lengths[1] || lengths[2] || lengths[3];
+    uint32_t last = (1u << (n & 255)) - 1, beyond = random_below(2);
+    unsigned due;
     asked.n = n;
     asked.rule = rule;
     asked.job = job;
@@ -42,7 +45,11 @@ static void label_combination(uint32_t n, uint32_t rule, uint32_t job,
     asked.closed = closed;
     asked.closed_len = length_of(lengths[2], asked.closed_len);
     asked.labels_len = length_of(lengths[3], asked.labels_len);
-    is_due("label", from, check_label(asked), label_due(asked, wrong_length));
+    due = label_due(asked, wrong_length);
+    is_due("label", from, check_label(asked), due);
+    if (due == 0 && beyond)
+        due = 5;
+    is_due("why a label", from, check_why_node(asked, last + beyond), due);
 }
 
 /* Lengths of all four buffers at once, and bytes of all three tables. */

@@ -3,6 +3,7 @@
 #define GROUPS_H
 
 void check_worked_numbers(void);  /* worked.c */
+void check_worked_why(void);      /* worked_why.c */
 void check_most_exchanges(void);  /* exchanges.c */
 void check_one_exchange(void);
 void check_ceilings(void);
@@ -26,6 +27,11 @@ void check_halves(void);          /* halves.c */
 void check_closed(void);          /* closed.c */
 void check_neighbours_out(void);
 void check_worked_jobs(void);
+void check_why_small(void);       /* why_node.c */
+void check_why_random(void);
+void check_why_rounds(void);
+void check_why_named(void);       /* why_named.c */
+void check_why_hops(void);        /* why_hop.c */
 void check_lengths(void);         /* lengths.c */
 void check_damaged(void);         /* refusals.c */
 void check_plain_numbers(void);

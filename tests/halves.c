@@ -1,7 +1,8 @@
 /*
  * halves.c: what the other half of a label buffer holds changes no answer, no row
  * and no byte of a job's own half, and refusal 4 never comes from there. What is
- * expected is what the library answers over a half of zeros.
+ * expected is what the library answers over a half of zeros. Why a hop is taken is
+ * asked with each hop, by check.c.
  */
 #include <string.h>
 
@@ -65,6 +66,20 @@ static void ask_all(uint32_t n, uint32_t rule, uint32_t job, uint32_t c,
     keep_half(label, to->half);
 }
 
+/* Why c has its label, beside such a half. */
+static uint64_t why_beside(uint32_t n, uint32_t rule, uint32_t job, uint32_t c,
+                           unsigned fill)
+{
+    struct label_question asked = fit_label(n, faults, labels);
+    fill_other(n, job, fill, c);
+    asked.rule = rule;
+    asked.job = job;
+    asked.draining = draining;
+    asked.closed = closed;
+    asked.labels = both;
+    return check_why_node(asked, c);
+}
+
 static int same(uint32_t n, const struct answers *a, const struct answers *b)
 {
     return a->hop == b->hop && a->walk == b->walk && a->label == b->label &&
@@ -77,9 +92,14 @@ static void any_other_half(uint32_t n, uint32_t job, uint32_t c)
 {
     static struct answers calm, now;
     uint32_t d = random_below(1u << n), rule = 2 + random_below(2);
+    uint64_t why = why_beside(n, rule, job, c, ZEROS);
     put_own(n, job);
     fill_other(n, job, ZEROS, c);
     ask_all(n, rule, job, c, d, &calm);
+    for (unsigned fill = FIVES; fill <= LABELS; fill++)
+        expect(why_beside(n, rule, job, c, fill) == why,
+               "n = %u, job %u, node %u, other half %u: another why", n, job, c,
+               fill);
     for (unsigned fill = ZEROS + 1; fill < FILLS; fill++) {
         put_own(n, job);
         fill_other(n, job, fill, c);

@@ -66,6 +66,43 @@ HOLDS(bits_of_32, HCUBE_REFUSAL(CAST(uint32_t, ALL_BITS)) == 0xff &&
 HOLDS(bits_of_notice, HCUBE_NOTICE_DIMENSION(ALL_BITS) == 0xffff &&
                           HCUBE_NOTICE_COUNT(ALL_BITS) == 0xffff);
 
+/* Answers of why a node has its label, and of why a hop is taken. */
+#define WHY(cause, third, second, first, low)                                  \
+    (CAST(uint64_t, cause) << 56 | CAST(uint64_t, third) << 48 |               \
+     CAST(uint64_t, second) << 40 | CAST(uint64_t, first) << 32 |              \
+     CAST(uint64_t, low))
+#define THREE WHY(2, 11, 7, 5, 0x000200abu)
+#define HOPS 0x0001050bu
+
+HOLDS(why_cause, HCUBE_WHY_CAUSE(THREE) == HCUBE_CAUSE_MARKED &&
+                     HCUBE_WHY_FIRST(THREE) == 5 &&
+                     HCUBE_WHY_SECOND(THREE) == 7 &&
+                     HCUBE_WHY_THIRD(THREE) == 11);
+HOLDS(why_label, HCUBE_REFUSAL(THREE) == HCUBE_ACCEPTED &&
+                     HCUBE_KIND(THREE) == HCUBE_STRONG &&
+                     HCUBE_VALUE(THREE) == 171);
+HOLDS(why_refused, HCUBE_WHY_CAUSE(REFUSED) == HCUBE_CAUSE_NONE &&
+                       HCUBE_WHY_FIRST(REFUSED) == 0 &&
+                       HCUBE_WHY_SECOND(REFUSED) == 0 &&
+                       HCUBE_WHY_THIRD(REFUSED) == 0);
+HOLDS(bits_of_why, HCUBE_WHY_CAUSE(ALL_BITS) == 0xff &&
+                       HCUBE_WHY_FIRST(ALL_BITS) == 0xff &&
+                       HCUBE_WHY_SECOND(ALL_BITS) == 0xff &&
+                       HCUBE_WHY_THIRD(ALL_BITS) == 0xff);
+HOLDS(why_scan, HCUBE_KIND(HOPS) == HCUBE_HOP && HCUBE_WHY_SCAN(HOPS) == 5 &&
+                    HCUBE_WHY_DIMENSION(HOPS) == 11);
+HOLDS(bits_of_scan, HCUBE_WHY_SCAN(ALL_BITS) == 0xff &&
+                        HCUBE_WHY_DIMENSION(ALL_BITS) == 0xff);
+/* Of an expression. */
+HOLDS(why_of_two, HCUBE_WHY_CAUSE(THREE | 0) == 2 &&
+                      HCUBE_WHY_FIRST(THREE | 0) == 5 &&
+                      HCUBE_WHY_SECOND(THREE | 0) == 7 &&
+                      HCUBE_WHY_THIRD(THREE | 0) == 11 &&
+                      HCUBE_WHY_SCAN(HOPS | 0) == 5 &&
+                      HCUBE_WHY_DIMENSION(HOPS | 0) == 11);
+HOLDS(causes, HCUBE_CAUSE_NONE == 0 && HCUBE_CAUSE_FAULTY == 1 &&
+                  HCUBE_CAUSE_MARKED == 2);
+
 HOLDS(table_bytes_1, HCUBE_NODES(1) == 2 && HCUBE_FAULT_BYTES(1) == 1);
 HOLDS(table_bytes_3, HCUBE_NODES(3) == 8 && HCUBE_FAULT_BYTES(3) == 1);
 HOLDS(table_bytes_4, HCUBE_NODES(4) == 16 && HCUBE_FAULT_BYTES(4) == 2);
@@ -113,7 +150,7 @@ uint32_t parts_32(uint32_t answer);
 uint64_t parts_64(uint64_t answer);
 uint64_t call_all(const uint8_t *bytes, uint8_t *faults, uint8_t *labels,
                   uint8_t *row);
-const char *words(const uint8_t *row, uint32_t walked);
+const char *words(const uint8_t *row, uint32_t walked, uint32_t hopped);
 
 #define SIZES(n, job)                                                          \
     (HCUBE_NODES(n) + HCUBE_LABEL_BYTES(n) + HCUBE_FAULT_BYTES(n) +            \
@@ -136,13 +173,17 @@ size_t sizes_as_size(size_t n, size_t job)
 
 uint32_t parts_32(uint32_t answer)
 {
-    return HCUBE_REFUSAL(answer) + HCUBE_KIND(answer) + HCUBE_VALUE(answer);
+    return HCUBE_REFUSAL(answer) + HCUBE_KIND(answer) + HCUBE_VALUE(answer) +
+           HCUBE_WHY_SCAN(answer) + HCUBE_WHY_DIMENSION(answer);
 }
 
 uint64_t parts_64(uint64_t answer)
 {
     return HCUBE_REFUSAL(answer) + HCUBE_KIND(answer) + HCUBE_VALUE(answer) +
-           HCUBE_NOTICE_DIMENSION(answer) + HCUBE_NOTICE_COUNT(answer);
+           HCUBE_NOTICE_DIMENSION(answer) + HCUBE_NOTICE_COUNT(answer) +
+           HCUBE_WHY_CAUSE(answer) + HCUBE_WHY_FIRST(answer) +
+           HCUBE_WHY_SECOND(answer) + HCUBE_WHY_THIRD(answer) +
+           HCUBE_WHY_SCAN(answer) + HCUBE_WHY_DIMENSION(answer);
 }
 
 uint64_t call_all(const uint8_t *bytes, uint8_t *faults, uint8_t *labels,
@@ -154,13 +195,18 @@ uint64_t call_all(const uint8_t *bytes, uint8_t *faults, uint8_t *labels,
     uint64_t read = hcube_read_notice(bytes, 12, faults, table);
     uint32_t all = hcube_label(n, HCUBE_RULE_CHIU_WU, 1, faults, table, none,
                                table, none, table, labels, size);
+    uint64_t why = hcube_why_node(n, HCUBE_RULE_CHIU_WU, 1, 0, faults, table, none,
+                                  table, none, table, labels, size);
     all += hcube_hop(n, 1, 0, 1, labels, size);
+    all += parts_32(hcube_why_hop(n, 1, 0, 1, labels, size));
     all += hcube_walk(n, 1, 0, 1, labels, size, row, HCUBE_ROW_BYTES);
-    return all + parts_64(read);
+    return all + parts_64(read) + parts_64(why);
 }
 
-const char *words(const uint8_t *row, uint32_t walked)
+const char *words(const uint8_t *row, uint32_t walked, uint32_t hopped)
 {
+    if (HCUBE_KIND(hopped) == HCUBE_HOP)
+        return hcube_scan_text(HCUBE_WHY_SCAN(hopped));
     if (hcube_row_node(row, HCUBE_VALUE(walked)) != hcube_row_node(row, 0))
         return hcube_refusal_text(HCUBE_REFUSAL(walked));
     return hcube_refusal_text(HCUBE_ACCEPTED);

@@ -23,8 +23,8 @@ static void expect(int holds, const char *what, uint32_t number)
 {
     if (holds)
         return;
-    printf("  %s: %u, \"%s\"\n", what, (unsigned)number,
-           hcube_refusal_text(number));
+    printf("  %s: %u, \"%s\", \"%s\"\n", what, (unsigned)number,
+           hcube_refusal_text(number), hcube_scan_text(number));
     failed++;
 }
 
@@ -63,6 +63,51 @@ static void texts(void)
         expect(is_default(large[i]), "the default's text", large[i]);
 }
 
+static int is_no_scan(uint32_t number)
+{
+    return strcmp(hcube_scan_text(number), "no such scan") == 0;
+}
+
+/* Each scan, 0 to 5, has a text of its own, no other number has one. */
+static void scans(void)
+{
+    static const uint32_t large[] = {256, 257, 65536, 65541, 0x80000001u,
+                                     0xffffffffu};
+    uint32_t scan, before;
+    size_t i;
+
+    for (scan = 0; scan <= 5; scan++) {
+        expect(hcube_scan_text(scan)[0] != '\0', "an empty text", scan);
+        for (before = 0; before < scan; before++)
+            expect(strcmp(hcube_scan_text(scan), hcube_scan_text(before)) != 0,
+                   "a scan's text of two", scan);
+    }
+    for (scan = 0; scan < 256; scan++)
+        expect(is_no_scan(scan) == (scan > 5), "the default's text, scan", scan);
+    for (i = 0; i < sizeof large / sizeof large[0]; i++)
+        expect(is_no_scan(large[i]), "the default's text, scan", large[i]);
+}
+
+/* The words of a text say what the scan takes: how it goes, and to which node. */
+static void scan_words(void)
+{
+    static const struct {
+        const char *way, *node;
+    } of[] = {{"to the destination", "draining"},
+              {"forward", " safe"},
+              {"forward", "ordinarily unsafe"},
+              {"forward", "strongly unsafe"},
+              {"aside", " safe"},
+              {"aside", "ordinarily unsafe"}};
+    uint32_t scan;
+
+    for (scan = 0; scan <= 5; scan++) {
+        const char *text = hcube_scan_text(scan);
+        expect(strstr(text, of[scan].way) == text, "the way, scan", scan);
+        expect(strstr(text, of[scan].node) != 0, "the node, scan", scan);
+    }
+}
+
 /* Each place of a row has its two bytes, low byte first. */
 static void nodes(void)
 {
@@ -84,6 +129,8 @@ static void nodes(void)
 int main(void)
 {
     texts();
+    scans();
+    scan_words();
     nodes();
     return failed != 0;
 }

@@ -28,26 +28,52 @@ static void holds_both(uint32_t n, const char *after)
 
 /* ---- each question for a job and to its own cabinet */
 
-static uint32_t label_job(uint32_t n, uint32_t rule, uint32_t job)
+static struct label_question cabinet_of(uint32_t n, uint32_t rule, uint32_t job)
 {
     struct label_question asked = fit_label(n, faults, own[job]);
-    uint8_t merged[MOST_FAULT_BYTES];
-    size_t len = ref_fault_bytes(n);
-    uint32_t answer, want;
     asked.rule = rule;
     asked.job = job;
     asked.draining = draining;
     asked.closed = shut[job];
     asked.labels = both;
-    for (size_t k = 0; k < len; k++)
+    return asked;
+}
+
+/* The fault table with what the job closes. */
+static const uint8_t *merged_of(uint32_t n, uint32_t job)
+{
+    static uint8_t merged[MOST_FAULT_BYTES];
+    for (size_t k = 0; k < ref_fault_bytes(n); k++)
         merged[k] = faults[k] | shut[job][k];
+    return merged;
+}
+
+static uint32_t label_job(uint32_t n, uint32_t rule, uint32_t job)
+{
+    const uint8_t *merged = merged_of(n, job);
+    size_t len = ref_fault_bytes(n);
+    uint32_t answer, want;
     want = ref_label(n, rule, 0, merged, len, draining, len, none, len, own[job],
                      ref_label_bytes(n));
-    answer = check_label(asked);
+    answer = check_label(cabinet_of(n, rule, job));
     expect(answer == want, "n = %u by %u, job %u: labelled with %08x, not %08x", n,
            rule, job, answer, want);
     holds_both(n, "labelling");
     return answer;
+}
+
+static void why_job(uint32_t n, uint32_t rule, uint32_t job, uint32_t x)
+{
+    const uint8_t *merged = merged_of(n, job);
+    size_t len = ref_fault_bytes(n);
+    uint64_t answer, want;
+    want = ref_why_node(n, rule, 0, x, merged, len, draining, len, none, len,
+                        own[job], ref_label_bytes(n));
+    answer = check_why_node(cabinet_of(n, rule, job), x);
+    expect(answer == want, "n = %u by %u, job %u: why %u is %016llx, not %016llx",
+           n, rule, job, x, (unsigned long long)answer,
+           (unsigned long long)want);
+    holds_both(n, "why a label");
 }
 
 static void hop_job(uint32_t n, uint32_t job, uint32_t c, uint32_t d)
@@ -126,7 +152,7 @@ static void step(uint32_t n)
     uint32_t job = random_below(2), nodes = 1u << n;
     uint32_t s = random_below(nodes + (random_below(16) == 0));
     uint32_t d = random_below(nodes + (random_below(16) == 0));
-    switch (random_below(12)) {
+    switch (random_below(13)) {
     case 0: random_shared(n); return;
     case 1: random_faults(n, random_below(600 / n), shut[job]); return;
     case 2: set_byte(n, job, random_below(nodes), (uint8_t)random_bits()); return;
@@ -136,6 +162,7 @@ static void step(uint32_t n)
     case 6: label_job(n, 2 + random_below(2), job); return;
     case 7:
     case 8: hop_job(n, job, s, d); return;
+    case 9: why_job(n, 2 + random_below(2), job, s); return;
     default: walk_job(n, job, s, d); return;
     }
 }

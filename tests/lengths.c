@@ -1,6 +1,7 @@
 /*
- * lengths.c: labelling, hop and walk on buffers of every kind of length, and what
- * is refused since a length is right in its low 32 bits alone.
+ * lengths.c: labelling, hop and walk, and the questions that say why, on buffers of
+ * every kind of length, and what is refused since a length is right in its low 32
+ * bits alone.
  */
 #define _DEFAULT_SOURCE /* MAP_ANONYMOUS, MAP_NORESERVE */
 #include <string.h>
@@ -59,7 +60,17 @@ static void lengths_of_label(uint32_t n, unsigned first, unsigned second)
         *lengths[first] = length_number(k % LENGTHS, exact_first);
         *lengths[second] = length_number(k / LENGTHS, exact_second);
         check_label(asked);
+        if ((k + n) % 3 == 0)
+            check_why_node(asked, random_below(2u << n));
     }
+}
+
+/* Labelling, and why a node has its label. */
+static void is_too_long(struct label_question asked, const char *what)
+{
+    expect(ask_label(asked) == REFUSED(2), "%s", what);
+    expect(ask_why_node(asked, 7) == REFUSED(2), "why, %s", what);
+    expect(ask_why_node(asked, 8) == REFUSED(2), "why of no node, %s", what);
 }
 
 /* Each buffer of labelling in turn is `big` and too long: n = 3, right in the low
@@ -70,19 +81,19 @@ static void label_with(uint8_t *big, size_t beyond)
     struct label_question label = fit_label(3, small, small), asked = label;
     asked.faults = big;
     asked.faults_len += beyond;
-    expect(ask_label(asked) == REFUSED(2), "fault table");
+    is_too_long(asked, "fault table");
     asked = label;
     asked.draining = big;
     asked.draining_len += beyond;
-    expect(ask_label(asked) == REFUSED(2), "draining table");
+    is_too_long(asked, "draining table");
     asked = label;
     asked.closed = big;
     asked.closed_len += beyond;
-    expect(ask_label(asked) == REFUSED(2), "closed table");
+    is_too_long(asked, "closed table");
     asked = label;
     asked.labels = big;
     asked.labels_len += beyond;
-    expect(ask_label(asked) == REFUSED(2), "label buffer");
+    is_too_long(asked, "label buffer");
 }
 
 /* The same for the others. */
@@ -94,6 +105,7 @@ static void lengths_with(uint8_t *big, size_t beyond)
     hop.labels = big;
     hop.labels_len += beyond;
     expect(ask_hop(hop) == REFUSED(2), "hop");
+    expect(ask_why_hop(hop) == REFUSED(2), "why a hop");
     walk.labels = big;
     walk.labels_len += beyond;
     expect(ask_walk(walk) == REFUSED(2), "walk");

@@ -1,8 +1,8 @@
 /*
  * library.c: holds the library, linked as an archive, against the reference.
  *
- *   library               runs all groups of checks; the last two say that every
- *                         refusal, ending and scan came up
+ *   library               runs all groups of checks; the last three say that
+ *                         every refusal, ending, scan and cause came up
  *   library GROUP         runs one, by its word in the table below
  *   library GROUP CASE    runs one case of it, the first being 1, and prints it
  *
@@ -63,6 +63,24 @@ static void check_refusals_seen(void)
     CAME_UP("refusal of label, no job", refusal[LABEL][NO_JOB], 18, 19);
     CAME_UP("refusal of hop, no job", refusal[HOP][NO_JOB], 19, 19);
     CAME_UP("refusal of walk, no job", refusal[WALK][NO_JOB], 19, 19);
+    CAME_UP("refusal of why a label, no job", refusal[WHY_NODE][NO_JOB], 18, 19);
+    CAME_UP("refusal of why a hop, no job", refusal[WHY_HOP][NO_JOB], 19, 19);
+    end_group();
+}
+
+static void check_why_seen(void)
+{
+    begin_group("coverage of causes, rounds and reasons of hops");
+    CAME_UP("why label", why_label, 0, LAST_LABEL);
+    CAME_UP("cause by rule 2", cause[2], 0, 2);
+    CAME_UP("cause by rule 3", cause[3], 0, 2);
+    CAME_UP("dimension named first", named[0], 0, 9);
+    CAME_UP("dimension named second", named[1], 1, 11);
+    CAME_UP("dimension named third", named[2], 2, 11);
+    CAME_UP("round, the last two being of ten and of a hundred", round, 1, 11);
+    CAME_UP("not safe beside a safe node", beside_safe[0], 0, 2);
+    CAME_UP("not safe beside a safe node, one faulty", beside_safe[1], 1, 2);
+    CAME_UP("reason of a hop, scan", why_scan, 0, 5);
     end_group();
 }
 
@@ -86,6 +104,8 @@ static void check_endings_seen(void)
         CAME_UP("labelled n", cube[LABEL][job], 1, 12);
         CAME_UP("hop at n", cube[HOP][job], 1, 12);
         CAME_UP("walk at n", cube[WALK][job], 1, 12);
+        CAME_UP("why a label at n", cube[WHY_NODE][job], 1, 12);
+        CAME_UP("why a hop at n", cube[WHY_HOP][job], 1, 12);
     }
     CAME_UP("notice of n", cube[NOTICE][0], 1, 12);
     CAME_UP("dimension n", cube[DIMENSION][0], 1, 12);
@@ -95,6 +115,7 @@ static void check_endings_seen(void)
 /* The words are also read by tests/run. */
 static const struct group groups[] = {
     {"worked_numbers", check_worked_numbers},
+    {"worked_why", check_worked_why},
     {"orders", check_orders},
     {"label_combinations", check_label_combinations},
     {"job_combinations", check_job_combinations},
@@ -126,6 +147,11 @@ static const struct group groups[] = {
     {"frames", check_frames},
     {"hop_reads", check_hop_reads},
     {"label_buffer", check_label_buffer},
+    {"why_small", check_why_small},
+    {"why_named", check_why_named},
+    {"why_random", check_why_random},
+    {"why_rounds", check_why_rounds},
+    {"why_hops", check_why_hops},
     {"damaged", check_damaged},
     {"dimensions", check_dimensions},
     {"notices", check_notices},
@@ -142,6 +168,7 @@ static const struct group groups[] = {
 static const struct group coverage[] = {
     {NULL, check_refusals_seen},
     {NULL, check_endings_seen},
+    {NULL, check_why_seen},
 };
 
 static int run_all(void)

@@ -1,6 +1,6 @@
 /*
- * orders.c: for hop and walk, inputs to which two refusals apply at once, and what
- * asks those of labelling too (orders_label.c).
+ * orders.c: for hop, why it is taken, and walk, inputs to which two refusals apply
+ * at once, and what asks those of labelling too (orders_label.c).
  */
 #include "orders.h"
 
@@ -67,7 +67,7 @@ static void put_labels(const char *digits)
                                                : digits[k] - '0');
 }
 
-static uint32_t hop_answer(const struct order *order, uint32_t job)
+static struct hop_question hop_of(const struct order *order, uint32_t job)
 {
     uint32_t fitting = order->n & 255;
     struct hop_question asked = fit_hop(fitting, order->s, order->d, labels);
@@ -76,7 +76,17 @@ static uint32_t hop_answer(const struct order *order, uint32_t job)
     asked.job = job;
     asked.labels = buffer_of(fitting, job, labels);
     asked.labels_len += (size_t)order->labels_more;
-    return check_hop(asked);
+    return asked;
+}
+
+static uint64_t hop_answer(const struct order *order, uint32_t job)
+{
+    return check_hop(hop_of(order, job));
+}
+
+static uint64_t why_hop_answer(const struct order *order, uint32_t job)
+{
+    return check_why_hop(hop_of(order, job));
 }
 
 /* ---- walk. 03300330 swings for ever from 0 to 3, and so does a faulty 8 above
@@ -144,7 +154,7 @@ static const struct order walk_orders[] = {
     {.first = 7, .second = 8, .n = 3, .d = 3, .labels = "03330330"},
 };
 
-static uint32_t walk_answer(const struct order *order, uint32_t job)
+static uint64_t walk_answer(const struct order *order, uint32_t job)
 {
     uint32_t fitting = order->n & 255;
     struct walk_question asked =
@@ -170,17 +180,17 @@ static int is_tried(unsigned first, unsigned second, const struct order *orders,
 }
 
 void check_order(unsigned question,
-                 uint32_t (*answer_to)(const struct order *, uint32_t job),
+                 uint64_t (*answer_to)(const struct order *, uint32_t job),
                  const struct order *orders, size_t count)
 {
     const char *name = questions[question].name;
     for (size_t k = 0; k < 2 * count; k++) {
         const struct order *order = &orders[k / 2];
         uint32_t job = order->job ? order->job : k % 2;
-        uint32_t answer = answer_to(order, job);
+        uint64_t answer = answer_to(order, job);
         expect(answer == REFUSED(order->first),
-               "%s, job %u: %08x, where %u is before %u", name, job, answer,
-               order->first, order->second);
+               "%s, job %u: %08llx, where %u is before %u", name, job,
+               (unsigned long long)answer, order->first, order->second);
     }
     for (const unsigned *a = questions[question].refusals; *a; a++)
         for (const unsigned *b = a + 1; *b; b++)
@@ -194,6 +204,7 @@ void check_orders(void)
     memset(row, 0xee, sizeof row);
     check_label_orders();
     check_order(HOP, hop_answer, hop_orders, COUNT(hop_orders));
+    check_order(WHY_HOP, why_hop_answer, hop_orders, COUNT(hop_orders));
     check_order(WALK, walk_answer, walk_orders, COUNT(walk_orders));
     end_group();
 }

@@ -1,6 +1,7 @@
 /*
- * orders_label.c: for labelling, inputs to which two refusals apply at once. 1 and
- * 3 meet only where n is right once narrowed.
+ * orders_label.c: for labelling, and why a node has its label, inputs to which two
+ * refusals apply at once. 1 and 3 meet only where n is right once narrowed. 5 is
+ * none of labelling's: there the first stands alone.
  */
 #include <string.h>
 
@@ -85,9 +86,27 @@ static const struct order label_orders[] = {
     {.first = 2, .second = 3, .n = 2, .closed_byte = 16, .draining_more = -1},
     {.first = 2, .second = 3, .n = 2, .closed_byte = 16, .closed_more = 1},
     {.first = 2, .second = 3, .n = 1, .closed_byte = 255, .labels_more = -2},
+    {.first = 1, .second = 5, .n = 0, .s = 1},
+    {.first = 1, .second = 5, .n = 13, .s = 8192},
+    {.first = 1, .second = 5, .n = 260, .s = 16},
+    {.first = 1, .second = 5, .n = 257, .s = 0xffffffff},
+    {.first = 18, .second = 5, .n = 4, .rule_more = 1, .s = 16},
+    {.first = 18, .second = 5, .n = 1, .rule_more = -2, .s = 65536},
+    {.first = 19, .second = 5, .n = 4, .job = 2, .s = 16},
+    {.first = 19, .second = 5, .n = 12, .job = 256, .s = 4096},
+    {.first = 19, .second = 5, .n = 2, .job = 257, .s = 1u << 31},
+    {.first = 2, .second = 5, .n = 4, .faults_more = 1, .s = 16},
+    {.first = 2, .second = 5, .n = 4, .draining_more = -1, .s = 16},
+    {.first = 2, .second = 5, .n = 4, .closed_more = 1, .s = 0xffffffff},
+    {.first = 2, .second = 5, .n = 4, .labels_more = -16, .s = 16},
+    {.first = 2, .second = 5, .n = 12, .labels_more = 1, .s = 65536},
+    {.first = 3, .second = 5, .n = 1, .fault_byte = 4, .s = 2},
+    {.first = 3, .second = 5, .n = 2, .draining_byte = 16, .s = 4},
+    {.first = 3, .second = 5, .n = 2, .closed_byte = 128, .s = 65536},
+    {.first = 3, .second = 5, .n = 1, .closed_byte = 4, .s = 256},
 };
 
-static uint32_t label_answer(const struct order *order, uint32_t job)
+static struct label_question question_of(const struct order *order, uint32_t job)
 {
     struct label_question asked = fit_label(order->n & 255, faults, labels);
     memset(faults, order->fault_byte, sizeof faults);
@@ -102,10 +121,21 @@ static uint32_t label_answer(const struct order *order, uint32_t job)
     asked.closed = closed;
     asked.closed_len += (size_t)order->closed_more;
     asked.labels_len += (size_t)order->labels_more;
-    return check_label(asked);
+    return asked;
+}
+
+static uint64_t label_answer(const struct order *order, uint32_t job)
+{
+    return check_label(question_of(order, job));
+}
+
+static uint64_t why_answer(const struct order *order, uint32_t job)
+{
+    return check_why_node(question_of(order, job), order->s);
 }
 
 void check_label_orders(void)
 {
     check_order(LABEL, label_answer, label_orders, COUNT(label_orders));
+    check_order(WHY_NODE, why_answer, label_orders, COUNT(label_orders));
 }

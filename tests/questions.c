@@ -11,12 +11,14 @@ const struct question questions[QUESTIONS] = {
     [LABEL] = {"label", {1, 18, 19, 2, 3}},
     [HOP] = {"hop", {1, 19, 2, 5, 4, 6}},
     [WALK] = {"walk", {1, 19, 2, 5, 4, 6, 7, 8}},
+    [WHY_NODE] = {"why a label", {1, 18, 19, 2, 3, 5}},
+    [WHY_HOP] = {"why a hop", {1, 19, 2, 5, 4, 6}},
     [NOTICE] = {"notice", {9, 10, 1, 2, 11, 12}},
     [DIMENSION] = {"dimension", {9, 10, 1}},
 };
 
 static const uint8_t none[MOST_LENT];
-static uint8_t buffers[NOTICE][MOST_LENT]; /* one for each kind of question */
+static uint8_t buffers[WALK + 1][MOST_LENT]; /* one for each kind of question */
 
 /* From a random place in a row of which the first half is any bytes and the
  * second half labels. */
@@ -128,6 +130,22 @@ uint32_t ask_walk(struct walk_question asked)
     keep_walk(asked);
     return hcube_walk(asked.n, asked.job, asked.s, asked.d, asked.labels,
                       asked.labels_len, asked.row, asked.row_len);
+}
+
+uint64_t ask_why_node(struct label_question asked, uint32_t x)
+{
+    keep_why_node(asked, x);
+    return hcube_why_node(asked.n, asked.rule, asked.job, x, asked.faults,
+                          asked.faults_len, asked.draining, asked.draining_len,
+                          asked.closed, asked.closed_len, asked.labels,
+                          asked.labels_len);
+}
+
+uint32_t ask_why_hop(struct hop_question asked)
+{
+    keep_why_hop(asked);
+    return hcube_why_hop(asked.n, asked.job, asked.c, asked.d, asked.labels,
+                         asked.labels_len);
 }
 
 uint32_t ask_dimension(const uint8_t *bytes, size_t len)

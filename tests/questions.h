@@ -17,17 +17,17 @@
 #define MOST_LABEL 4
 #define MOST_REFUSAL 19
 
-enum { LABEL, HOP, WALK, NOTICE, DIMENSION, QUESTIONS };
+enum { LABEL, HOP, WALK, WHY_NODE, WHY_HOP, NOTICE, DIMENSION, QUESTIONS };
 
-/* Name and refusals of each question; 0 ends the row. Labelling, hop and walk
- * test theirs in this order; a notice, or its dimension alone, is read from left
- * to right. */
+/* Name and refusals of each question; 0 ends the row. A notice, or its dimension
+ * alone, is read from left to right; the others test theirs in this order. */
 extern const struct question {
     const char *name;
     unsigned refusals[MOST_REFUSAL + 1];
 } questions[QUESTIONS];
 
-/* What a question is handed. */
+/* What a question is handed. Why a node has its label is asked by labelling's
+ * question and the node, why a hop is taken by the hop's. */
 struct label_question {
     uint32_t n, rule, job;
     const uint8_t *faults;
@@ -80,6 +80,8 @@ void put_anything(uint8_t *bytes, size_t len);
 uint32_t ask_label(struct label_question asked);
 uint32_t ask_hop(struct hop_question asked);
 uint32_t ask_walk(struct walk_question asked);
+uint64_t ask_why_node(struct label_question asked, uint32_t x);
+uint32_t ask_why_hop(struct hop_question asked);
 uint32_t ask_dimension(const uint8_t *bytes, size_t len);
 uint64_t ask_notice(const uint8_t *bytes, size_t len, uint8_t *faults,
                     size_t faults_len);

@@ -214,6 +214,8 @@ static void check_cube(uint32_t dimension, uint32_t number)
     check_labelling();
     check_hops();
     check_walks();
+    check_why_labels();
+    check_why_hops();
     check_refused();
 }
 

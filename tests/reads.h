@@ -13,6 +13,8 @@ void result(const char *what, unsigned cases);
 /* reads_asked.c */
 void check_hops(void);
 void check_walks(void);
+void check_why_labels(void);
+void check_why_hops(void);
 void check_refused(void);
 
 #endif

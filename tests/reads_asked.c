@@ -1,6 +1,7 @@
 /*
- * reads_asked.c: which labels a hop and a walk read, and that what is refused
- * before a label is looked at reads none. The other half holds anything.
+ * reads_asked.c: which labels a hop, a walk, and the questions that say why read,
+ * and that what is refused before a label is looked at reads none. The other half
+ * holds anything.
  */
 #include <stdio.h>
 
@@ -13,6 +14,7 @@
 #define HOPS 200u
 
 static uint8_t row[HCUBE_ROW_BYTES];
+static uint8_t faults[512], draining[512], closed[512];
 
 /* The job's half has labels, of which one may be none. */
 static void put_halves(int one_is_none)
@@ -62,6 +64,56 @@ void check_hops(void)
     result("hops", cases);
 }
 
+/* Why a node has its label: the job's half alone is read and written. One table
+ * with many faulty nodes in large cubes, since each access takes long. */
+void check_why_labels(void)
+{
+    unsigned cases = 0, tables = n <= 6 ? 8 : 1;
+    uint8_t *labels = watched_buffer(HCUBE_NODES(n));
+    size_t bytes = HCUBE_FAULT_BYTES(n);
+    *wrong = 0;
+    for (; cases < tables && !*wrong; cases++) {
+        random_faults(n, 250 >> cases / 2, faults);
+        random_draining(n, faults, draining);
+        random_closed(n, faults, draining, closed);
+        random_bytes(labels, HCUBE_LABEL_BYTES(n));
+        watch_begin();
+        hcube_why_node(n, 2 + (cases + n) % 2, job, any_node(), faults, bytes,
+                       draining, bytes, closed, bytes, labels,
+                       HCUBE_LABEL_BYTES(n));
+        watch_end();
+        expect_from_start(n, job);
+        expect_half();
+        expect_end();
+        if (noted < HCUBE_NODES(n) / 8)
+            snprintf(wrong, sizeof wrong, "a label said with %u accesses",
+                     (unsigned)noted);
+    }
+    result("why labels", cases);
+}
+
+/* Why a hop is taken at c: its own label and each neighbour's, no other, and none
+ * more than twice, since it is looked at for the hop and for its scan. */
+void check_why_hops(void)
+{
+    unsigned cases = 0;
+    uint8_t *labels = watched_buffer(HCUBE_NODES(n));
+    *wrong = 0;
+    for (; cases < HOPS && !*wrong; cases++) {
+        uint32_t c = any_node(), d = any_node();
+        put_halves(cases % 8 == 7);
+        watch_begin();
+        hcube_why_hop(n, job, c, d, labels, HCUBE_LABEL_BYTES(n));
+        watch_end();
+        expect_from_start(n, job);
+        expect_around(c, 2);
+        expect_end();
+        if (noted == 0)
+            snprintf(wrong, sizeof wrong, "a reason that reads nothing");
+    }
+    result("why hops", cases);
+}
+
 /* A walk: reads, all of them in the job's half. Fewer walks in large cubes, since
  * each reads all labels. */
 void check_walks(void)
@@ -97,11 +149,20 @@ void check_refused(void)
     hcube_hop(n, job + 2, 0, 1, labels, len);
     hcube_hop(n, job, 0, 1, labels, len / 2);
     hcube_hop(n, job, 0, 1u << n, labels, len);
+    hcube_why_node(n, 3, job + 2, 0, none, bytes, none, bytes, none, bytes, labels,
+                   len);
+    hcube_why_node(n, 3, job, 0, none, bytes, none, bytes, none, bytes, labels,
+                   len / 2);
+    hcube_why_node(n, 3, job, 1u << n, none, bytes, none, bytes, none, bytes,
+                   labels, len);
+    hcube_why_hop(n, job + 2, 0, 1, labels, len);
+    hcube_why_hop(n, job, 0, 1, labels, len / 2);
+    hcube_why_hop(n, job, 0, 1u << n, labels, len);
     hcube_walk(n, job + 2, 0, 1, labels, len, row, sizeof row);
     hcube_walk(n, job, 0, 1, labels, len / 2, row, sizeof row);
     hcube_walk(n, job, 1u << n, 1, labels, len, row, sizeof row);
     watch_end();
     expect_from_start(n, job);
     expect_end();
-    result("what is refused", 8);
+    result("what is refused", 14);
 }

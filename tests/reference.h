@@ -1,6 +1,6 @@
 /*
  * reference.h: the rules of docs/RULES.md once more, in plain C, to hold the
- * library and the listing program against. The first five functions have the same
+ * library and the listing program against. The first seven functions have the same
  * interface as the library's.
  */
 #ifndef REFERENCE_H
@@ -30,6 +30,13 @@ uint32_t ref_hop(uint32_t n, uint32_t job, uint32_t c, uint32_t d,
 uint32_t ref_walk(uint32_t n, uint32_t job, uint32_t s, uint32_t d,
                   const uint8_t *labels, size_t labels_len,
                   uint8_t *row, size_t row_len);
+uint64_t ref_why_node(uint32_t n, uint32_t rule, uint32_t job, uint32_t x,
+                      const uint8_t *faults, size_t faults_len,
+                      const uint8_t *draining, size_t draining_len,
+                      const uint8_t *closed, size_t closed_len,
+                      uint8_t *labels, size_t labels_len);
+uint32_t ref_why_hop(uint32_t n, uint32_t job, uint32_t c, uint32_t d,
+                     const uint8_t *labels, size_t labels_len);
 uint32_t ref_notice_dimension(const uint8_t *bytes, size_t len);
 uint64_t ref_read_notice(const uint8_t *bytes, size_t len,
                          uint8_t *faults, size_t faults_len);
@@ -54,6 +61,20 @@ unsigned ref_scan(uint32_t n, uint32_t c, uint32_t d, const uint8_t *half,
 unsigned ref_exchanges(uint32_t n, uint32_t rule, const uint8_t *faults,
                        const uint8_t *draining, const uint8_t *closed,
                        uint8_t *half);
+
+/* Of three good tables, by rule 2 or 3: each node's label, and the round that
+ * marked it, counted from 1; 0 where the node does not work, and NOT_MARKED where it
+ * is safe. And what is answered of a node then. */
+#define NOT_MARKED 0xffff
+struct ref_marks {
+    uint8_t label[MOST_NODES];
+    uint16_t round[MOST_NODES];
+};
+void ref_rounds(uint32_t n, uint32_t rule, const uint8_t *faults,
+                const uint8_t *draining, const uint8_t *closed,
+                struct ref_marks *marks);
+uint64_t ref_why(uint32_t n, uint32_t rule, const struct ref_marks *marks,
+                 uint32_t x);
 
 /* Length of a fault, draining or closed table. */
 size_t ref_fault_bytes(uint32_t n);

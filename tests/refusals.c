@@ -1,6 +1,7 @@
 /*
  * refusals.c: labelling, hop and walk on inputs that are refused: random damage,
- * and numbers that would fit once narrowed.
+ * and numbers that would fit once narrowed. Why a node has its label is asked with
+ * labelling's inputs; why a hop is taken is asked with each hop, by check.c.
  */
 #include <string.h>
 
@@ -111,6 +112,8 @@ static void damaged_label(uint32_t n, uint32_t fitting)
     asked.closed_len = any_length(asked.closed_len);
     asked.labels_len = any_length(asked.labels_len);
     check_label(asked);
+    if (random_below(4) == 0)
+        check_why_node(asked, any_node(fitting));
 }
 
 static void damaged_hop_and_walk(uint32_t n, uint32_t fitting)
@@ -146,13 +149,23 @@ void check_damaged(void)
 /* ---- numbers that would be good once narrowed to 8 or 16 bits */
 
 /* Asked with the tables of n = 4, whatever n is given: nobody is faulty. */
-static uint32_t label_at_4(uint32_t n, uint32_t rule, uint32_t job)
+static struct label_question tables_of_4(uint32_t n, uint32_t rule, uint32_t job)
 {
     struct label_question asked = fit_label(4, faults, row);
     asked.n = n;
     asked.rule = rule;
     asked.job = job;
-    return check_label(asked);
+    return asked;
+}
+
+static uint32_t label_at_4(uint32_t n, uint32_t rule, uint32_t job)
+{
+    return check_label(tables_of_4(n, rule, job));
+}
+
+static uint64_t why_at_4(uint32_t n, uint32_t rule, uint32_t job, uint32_t x)
+{
+    return check_why_node(tables_of_4(n, rule, job), x);
 }
 
 static uint32_t hop_at_4(uint32_t n, uint32_t c, uint32_t d)
@@ -170,6 +183,7 @@ static void no_job(uint32_t job)
     hop.job = walk.job = job;
     hop.labels = walk.labels = labels;
     expect(label_at_4(4, 3, job) == REFUSED(19), "label for job %u", job);
+    expect(why_at_4(4, 3, job, 1) == REFUSED(19), "why for job %u", job);
     expect(check_hop(hop) == REFUSED(19), "hop for job %u", job);
     expect(check_walk(walk) == REFUSED(19), "walk for job %u", job);
 }
@@ -179,6 +193,18 @@ static uint32_t walk_at_4(uint32_t n, uint32_t s, uint32_t d)
     struct walk_question asked = fit_walk(4, s, d, labels, row);
     asked.n = n;
     return check_walk(asked);
+}
+
+/* Each number of the question about a node with so many more. */
+static void why_with_more(uint32_t more)
+{
+    expect(why_at_4(4 + more, 3, 0, 1) == REFUSED(1), "why, n");
+    expect(why_at_4(4, 2 + more, 1, 1) == REFUSED(18), "why by rule 2");
+    expect(why_at_4(4, 3 + more, 0, 1) == REFUSED(18), "why by rule 3");
+    for (uint32_t x = 0; x < 16; x++) {
+        expect(why_at_4(4, 3, 0, x + more) == REFUSED(5), "node %u", x + more);
+        expect(why_at_4(4, 2, 1, x + more) == REFUSED(5), "node %u", x + more);
+    }
 }
 
 void check_plain_numbers(void)
@@ -192,6 +218,7 @@ void check_plain_numbers(void)
         expect(label_at_4(4 + more[k], 3, 0) == REFUSED(1), "label");
         expect(label_at_4(4, 2 + more[k], 1) == REFUSED(18), "rule 2");
         expect(label_at_4(4, 3 + more[k], 0) == REFUSED(18), "rule 3");
+        why_with_more(more[k]);
         no_job(more[k]);
         no_job(more[k] + 1);
         expect(hop_at_4(4 + more[k], 0, 1) == REFUSED(1), "hop");
@@ -204,11 +231,14 @@ void check_plain_numbers(void)
     for (uint32_t job = 2; job < 600; job++)
         no_job(job);
     for (unsigned i = 1; i < 32; i++) {
+        if (i >= 4)
+            expect(why_at_4(4, 3, 0, 1u << i) == REFUSED(5), "node %u", 1u << i);
         no_job(1u << i);
         no_job((1u << i) + 1);
         no_job(0u - (1u << i));
     }
     no_job(0xffffffffu);
+    expect(why_at_4(4, 3, 0, 0xffffffffu) == REFUSED(5), "node");
     expect(hop_at_4(0xffffffffu, 0, 0) == REFUSED(1), "n");
     expect(hop_at_4(4, 0xffffffffu, 0) == REFUSED(5), "c");
     expect(walk_at_4(4, 0, 0xffffffffu) == REFUSED(5), "d");

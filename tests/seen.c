@@ -65,6 +65,44 @@ void saw_hop(struct hop_question asked, uint32_t answer)
         SEEN(dimension, dimension);
 }
 
+static void count_cause(uint32_t rule, uint64_t answer)
+{
+    uint64_t cause = HCUBE_WHY_CAUSE(answer), round = HCUBE_VALUE(answer);
+    SEEN(cause[rule], cause);
+    SEEN(round, round < 10 ? round : round < 100 ? 10 : 11);
+    SEEN(named[0], HCUBE_WHY_FIRST(answer));
+    SEEN(named[1], HCUBE_WHY_SECOND(answer));
+    if (cause == HCUBE_CAUSE_MARKED && rule == HCUBE_RULE_CHIU_WU)
+        SEEN(named[2], HCUBE_WHY_THIRD(answer));
+}
+
+void saw_why_node(struct label_question asked, uint64_t answer)
+{
+    uint64_t label = HCUBE_KIND(answer);
+    SEEN(refusal[WHY_NODE][whose(asked.job)], HCUBE_REFUSAL(answer));
+    if (HCUBE_REFUSAL(answer))
+        return;
+    SEEN(cube[WHY_NODE][whose(asked.job)], asked.n);
+    SEEN(why_label, label);
+    if (label == HCUBE_ORDINARY || label == HCUBE_STRONG)
+        count_cause(asked.rule, answer);
+    else
+        SEEN(cause[asked.rule], HCUBE_CAUSE_NONE);
+    if (label == HCUBE_SAFE)
+        SEEN(beside_safe[HCUBE_WHY_FIRST(answer) != 0],
+             HCUBE_WHY_SECOND(answer));
+}
+
+void saw_why_hop(struct hop_question asked, uint32_t answer)
+{
+    SEEN(refusal[WHY_HOP][whose(asked.job)], HCUBE_REFUSAL(answer));
+    if (HCUBE_REFUSAL(answer))
+        return;
+    SEEN(cube[WHY_HOP][whose(asked.job)], asked.n);
+    if (HCUBE_KIND(answer) == HCUBE_HOP)
+        SEEN(why_scan, HCUBE_WHY_SCAN(answer));
+}
+
 void saw_walk(struct walk_question asked, uint32_t answer)
 {
     uint32_t hops = HCUBE_VALUE(answer);

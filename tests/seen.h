@@ -26,6 +26,13 @@ struct seen {
     unsigned long rule[4];             /* by which labels were made */
     unsigned long exchanges[11];       /* 10: ten or more */
     unsigned long label[MOST_LABEL + 1]; /* bytes that labelling wrote */
+    unsigned long why_label[MOST_LABEL + 1]; /* of nodes that were asked about */
+    unsigned long cause[4][3];         /* of their labels, by the rule */
+    unsigned long named[3][12];        /* dimensions of a cause, by their place */
+    unsigned long round[12];           /* 10: ten to 99; 11: a hundred or more */
+    unsigned long beside_safe[2][3];   /* safe nodes, by faulty neighbours and by
+                                        * those that are not safe */
+    unsigned long why_scan[NO_SCAN];   /* that took a hop, as it says itself */
     unsigned long tables[8]; /* nodes labelled to n = 5, by the tables that they
                               * are in: 1 faults, 2 draining, 4 closed */
 };
@@ -35,6 +42,8 @@ extern struct seen seen;
 void saw_label(struct label_question asked, uint32_t answer,
                const uint8_t *labels);
 void saw_hop(struct hop_question asked, uint32_t answer);
+void saw_why_node(struct label_question asked, uint64_t answer);
+void saw_why_hop(struct hop_question asked, uint32_t answer);
 void saw_walk(struct walk_question asked, uint32_t answer);
 void saw_notice(uint64_t answer);
 void saw_dimension(uint32_t answer);
