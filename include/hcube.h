@@ -44,8 +44,9 @@
  *   no byte of it, whatever it holds and whether or not it changes meanwhile.
  *   So in one label buffer one job may be labelled while the other is labelled,
  *   hops or walks.
- * - Within one job, any number of hops and walks may go on at once. While the
- *   job is labelled nobody else reads or changes its half.
+ * - Within one job, any number of hops and walks may go on at once, and of
+ *   hcube_why_hop, which only reads. While the job is labelled, by hcube_label or
+ *   by hcube_why_node, nobody else reads or changes its half.
  * - The tables that are lent to labelling may be lent to both jobs at once.
  *   Nobody changes them meanwhile.
  */
