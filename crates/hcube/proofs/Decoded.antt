@@ -26,20 +26,11 @@ use Rattle.walk.specs.declared.Ending.the-variants as ending
 use Rattle.walk.specs.declared.Walked.{Walked}
 use Rattle.walk.proofs.Local.{spot-lt}
 use Rattle.walk.proofs.Refusals.{walk-good}
-use Rattle.notice.specs.Notice as N
-use Rattle.notice.specs.declared.Noticed.{Noticed}
-use Rattle.notice.specs.declared.Noticed.the-variants as noticed
-use Rattle.notice.proofs.Agree.{parts}
-use Rattle.notice.proofs.Refusals.{refused-notice}
-use Rattle.groups.specs.Number.{refusalIn}
 use Rattle.hcube.specs.Answers.{
-  dimensionNumber,
   hasRow,
   hopNumber,
   labelNumber,
-  noticeNumber,
   packed,
-  packedNotice,
   rowAfter,
   rowByte,
   walkNumber,
@@ -54,14 +45,14 @@ use Rattle.hcube.specs.Decoded.{
   kindPart,
   labelledFrom,
   nodeAt,
-  noticedFrom,
   refusalPart,
   valuePart,
   walkedFrom,
 }
+use Rattle.hcube.proofs.DecodedNotices.{dimension-decoded, notice-decoded}
 use Rattle.hcube.proofs.DecodedReasons.{hop-reason-decoded, node-reason-decoded}
-use Rattle.hcube.proofs.Parts.{above, count-is, cut, dimension-is, kind-is, refusal-is, value-is}
-use Rattle.hcube.proofs.Small.{HopFits, LabelFits, dimension-small, has-row, hop-small, label-small, walk-small, written}
+use Rattle.hcube.proofs.Parts.{cut, kind-is, refusal-is, value-is}
+use Rattle.hcube.proofs.Small.{HopFits, LabelFits, has-row, hop-small, label-small, walk-small, written}
 
 -- ---- the choice by a number's refusal
 
@@ -209,37 +200,6 @@ module _ (n j s d : ℕ) (labels before : List ℕ) where
       (has-row n j s d (length labels) (length before) lab (eqb-true walk-k 0 e)) (row-back (eqb-true walk-k 0 e)))
       (λ e f. refused-decoded before walk-k (f .0) (eqb-false walk-k 0 e))
       (walk-small n j s d (length labels) (length before) lab)
-
--- ---- the notice, its dimension first
-
-dimension-decoded : (bytes : List ℕ)
-    → N.Told (N.dimensionAt bytes) (refusalPart (dimensionNumber (N.dimensionAt bytes))) (valuePart (dimensionNumber (N.dimensionAt bytes)))
-dimension-decoded bytes =
-    let f = dimension-small bytes (N.dimensionAt bytes) refl in
-    record {
-      refusal = refusal-is (refusalIn (N.dimensionAt bytes)) 0 (N.dimensionValue (N.dimensionAt bytes)) (f .0) (omega arith) (f .1);
-      value = value-is (refusalIn (N.dimensionAt bytes)) 0 (N.dimensionValue (N.dimensionAt bytes)) (f .1);
-    }
-
-notice-decoded : (bytes before : List ℕ) → noticedFrom (noticeNumber (N.noticed bytes before)) ≡ N.noticed bytes before
-unfolding noticedFrom
-notice-decoded bytes before = go (N.noticed bytes before) refl
-  where
-    go : (a : Noticed) → N.noticed bytes before ≡ a → noticedFrom (noticeNumber a) ≡ a
-    go (noticed.Notice n m taken) e =
-        let p = parts bytes before n m taken e in
-        let low = above n m (packed 0 0 taken) in
-        let r : refusalPart (packedNotice n m (packed 0 0 taken)) ≡ 0 =
-        low .refusal ∙ refusal-is 0 0 taken (omega arith) (omega arith) (omega (arith, p .short)) in
-        let a = dimension-is n m taken (p .dimension) (p .count) (p .short) in
-        let b = count-is n m taken (p .count) (p .short) in
-        let c : valuePart (packedNotice n m (packed 0 0 taken)) ≡ taken = low .value ∙ value-is 0 0 taken (omega (arith, p .short)) in
-        rw (r, a, b, c)
-    go (noticed.Refused k at) e =
-        let p = refused-notice bytes before k at e in
-        let r : refusalPart (packedNotice 0 0 (packed k 0 at)) ≡ k = omega (arith, p .number .1, p .near) in
-        let c : valuePart (packedNotice 0 0 (packed k 0 at)) ≡ at = omega (arith, p .number .1, p .near) in
-        rw (r, c, ne-eqb k 0 (λ z. omega (arith, p .number .0)))
 
 pub decodes : Decodes
 decodes =

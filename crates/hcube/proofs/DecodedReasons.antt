@@ -43,15 +43,13 @@ hop-back : (a : HopReason) → HopReasonFits a → hopReasonFrom (hopReasonNumbe
 unfolding hopReasonFrom
 hop-back reason.Deliver f = refl
 hop-back (reason.Hop s i) f =
-    let h = f .taken in
-    let v : s * 256 + i < 65536 = omega (arith, h .0, h .1) in
-    let t : scanPart (packed 0 1 (s * 256 + i)) ≡ s = omega (arith, h .0, h .1) in
-    let u : acrossPart (packed 0 1 (s * 256 + i)) ≡ i = omega (arith, h .0, h .1) in
+    let v : s * 256 + i < 65536 = omega (arith, f .0, f .1) in
+    let t : scanPart (packed 0 1 (s * 256 + i)) ≡ s = omega (arith, f .0, f .1) in
+    let u : acrossPart (packed 0 1 (s * 256 + i)) ≡ i = omega (arith, f .0, f .1) in
     rw (refusal-is 0 1 (s * 256 + i) (omega arith) (omega arith) v, kind-is 0 1 (s * 256 + i) (omega arith) v, t, u)
 hop-back reason.Halted f = refl
 hop-back (reason.Refused k) f =
-    let h = f .taken in
-    rw (refusal-is k 0 0 (h .1) (omega arith) (omega arith), ne-eqb k 0 (λ z. omega (arith, h .0)))
+    rw (refusal-is k 0 0 (f .1) (omega arith) (omega arith), ne-eqb k 0 (λ z. omega (arith, f .0)))
 
 pub hop-reason-decoded : (n j c d m : ℕ) (lab : ℕ → ℕ) → hopReasonFrom (hopReasonNumber (hopReason n j c d m lab)) ≡ hopReason n j c d m lab
 hop-reason-decoded n j c d m lab = hop-back (hopReason n j c d m lab) (hop-reason-small n j c d m lab)

@@ -131,26 +131,21 @@ node-small K j m x =
 
 -- ---- a hop
 
--- the scan and the dimension
-abbrev taken : HopReason → (small : ℕ) → Type 0
-taken Deliver n = Unit {0}
-taken (Hop s i) n = (s < 6) × (i < n)
-taken Halted n = Unit {0}
-taken (Refused k) n = (1 ≤ k) × (k < 256)
+-- the scan and the dimension of a hop, and a refusal, which is none of 0
+abbrev pub HopReasonFits : HopReason → Type 0
+HopReasonFits Deliver = Unit {0}
+HopReasonFits (Hop s i) = (s < 6) × (i < 12)
+HopReasonFits Halted = Unit {0}
+HopReasonFits (Refused k) = (1 ≤ k) × (k < 256)
 
-pub record HopReasonFits (a : HopReason) : Type 0 where
-  pub taken : taken a 12
-
-taken-small : (n : ℕ) (lab : ℕ → ℕ) (c d : ℕ) (a : HopReason) → HopExplained n lab c d a → n ≤ 12 → taken a 12
-taken-small n lab c d _ (arrived e) h = tt
-taken-small n lab c d _ (took {s} {i} far p) h = (hit-scan n lab c d (p .hits), omega (arith, p .dimension))
-taken-small n lab c d _ (stopped far none) h = tt
+explained-small : (n : ℕ) (lab : ℕ → ℕ) (c d : ℕ) (a : HopReason) → HopExplained n lab c d a → n ≤ 12 → HopReasonFits a
+explained-small n lab c d _ (arrived e) h = tt
+explained-small n lab c d _ (took {s} {i} far p) h = (hit-scan n lab c d (p .hits), omega (arith, p .dimension))
+explained-small n lab c d _ (stopped far none) h = tt
 
 pub hop-reason-small : (n j c d m : ℕ) (lab : ℕ → ℕ) → HopReasonFits (X.hopReason n j c d m lab)
 unfolding X.hopReason
 hop-reason-small n j c d m lab =
     by-cases HopReasonFits (eqb (H.hopRefusal n j c d m lab) 0)
-    (λ e. record {
-      taken = taken-small n lab c d _ (hop-explained n lab c d) (hop-good n j c d m lab (eqb-true (H.hopRefusal n j c d m lab) 0 e) .halved .small);
-    })
-    (λ e. let z = eqb-false (H.hopRefusal n j c d m lab) 0 e in record { taken = (omega (arith, z), omega (arith, hop-refusal n j c d m lab)) })
+    (λ e. explained-small n lab c d _ (hop-explained n lab c d) (hop-good n j c d m lab (eqb-true (H.hopRefusal n j c d m lab) 0 e) .halved .small))
+    (λ e. let z = eqb-false (H.hopRefusal n j c d m lab) 0 e in (omega (arith, z), omega (arith, hop-refusal n j c d m lab)))

@@ -45,11 +45,10 @@ use Rattle.promises.specs.Library.{Library, rattle, c}
 use Rattle.promises.specs.Refusals.{BothHalves, HopGiven, Job, LabelGiven, NoticeGiven, Rule, WalkGiven}
 use Rattle.promises.proofs.Given.{all-used, job-below, rule-bounds, table-length}
 use Rattle.promises.proofs.Library.{Faithful, rattle-faithful, c-faithful}
-use Rattle.hop.proofs.Refusals.{of-decided}
 use Rattle.promises.proofs.Outcomes.{answered, labels-kept}
 use Rattle.promises.proofs.Refusals.{refusals}
 use Rattle.promises.proofs.Sizes as sizes
-use Rattle.promises.proofs.Walks.{again, blank, ends, frame-once, steps}
+use Rattle.promises.proofs.Walks.{again, blank, decided, ends, frame-once, steps}
 
 module _ (lib : Library) (F : Faithful lib) where
   -- ---- what labelling left
@@ -208,7 +207,7 @@ module _ (lib : Library) (F : Faithful lib) where
         labels = λ {K} m. of-left (Demand2 K) m (demand2 K);
         how-long = λ {K} {j} m. of-left (HowLong K) m (how-long K j (left m .accepted));
         hop = λ {n} {j} {c} {d} {buffer} {x} m.
-            subst (Picked n (labelFor n j buffer) c d) (of-decided n j c d (length buffer) (labelFor n j buffer) x (sym (F .hops m)) .1)
+            subst (Picked n (labelFor n j buffer) c d) (decided lib F m)
             (picked n (labelFor n j buffer) c d);
         hop-local = λ {n} {j} {c} {d} {buffer} {buffer′} m m′ long own near. F .hops m
             ∙ ap (λ (k : ℕ). H.hopped n j c d k (labelFor n j buffer)) long

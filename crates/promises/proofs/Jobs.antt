@@ -10,7 +10,6 @@ use native.Mathlib.Omega.{arith}
 use lib.ListN.{length}
 use Rattle.cube.specs.Tables.{labelIn, nodeBit, tab}
 use Rattle.jobs.specs.Jobs.{half, labelFor, withHalf}
-use Rattle.jobs.proofs.Halves.{is-job}
 use Rattle.jobs.proofs.Laws.{halves-alike}
 use Rattle.rule.specs.Cabinet.{Cabinet, exchangesOf, faulty, labelsOf, out, outByte}
 use Rattle.rule.specs.Rule.{exchanges, label}
@@ -18,12 +17,12 @@ use Rattle.labels.specs.Labelling.{labelRefusal, labelled, labelsAfter}
 use Rattle.labels.specs.declared.Labelled.{Labelled}
 use Rattle.labels.specs.declared.Labelled.the-variants.{Exchanges}
 use Rattle.labels.proofs.Refusal.{buffer-sized, fitting, length-kept, of-exchanges}
-use Rattle.hop.specs.Hop.{hopRefusal, hopped}
+use Rattle.hop.specs.Hop.{hopped}
 use Rattle.hop.specs.declared.Hopped.{Hopped}
 use Rattle.why.specs.HopReasons.{hopReason}
-use Rattle.why.specs.NodeReasons.{nodeReason, nodeRefusal}
+use Rattle.why.specs.NodeReasons.{nodeReason}
 use Rattle.why.specs.declared.NodeReason.{NodeReason}
-use Rattle.walk.specs.Walk.{rowBytes, walkRefusal, walked}
+use Rattle.walk.specs.Walk.{rowBytes, walked}
 use Rattle.walk.specs.declared.Walked.{Walked}
 use Rattle.theorems.specs.Demand3.{Walks}
 use Rattle.theorems.specs.Words.{Takes, Works}
@@ -31,6 +30,7 @@ use Rattle.promises.specs.Answers.{Answers}
 use Rattle.promises.specs.Demands.{Demands}
 use Rattle.promises.specs.Jobs.{Jobs, Meanwhile, SameTo, another, another-why, nothing}
 use Rattle.promises.specs.Library.{Library, rattle, c}
+use Rattle.promises.proofs.Alike.{hop-alike, label-alike, walk-alike, why-hop-alike, why-node-alike}
 use Rattle.promises.proofs.Answers.{c-answers, rattle-answers}
 use Rattle.promises.proofs.Demands.{c-demands, rattle-demands}
 use Rattle.promises.proofs.Given.{job-below}
@@ -114,29 +114,6 @@ module _ (K₀ K₁ : Cabinet) (e : K₀ .n ≡ K₁ .n) (l : List ℕ) where
 
       nor : length l ≢ 2 * size → first-1 ≡ l
       nor z = ap (labelsAfter K₀ 0) (one z) ∙ zero z
-
--- ---- the jobs are alike: which one it is matters for 19 alone
-
-module _ {i j : ℕ} (hi : i < 2) (hj : j < 2) where
-  label-alike : (K : Cabinet) (m : ℕ) → labelled K i m ≡ labelled K j m
-  unfolding labelled labelRefusal
-  label-alike K m = rw (is-job i hi, is-job j hj)
-
-  hop-alike : (n c d m : ℕ) (lab : ℕ → ℕ) → hopped n i c d m lab ≡ hopped n j c d m lab
-  unfolding hopped hopRefusal
-  hop-alike n c d m lab = rw (is-job i hi, is-job j hj)
-
-  why-node-alike : (K : Cabinet) (m x : ℕ) → nodeReason K i m x ≡ nodeReason K j m x
-  unfolding nodeReason nodeRefusal
-  why-node-alike K m x = rw (is-job i hi, is-job j hj)
-
-  why-hop-alike : (n c d m : ℕ) (lab : ℕ → ℕ) → hopReason n i c d m lab ≡ hopReason n j c d m lab
-  unfolding hopReason hopRefusal
-  why-hop-alike n c d m lab = rw (is-job i hi, is-job j hj)
-
-  walk-alike : (n s d m room : ℕ) (lab : ℕ → ℕ) → walked n i s d m room lab ≡ walked n j s d m room lab
-  unfolding walked walkRefusal
-  walk-alike n s d m room lab = rw (is-job i hi, is-job j hj)
 
 -- ---- of a library
 

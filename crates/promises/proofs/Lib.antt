@@ -15,6 +15,7 @@ pub mod Answers
 pub mod Tied
 pub mod Settled
 pub mod Left
+pub mod Alike
 pub mod Jobs
 pub mod Worked
 pub mod Promises

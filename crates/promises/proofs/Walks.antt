@@ -56,7 +56,7 @@ module _ (lib : Library) (F : Faithful lib) where
 
   -- ---- a frame
 
-  decided : {n j c d : ℕ} {buffer : List ℕ} {x : Decision} → lib .hops n j c d buffer (hopped.Decided x) → H.hop n (labelFor n j buffer) c d ≡ x
+  pub decided : {n j c d : ℕ} {buffer : List ℕ} {x : Decision} → lib .hops n j c d buffer (hopped.Decided x) → H.hop n (labelFor n j buffer) c d ≡ x
   decided {n} {j} {c} {d} {buffer} {x} m = of-decided n j c d (length buffer) (labelFor n j buffer) x (sym (F .hops m)) .1
 
   pub frame-once : {n j d t : ℕ} {buffer : List ℕ} {x : Decision} (at : ℕ → ℕ)

@@ -24,13 +24,13 @@ enum-known-answer : tie.Need-enum-known-answer
 enum-known-answer c = search needs
 
 mul-pack : tie.Need-mul-pack
-mul-pack c = let f = rw (c .before .answer .given .1) at (small (c .before .before .before)) in omega (arith, f .taken)
+mul-pack c = let f = rw (c .before .answer .given .1) at (small (c .before .before .before)) in omega (arith, f)
 
 add-pack : tie.Need-add-pack
-add-pack c = let f = rw (c .before .answer .given .1) at (small (c .before .before .before)) in omega (arith, f .taken)
+add-pack c = let f = rw (c .before .answer .given .1) at (small (c .before .before .before)) in omega (arith, f)
 
 pack-requires-2 : tie.Need-pack-requires-2
-pack-requires-2 c κs = let f = rw (c .before .answer .given .1) at (small (c .before .before .before)) in omega (arith, f .taken)
+pack-requires-2 c κs = let f = rw (c .before .answer .given .1) at (small (c .before .before .before)) in omega (arith, f)
 
 enum-told-2 : tie.Need-enum-told-2
 enum-told-2 c = search needs
@@ -42,7 +42,7 @@ enum-known-answer-2 : tie.Need-enum-known-answer-2
 enum-known-answer-2 c = search needs
 
 pack-requires-4 : tie.Need-pack-requires-4
-pack-requires-4 c κs = let f = rw (c .before .answer2 .given .1) at (small (c .before .before .before)) in omega (arith, f .taken)
+pack-requires-4 c κs = let f = rw (c .before .answer2 .given .1) at (small (c .before .before .before)) in omega (arith, f)
 
 returns : tie.Need-returns
 returns c = c .pack .ensures ∙ ap hopReasonNumber (sym (c .before .enum-told .given .1) ∙ c .before .before .before .why-hop .ensures)

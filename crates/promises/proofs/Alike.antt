@@ -1,0 +1,31 @@
+-- The jobs are alike: which one it is matters for 19 alone.
+use mathlib.Core.Path.{_≡_}
+use Prim.Native.Nat.{ℕ, _<_}
+use Rattle.jobs.proofs.Halves.{is-job}
+use Rattle.rule.specs.Cabinet.{Cabinet}
+use Rattle.labels.specs.Labelling.{labelRefusal, labelled}
+use Rattle.hop.specs.Hop.{hopRefusal, hopped}
+use Rattle.walk.specs.Walk.{walkRefusal, walked}
+use Rattle.why.specs.HopReasons.{hopReason}
+use Rattle.why.specs.NodeReasons.{nodeReason, nodeRefusal}
+
+module _ {i j : ℕ} (hi : i < 2) (hj : j < 2) where
+  pub label-alike : (K : Cabinet) (m : ℕ) → labelled K i m ≡ labelled K j m
+  unfolding labelled labelRefusal
+  label-alike K m = rw (is-job i hi, is-job j hj)
+
+  pub hop-alike : (n c d m : ℕ) (lab : ℕ → ℕ) → hopped n i c d m lab ≡ hopped n j c d m lab
+  unfolding hopped hopRefusal
+  hop-alike n c d m lab = rw (is-job i hi, is-job j hj)
+
+  pub why-node-alike : (K : Cabinet) (m x : ℕ) → nodeReason K i m x ≡ nodeReason K j m x
+  unfolding nodeReason nodeRefusal
+  why-node-alike K m x = rw (is-job i hi, is-job j hj)
+
+  pub why-hop-alike : (n c d m : ℕ) (lab : ℕ → ℕ) → hopReason n i c d m lab ≡ hopReason n j c d m lab
+  unfolding hopReason hopRefusal
+  why-hop-alike n c d m lab = rw (is-job i hi, is-job j hj)
+
+  pub walk-alike : (n s d m room : ℕ) (lab : ℕ → ℕ) → walked n i s d m room lab ≡ walked n j s d m room lab
+  unfolding walked walkRefusal
+  walk-alike n s d m room lab = rw (is-job i hi, is-job j hj)
