@@ -90,6 +90,8 @@ void check_true(uint32_t n, uint32_t rule, uint32_t x)
         due = due_of_safe(n, x);
     else if (is_unsafe(x))
         due = due_of_unsafe(n, rule, x);
+    if (answer != due)
+        show_why(x);
     expect(answer == due, "n = %u by %u, node %u: %016llx is due, not %016llx", n,
            rule, x, (unsigned long long)due, (unsigned long long)answer);
     if (is_unsafe(x))
