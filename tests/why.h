@@ -14,6 +14,8 @@ void begin_why(uint32_t n, uint32_t rule);
 /* What the library answers of a node. It is asked once, and then held against the
  * reference, and the label buffer against what labelling left there. */
 uint64_t why_of(uint32_t x);
+/* Asks it once more where something is wrong: a replay shows the last question. */
+void show_why(uint32_t x);
 
 /* In why_cause.c: that the answer of a node is true, by the labels and by the
  * answers of its neighbours; and that the causes lead from it to a node that does

@@ -23,10 +23,11 @@ static uint32_t round_of(uint32_t x)
     return HCUBE_VALUE(why_of(x));
 }
 
-/* It does not work, or was marked before this round. */
+/* It does not work, or was marked before this round, which none was before the
+ * first. */
 static int is_bad(uint32_t x, uint32_t round)
 {
-    return !works(x) || (is_unsafe(x) && round_of(x) < round);
+    return !works(x) || (round > 1 && is_unsafe(x) && round_of(x) < round);
 }
 
 /* ---- what is due */
@@ -55,30 +56,19 @@ static uint64_t due_of_safe(uint32_t n, uint32_t x)
            ((uint64_t)count_near(n, x, is_not_safe) << 40);
 }
 
-/* The dimensions of the lowest neighbours of which there are so many, those that
- * do not work or were marked before this round. */
-static uint64_t due_names(uint32_t n, uint32_t x, uint32_t round, unsigned count)
-{
-    uint64_t due = 0;
-    unsigned found = 0;
-    for (uint32_t i = 0; i < n && found < count; i++)
-        if (is_bad(x ^ 1u << i, round)) {
-            due |= (uint64_t)i << (32 + 8 * found);
-            found++;
-        }
-    return found == count ? due : UINT64_MAX; /* it does not meet the rule */
-}
-
+/* By two that do not work in round 1, or else by as many as the rule says that do
+ * not work or were marked before. With fewer no round marks it: no answer is due. */
 static uint64_t due_of_unsafe(uint32_t n, uint32_t rule, uint32_t x)
 {
-    uint32_t round = round_of(x);
-    uint64_t due = ((uint64_t)labels[x] << 16) + round;
-    if (count_near(n, x, is_out_of_work) >= 2)
-        return round == 1 ? due + ((uint64_t)HCUBE_CAUSE_FAULTY << 56) +
-                                due_names(n, x, 1, 2)
-                          : UINT64_MAX; /* the first round marks it */
-    return due + ((uint64_t)HCUBE_CAUSE_MARKED << 56) +
-           due_names(n, x, round, rule);
+    int by_faulty = count_near(n, x, is_out_of_work) >= 2;
+    uint32_t round = by_faulty ? 1 : round_of(x);
+    unsigned cause = by_faulty ? HCUBE_CAUSE_FAULTY : HCUBE_CAUSE_MARKED;
+    unsigned count = by_faulty ? 2 : rule, found = 0;
+    uint64_t due = ((uint64_t)cause << 56) + ((uint64_t)labels[x] << 16) + round;
+    for (uint32_t i = 0; i < n && found < count; i++)
+        if (is_bad(x ^ 1u << i, round))
+            due += (uint64_t)i << (32 + 8 * found++);
+    return found == count ? due : UINT64_MAX;
 }
 
 /* ---- and what is answered */
@@ -100,6 +90,8 @@ void check_true(uint32_t n, uint32_t rule, uint32_t x)
         due = due_of_safe(n, x);
     else if (is_unsafe(x))
         due = due_of_unsafe(n, rule, x);
+    if (answer != due)
+        show_why(x);
     expect(answer == due, "n = %u by %u, node %u: %016llx is due, not %016llx", n,
            rule, x, (unsigned long long)due, (unsigned long long)answer);
     if (is_unsafe(x))

@@ -67,7 +67,7 @@ static int is_near_bad(uint32_t n, uint32_t c)
 static void explains(uint32_t n, uint32_t c, uint32_t d)
 {
     struct hop_question asked = fit_hop(n, c, d, labels);
-    uint32_t why = check_why_hop(asked), hop = ask_hop(asked);
+    uint32_t hop = ask_hop(asked), why = check_why_hop(asked);
     int holds;
     if (is_near_bad(n, c))
         holds = why == REFUSED(4);

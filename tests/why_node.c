@@ -55,6 +55,12 @@ uint64_t why_of(uint32_t x)
     return answers[x];
 }
 
+void show_why(uint32_t x)
+{
+    memcpy(at_hand.labels, before, at_hand.labels_len);
+    ask_why_node(at_hand, x);
+}
+
 static void why_all(uint32_t n, uint32_t rule)
 {
     begin_why(n, rule);

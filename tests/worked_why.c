@@ -151,9 +151,11 @@ static void small_cubes(void)
         why_hop(7, 3, 0x10302);
     }
     set(1, 3, 0x01, 0, 0);
-    why(0, 0x0000000000030000);
-    why(1, 0x0000010100000000);
     why(2, REFUSED(5));
+    expect(labels[0] == 0xee && labels[1] == 0xee, "labels of what is refused");
+    why(0, 0x0000000000030000);
+    expect(labels[0] == 3 && labels[1] == 0, "labels of a 1-cube");
+    why(1, 0x0000010100000000);
     why_hop(1, 0, 0x20000);
 }
 
