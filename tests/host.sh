@@ -53,7 +53,7 @@ OBJDUMP=${OBJDUMP:-${prefix}objdump}
 run_c=$emulator
 run_proved="$emulator $kit_tools/lib/ld-linux-x86-64.so.2 --library-path $kit_tools/lib"
 
-library_files='tests/library.c tests/report.c tests/asked.c tests/check.c tests/seen.c tests/questions.c tests/lent.c tests/cabinet.c
+library_files='tests/library.c tests/report.c tests/runs.c tests/asked.c tests/check.c tests/seen.c tests/questions.c tests/lent.c tests/cabinet.c
     tests/worked.c tests/worked_why.c tests/orders.c tests/orders_label.c tests/orders_notice.c tests/combinations.c tests/combinations_label.c
     tests/refusals.c tests/lengths.c tests/tables.c tests/exchanges.c tests/draining.c tests/bounds.c tests/enough.c tests/closed.c
     tests/jobs.c tests/halves.c tests/long_walks.c tests/frames.c tests/why_node.c tests/why_cause.c tests/why_named.c tests/why_hop.c

@@ -173,12 +173,8 @@ static const struct group coverage[] = {
 
 static int run_all(void)
 {
-    int failed = 0;
-    for (size_t k = 0; k < COUNT(groups); k++)
-        failed |= run_group(&groups[k]);
-    for (size_t k = 0; k < COUNT(coverage); k++)
-        failed |= run_group(&coverage[k]);
-    return failed;
+    int failed = run_groups(groups, COUNT(groups));
+    return run_groups(coverage, COUNT(coverage)) | failed;
 }
 
 /* A number of digits alone, from 1 on; else 0. */
@@ -195,7 +191,7 @@ int main(int count, char **words)
         if (strcmp(words[1], groups[k].word) != 0)
             continue;
         if (count == 2)
-            return run_group(&groups[k]);
+            return run_groups(&groups[k], 1);
         if (count == 3 && case_number(words[2]) != 0)
             return run_case(&groups[k], case_number(words[2]));
     }

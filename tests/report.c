@@ -1,34 +1,20 @@
-/* report.c: groups of checks, in processes, and what is printed of them. */
-#define _DEFAULT_SOURCE /* MAP_ANONYMOUS, alarm */
+/* report.c: a group of checks, in the process that it has to itself. */
+#define _DEFAULT_SOURCE /* alarm */
 #include "report.h"
 
 #include <signal.h>
 #include <stdarg.h>
 #include <stdint.h>
 #include <stdio.h>
-#include <stdlib.h>
-#include <sys/mman.h>
-#include <sys/wait.h>
 #include <unistd.h>
 
-#include "asked.h"
 #include "cases.h"
-#include "seen.h"
+#include "runs.h"
 
-#define MOST_SECONDS 300u /* of one group, on a slow machine */
+/* In the process of a group, what it leaves. */
+static struct left *left;
 
-/* What the process of a group leaves to the program, in memory that they share. */
-static struct left {
-    const char *title;
-    unsigned long cases, failures, first; /* the first that failed; 0 if none did */
-    int ended;
-    struct seen seen;
-} *left;
-
-/* The case that is replayed; 0 if all are run. */
-static unsigned long only;
-
-/* ---- in the process of a group */
+unsigned long only;
 
 void begin_group(const char *title)
 {
@@ -89,115 +75,19 @@ static uint64_t seed_of(const char *word)
     return seed;
 }
 
-static void start_process(const struct group *group)
+void run_process(const struct run *run)
 {
     static const int ends[] = {SIGSEGV, SIGBUS, SIGILL, SIGFPE, SIGTRAP, SIGABRT,
                                SIGALRM};
     for (size_t k = 0; k < COUNT(ends); k++)
         signal(ends[k], on_signal);
+    left = run->left;
+    if (run->group->word) /* what it sees itself; the others speak of all */
+        seen = (struct seen){0};
     alarm(MOST_SECONDS);
+    dup2(fileno(run->printed), STDOUT_FILENO);
     setvbuf(stdout, NULL, _IOLBF, 0); /* nothing is lost by a signal */
-    random_seed(seed_of(group->word));
-    group->check();
+    random_seed(seed_of(run->group->word));
+    run->group->check();
     end_process();
-}
-
-/* ---- in the program */
-
-void *shared_memory(size_t len)
-{
-    void *memory = mmap(NULL, len, PROT_READ | PROT_WRITE,
-                        MAP_SHARED | MAP_ANONYMOUS, -1, 0);
-    if (memory == MAP_FAILED) {
-        perror("mmap");
-        exit(2);
-    }
-    return memory;
-}
-
-/* Runs the process; how it ended: 0, or 128 and the signal. */
-static int run_process(const struct group *group)
-{
-    int status;
-    pid_t process;
-    if (!left)
-        left = shared_memory(sizeof *left);
-    *left = (struct left){.title = group->word};
-    fflush(stdout);
-    process = fork();
-    if (process == 0)
-        start_process(group);
-    if (process < 0 || waitpid(process, &status, 0) != process) {
-        perror("fork");
-        exit(2);
-    }
-    if (left->ended)
-        seen = left->seen;
-    return WIFEXITED(status) ? WEXITSTATUS(status) : 128 + WTERMSIG(status);
-}
-
-static void print_replay(const struct group *group, unsigned long number)
-{
-    const char *words = getenv("REPLAY");
-    if (!words)
-        return;
-    printf("    replay: %s", words);
-    if (group->word)
-        printf(":%s", group->word);
-    if (group->word && number)
-        printf(":%lu", number);
-    printf("\n");
-}
-
-static void print_end(int status)
-{
-    printf("FAIL library %s: ", left->title);
-    if (status == 128 + SIGSEGV || status == 128 + SIGBUS)
-        printf("memory outside a lent buffer was touched");
-    else if (status == 128 + SIGALRM)
-        printf("no end after %u seconds", MOST_SECONDS);
-    else
-        printf("ended with status %d", status);
-    printf(", case %lu\n", left->cases + 1);
-}
-
-int run_group(const struct group *group)
-{
-    int status = run_process(group);
-    if (status != 0 || !left->ended) {
-        print_end(status);
-        if (left->first)
-            print_replay(group, left->first);
-        print_replay(group, left->cases + 1);
-    } else if (left->failures || left->cases == 0) {
-        printf("FAIL library %s: %lu of %lu cases\n", left->title, left->failures,
-               left->cases);
-        print_replay(group, left->first);
-    } else {
-        printf("ok library %s: %lu cases\n", left->title, left->cases);
-        return 0;
-    }
-    return 1;
-}
-
-int run_case(const struct group *group, unsigned long number)
-{
-    int status;
-    only = number;
-    keep_questions();
-    status = run_process(group);
-    if (status != 0) {
-        print_asked();
-        print_end(status);
-        return 1;
-    }
-    if (left->cases < number) {
-        fprintf(stderr, "library: %s has %lu cases, and no case %lu\n",
-                group->word, left->cases, number);
-        return 2;
-    }
-    print_asked();
-    printf("%s library %s: case %lu\n", left->failures ? "FAIL" : "ok",
-           left->title, number);
-    return left->failures != 0;
 }

@@ -12,14 +12,15 @@ struct group {
     void (*check)(void);
 };
 
-/* Runs the check in a process that starts as the program did, with random numbers
- * by the group's word. So a group does the same alone as among the others, and
- * what ends one ends no other. What it saw (seen.h) is counted here. Prints
- * `ok library TITLE: N cases` or `FAIL ..`; whether it failed.
+/* Runs each check in a process that starts as the program did, with random numbers
+ * by the group's word, as many at once as there are processors. So a group does the
+ * same alone as among the others, and what ends one ends no other. Prints in their
+ * order `ok library TITLE: N cases` or `FAIL ..`, and counts what they saw (seen.h);
+ * whether one failed.
  *
  * Behind FAIL stands a line `replay: ..`, if the environment has the first words
  * of it in REPLAY. */
-int run_group(const struct group *group);
+int run_groups(const struct group *groups, size_t count);
 
 /* Runs the check up to this case, the first being 1, and prints whether it holds,
  * why not, and the last question that was asked of the library (asked.h). 0 or 1;
