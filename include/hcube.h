@@ -193,7 +193,8 @@ HCUBE_INLINE const char *hcube_refusal_text(uint32_t number)
     }
 }
 
-/* The scan that took a hop in words, for logs. */
+/* The scan that took a hop in words, for logs: of an answer of hcube_why_hop of
+ * kind HCUBE_HOP. The other kinds have no scan, and 0 in its place. */
 HCUBE_INLINE const char *hcube_scan_text(uint32_t scan)
 {
     switch (scan) {
@@ -233,7 +234,8 @@ HCUBE_INLINE const char *hcube_scan_text(uint32_t scan)
 #define HCUBE_WHY_SECOND(answer) (((answer) >> 40) & 0xff)
 #define HCUBE_WHY_THIRD(answer) (((answer) >> 48) & 0xff)
 
-/* Parts of the value of hcube_why_hop: scan * 256 + dimension. */
+/* Parts of the value of hcube_why_hop, of kind HCUBE_HOP: scan * 256 +
+ * dimension. */
 #define HCUBE_WHY_SCAN(answer) (((answer) >> 8) & 0xff)
 #define HCUBE_WHY_DIMENSION(answer) ((answer) & 0xff)
 

@@ -57,13 +57,12 @@ module _ (n k : ℕ) (F : ℕ → Bool) (low : 2 ≤ k) (high : k ≤ 3) where
       (λ (b : MarkedBefore n k F (at 0) (at 1)). step b (comes-down most (λ t. at (suc t)) (omega (arith, b .1)) (b .0) (λ t. D (suc t))))
       (leads (at 0) (at 1) M (D 0 M))
     where
-      above : ((t : ℕ) × (t ≤ roundOf n k F (at 1)) × (F (at (suc t)) ≡ true) × ((s : ℕ) → s < t → Marked n k F (at (suc s)))) → (t s : ℕ)
-          → ((s : ℕ) → s < t → Marked n k F (at (suc s))) → s < suc t → Marked n k F (at s)
-      above _ t zero c l = M
-      above _ t (suc s) c l = c s (omega arith)
+      above : (t s : ℕ) → ((s : ℕ) → s < t → Marked n k F (at (suc s))) → s < suc t → Marked n k F (at s)
+      above t zero c l = M
+      above t (suc s) c l = c s (omega arith)
 
       step : MarkedBefore n k F (at 0) (at 1) → ComesDown n k F (λ t. at (suc t)) (roundOf n k F (at 1)) → ComesDown n k F at (roundOf n k F (at 0))
-      step b c = (suc (c .0), omega (arith, c .1, b .1), c .2, λ s. above c (c .0) s (c .3))
+      step b c = (suc (c .0), omega (arith, c .1, b .1), c .2, λ s. above (c .0) s (c .3))
 
   causes : Causes n k F
   unfolding roundOf

@@ -13,7 +13,7 @@ use Rattle.causes.specs.declared.Cause.the-variants.{Faulty, Two, Three}
 unfoldable pub from : (n : ℕ) (p : ℕ → Bool) (i : ℕ) → ℕ
 from n p i = least n (λ j. leb i j && p j)
 
--- the lowest dimension that has p, and after so many of them the next one
+-- the dimension that has p and has so many lower ones before it that have p; n where there is none
 unfoldable pub nth : (n : ℕ) (p : ℕ → Bool) (passed : ℕ) → ℕ
 nth n p zero = from n p 0
 nth n p (suc passed) = from n p (nth n p passed + 1)
@@ -25,13 +25,14 @@ outNear F x i = F (flip i x)
 abbrev pub badNear : (F m : ℕ → Bool) (x i : ℕ) → Bool
 badNear F m x i = F (flip i x) || m (flip i x)
 
--- the cause of x, where m are the marks of the earlier rounds: two that do not work, if it has two, and otherwise as many bad ones as the rule's number
+-- as many bad ones as the rule's number
 unfoldable pub badCause : (n k : ℕ) (F m : ℕ → Bool) (x : ℕ) → Cause
 badCause n k F m x =
     cond (eqb k 2)
     (Two (nth n (badNear F m x) 0) (nth n (badNear F m x) 1))
     (Three (nth n (badNear F m x) 0) (nth n (badNear F m x) 1) (nth n (badNear F m x) 2))
 
+-- the cause of x, where m are the marks of the earlier rounds: two that do not work, if it has two, and otherwise so many bad ones
 unfoldable pub causeWith : (n k : ℕ) (F m : ℕ → Bool) (x : ℕ) → Cause
 causeWith n k F m x = cond (leb 2 (count n (outNear F x))) (Faulty (nth n (outNear F x) 0) (nth n (outNear F x) 1)) (badCause n k F m x)
 

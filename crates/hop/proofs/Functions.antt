@@ -5,19 +5,23 @@ use mathlib.Core.List.{List}
 use mathlib.Core.Path.{refl}
 use Prim.Native.Nat.{ℕ}
 use denote.Ref.{now}
-use lib.ListN.{length}
+use lib.Dec.{ltb}
+use lib.ListN.{getD, length}
 use Rattle.cube.specs.Contracts.{AsksNothing, Function, Nothing}
 use Rattle.cube.proofs.Contracts.{Says}
+use Rattle.cube.specs.Count.{some}
 use Rattle.cube.specs.Cube.{flip}
-use Rattle.cube.specs.Tables.{labelIn}
+use Rattle.cube.specs.Tables.{highest, labelIn}
 use Rattle.jobs.specs.Jobs.{labelFor}
-use Rattle.hop.specs.Helpers.{chosen, placeRefusal}
+use Rattle.hop.specs.Helpers as helpers
+use Rattle.hop.specs.Helpers.{gathered, placeRefusal}
 use Rattle.hop.specs.Hop as spec
 use Rattle.hop.specs.declared.Decision.{Decision}
 use Rattle.hop.specs.declared.Hopped.{Hopped}
 use Rattle.hop.proofs.hop as hop-claims
 use Rattle.hop.proofs.place_refusal
-use Rattle.hop.proofs.chosen_at
+use Rattle.hop.proofs.chosen as chosen-claims
+use Rattle.hop.proofs.gather as gather-claims
 use Rattle.hop.proofs.hop_at
 
 abbrev pub hop : Function hop-claims.ended (ℕ × ℕ × ℕ × ℕ × List ℕ) Hopped Nothing
@@ -68,17 +72,32 @@ hop-at =
 pub hop-at-says : Says hop-at (λ i. spec.hop (i .0) (labelIn (i .3)) (i .1) (i .2)) (λ i. tt)
 hop-at-says = record { says = λ κs a r e p. (p, refl) }
 
-abbrev pub chosen-at : Function chosen_at.ended (ℕ × ℕ × ℕ × List ℕ) ℕ Nothing
-chosen-at =
+-- handed the dimension, the labels, the node and twelve places
+abbrev pub gather : Function gather-claims.ended (ℕ × List ℕ × ℕ × List ℕ) Bool (List ℕ)
+gather =
     record {
-      clauses = λ w. chosen_at.clauses (w .𝓤) (w .H) (w .𝓖 .A) (w .𝓜 .mem) (w .𝓡 .run);
-      asked = chosen_at.Reads.Asked;
-      post = chosen_at.Reads.Post;
-      handed = λ κs a. (a .0, a .1 .0, a .1 .1 .0, now (a .1 .1 .1 .0));
+      clauses = λ w. gather-claims.clauses (w .𝓤) (w .H) (w .𝓖 .A) (w .𝓜 .mem) (w .𝓡 .run);
+      asked = gather-claims.Reads.Asked;
+      post = gather-claims.Reads.Post;
+      handed = λ κs a. (a .0, now (a .1 .0), a .1 .1 .0, now (a .1 .1 .1 .0));
+      answered = λ κs r. r;
+      left = λ κs e. now (e .1 .1 .1 .0);
+    }
+
+pub gather-says : Says gather (λ i. some (i .0) (λ k. ltb highest (labelIn (i .1) (flip k (i .2))))) (λ i. gathered (i .0) (labelIn (i .1)) (i .2))
+gather-says = record { says = λ κs a r e p. (p .1, p .0) }
+
+-- handed the dimension, both nodes, the label of the first and those of its neighbours
+abbrev pub chosen : Function chosen-claims.ended (ℕ × ℕ × ℕ × ℕ × List ℕ) ℕ Nothing
+chosen =
+    record {
+      clauses = λ w. chosen-claims.clauses (w .𝓤) (w .H) (w .𝓖 .A) (w .𝓜 .mem) (w .𝓡 .run);
+      asked = chosen-claims.Reads.Asked;
+      post = chosen-claims.Reads.Post;
+      handed = λ κs a. (a .0, a .1 .0, a .1 .1 .0, a .1 .1 .1 .0, now (a .1 .1 .1 .1 .0));
       answered = λ κs r. r;
       left = λ κs e. tt;
     }
 
-pub chosen-at-says : Says chosen-at
-    (λ i. chosen (i .0) (i .1) (i .2) (labelIn (i .3) (i .1)) (λ k. labelIn (i .3) (flip k (i .1)))) (λ i. tt)
-chosen-at-says = record { says = λ κs a r e p. (p, refl) }
+pub chosen-says : Says chosen (λ i. helpers.chosen (i .0) (i .1) (i .2) (i .3) (λ k. getD (i .4) k 0)) (λ i. tt)
+chosen-says = record { says = λ κs a r e p. (p, refl) }

@@ -127,7 +127,7 @@ module _ (n c d own : ℕ) (near : ℕ → ℕ) where
   unfolding decide answer
   deliver e = rw (e, dist-self)
 
-  lowest-within : (s : ℕ) → lowest n c d own near s ≤ n
+  pub lowest-within : (s : ℕ) → lowest n c d own near s ≤ n
   unfolding lowest
   lowest-within s = the-least n (takes c d own near s) .within
 

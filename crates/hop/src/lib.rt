@@ -1,6 +1,6 @@
 // One hop: the decision at a node, for a job. `hop` is the question: it takes any numbers and bytes, and tests them. What reads labels is handed the job's
-// half alone. `place_refusal` and `hop_at` are lent to the walk, which tests that half once, and `chosen_at` to the crate why, which says which scan took a hop;
-// the other functions are theirs.
+// half alone. `place_refusal` and `hop_at` are lent to the walk, which tests that half once; `place_refusal`, `gather` and `chosen` to the crate why, which says
+// which scan took a hop. The other functions are theirs.
 ghost use Prim.Native.Nat.{_+_, _*_, _<_, _≤_, _^_};
 ghost use Rattle.cube.specs.Count.{least, some};
 ghost use Rattle.cube.specs.Cube.{flip};
@@ -21,11 +21,11 @@ use jobs::half;
 use jobs::is_job;
 use jobs::label_bytes;
 
-const DRAINING: u8 = 4; // the label of a draining node
+pub const DRAINING: u8 = 4; // the label of a draining node
 
 const NO_SCAN: usize = 6; // the scans are 0 to 5
 
-const NO_CHOICE: usize = 96; // from here on a choice has no scan: NO_SCAN * 16
+pub const NO_CHOICE: usize = 96; // from here on a choice has no scan: NO_SCAN * 16
 
 // The decision at a node.
 pub enum Decision {
@@ -79,7 +79,7 @@ fn some_above(n: usize, near: &[u8; 12]) -> bool
 
 // Reads the labels of c's neighbours, each once, into the first n places of near, and answers whether one is above the highest label. None is above all of
 // them joined by `|`: so where that is no higher, as it is where no neighbour drains, they need not be looked at one by one. step is 2 ^ i.
-fn gather(n: usize, labels: &[u8], c: usize, near: &mut [u8; 12]) -> bool
+pub fn gather(n: usize, labels: &[u8], c: usize, near: &mut [u8; 12]) -> bool
     requires { ⌜ (n ≤ 12) × (c < 2 ^ n) × (length (now labels) ≡ 2 ^ n) × (now near ≡ replicate 12 0) ⌝ }
     ensures near { λ r. ⌜ now (near .exit) ≡ gathered n (labelIn (now (labels .entry))) c ⌝ }
     ensures high { λ r. ⌜ r ≡ some n (λ i. ltb highest (labelIn (now (labels .entry)) (flip i c))) ⌝ }
@@ -154,7 +154,7 @@ fn choice(scan: usize, dimension: usize) -> usize
 
 // What the first of the scans that takes a dimension picks at c, whose label is own and whose neighbours' labels are near; NO_SCAN and n where none
 // takes one.
-fn chosen(n: usize, c: usize, d: usize, own: u8, near: &[u8; 12]) -> usize
+pub fn chosen(n: usize, c: usize, d: usize, own: u8, near: &[u8; 12]) -> usize
     requires { ⌜ (n ≤ 12) × (c < 2 ^ n) × (d < 2 ^ n) × (c ≢ d) ⌝ }
     ensures { λ r. ⌜ r ≡ chosen n c d own (λ i. getD (now (near .entry)) i 0) ⌝ }
 {
@@ -224,17 +224,6 @@ pub fn hop(n: usize, job: usize, c: usize, d: usize, labels: &[u8]) -> Hopped
     Hopped::Decided(Decision::Deliver)
 }
 
-// What the scans pick at c, away from the destination, by a label table that was tested.
-pub fn chosen_at(n: usize, c: usize, d: usize, labels: &[u8]) -> usize
-    requires { ⌜ Placed n c d (length (now labels)) × (c ≢ d) ⌝ }
-    ensures { λ r. ⌜ r ≡ chosen n c d (labelIn (now (labels .entry)) c) (λ i. labelIn (now (labels .entry)) (flip i c)) ⌝ }
-{
-    let own = labels[c];
-    let mut near = [0u8; 12];
-    gather(n, labels, c, &mut near);
-    chosen(n, c, d, own, &near)
-}
-
 // The decision at c by a label table that was tested: what a walk asks at each node. At the destination it reads nothing.
 pub fn hop_at(n: usize, c: usize, d: usize, labels: &[u8]) -> Decision
     requires { ⌜ Placed n c d (length (now labels)) ⌝ }
@@ -243,5 +232,8 @@ pub fn hop_at(n: usize, c: usize, d: usize, labels: &[u8]) -> Decision
     if c == d {
         return Decision::Deliver;
     }
-    across(chosen_at(n, c, d, labels))
+    let own = labels[c];
+    let mut near = [0u8; 12];
+    gather(n, labels, c, &mut near);
+    across(chosen(n, c, d, own, &near))
 }

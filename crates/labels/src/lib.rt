@@ -1,8 +1,8 @@
 // Labelling: which working nodes are safe, ordinarily unsafe or strongly unsafe. The rounds are kept in the job's half of the lent label buffer itself, by the
 // bytes PLAIN, MARKED, OUT and NEW. A byte is what its node weighs in the test of a neighbour: 0, 2 or 3, and NEW weighs nothing in the low seven
 // bits, where the test looks. The last pass tells ORDINARY from MARKED and DRAINING from OUT; PLAIN, MARKED and OUT stay as safe, strongly unsafe and
-// faulty. A node that the job closes is faulty here. Only `label` knows that there are two jobs: the other functions are handed the half of one. The refusals
-// and the passes are lent to the crate why, which watches one node between them.
+// faulty. A node that the job closes is faulty here. Only `label` and its refusals know that there are two jobs: the passes are handed the half of one. The
+// refusals and the passes are lent to the crate why, which watches one node between them.
 ghost use Prim.Native.Nat.{_/_, _<_, _≤_, _^_};
 ghost use Rattle.cube.specs.Count.{count, some};
 ghost use Rattle.cube.specs.Cube.{flip};

@@ -36,6 +36,7 @@ use Rattle.promises.proofs.InC.{in-c}
 use Rattle.promises.proofs.InRattle.{in-rattle}
 use Rattle.promises.proofs.Jobs.{c-jobs, rattle-jobs}
 use Rattle.promises.proofs.Refusals.{refusals}
+use Rattle.promises.proofs.Seen.{as-seen}
 use Rattle.promises.proofs.Settled.{settled, unasked}
 use Rattle.promises.proofs.Tied.{all-tied, in-order}
 use Rattle.promises.proofs.Why.{c-whys, rattle-whys}
@@ -46,6 +47,7 @@ promises =
     record {
       tied = all-tied;
       in-order = in-order;
+      as-seen = as-seen;
       settled = settled;
       unasked = unasked;
       rattle-answers = rattle-answers;

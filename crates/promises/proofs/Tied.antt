@@ -22,7 +22,8 @@ all-tied =
       labels-finish = record { clauses = λ w. refl; asked = refl; post = refl };
       hop-hop = record { clauses = λ w. refl; asked = refl; post = refl };
       hop-place-refusal = record { clauses = λ w. refl; asked = refl; post = refl };
-      hop-chosen-at = record { clauses = λ w. refl; asked = refl; post = refl };
+      hop-gather = record { clauses = λ w. refl; asked = refl; post = refl };
+      hop-chosen = record { clauses = λ w. refl; asked = refl; post = refl };
       hop-hop-at = record { clauses = λ w. refl; asked = refl; post = refl };
       walk-walk = record { clauses = λ w. refl; asked = refl; post = refl };
       walk-walk-for = record { clauses = λ w. refl; asked = refl; post = refl };

@@ -40,6 +40,7 @@ use Rattle.promises.specs.InRattle.{InRattle}
 use Rattle.promises.specs.Jobs.{Jobs}
 use Rattle.promises.specs.Library as library
 use Rattle.promises.specs.Refusals.{Refusals}
+use Rattle.promises.specs.Seen.{AsSeen}
 use Rattle.promises.specs.Settled.{Settled, Unasked}
 use Rattle.promises.specs.Tied.{AllTied, InOrder}
 use Rattle.promises.specs.Why.{Whys}
@@ -49,6 +50,7 @@ pub record Promises : Type 2 where
   -- the contracts are the code's own, settle everything, ask nothing, and always allow an answer
   pub tied : AllTied
   pub in-order : InOrder
+  pub as-seen : AsSeen
   pub settled : Settled
   pub unasked : Unasked
   pub rattle-answers : Answers library.rattle

@@ -46,7 +46,8 @@ pub record Settled : Type 0 where
   pub labels-sweep : Settles labels.sweep
   pub labels-finish : Settles labels.finish
   pub hop-hop-at : Settles hop.hop-at
-  pub hop-chosen-at : Settles hop.chosen-at
+  pub hop-gather : Settles hop.gather
+  pub hop-chosen : Settles hop.chosen
   pub cube-nodes : Settles cube.nodes
   pub cube-neighbour : Settles cube.neighbour
   pub cube-table-len : Settles cube.table-len
@@ -56,7 +57,7 @@ pub record Settled : Type 0 where
   -- the half of a job: its bytes, and its place in the caller's memory
   pub jobs-half : Settles jobs.half
 
--- all but those last twelve
+-- all but those last thirteen
 pub record Unasked : Type 2 where
   pub hcube-label : AsksNothing hcube.label
   pub hcube-hop : AsksNothing hcube.hop

@@ -40,7 +40,8 @@ use Rattle.labels.proofs.settle as labels-settle
 use Rattle.labels.proofs.start as labels-start
 use Rattle.labels.proofs.sweep as labels-sweep
 use Rattle.hop.proofs.Functions as hop
-use Rattle.hop.proofs.chosen_at as hop-chosen-at
+use Rattle.hop.proofs.chosen as hop-chosen
+use Rattle.hop.proofs.gather as hop-gather
 use Rattle.hop.proofs.hop as hop-hop
 use Rattle.hop.proofs.hop_at as hop-hop-at
 use Rattle.hop.proofs.place_refusal as hop-place-refusal
@@ -109,9 +110,12 @@ pub record AllTied : Type 2 where
   pub hop-place-refusal :
       Tied hop.place-refusal (λ w. hop-place-refusal.clauses (w .𝓤) (w .H) (w .𝓖 .A) (w .𝓜 .mem) (w .𝓡 .run))
       hop-place-refusal.Reads.Asked hop-place-refusal.Reads.Post
-  pub hop-chosen-at :
-      Tied hop.chosen-at (λ w. hop-chosen-at.clauses (w .𝓤) (w .H) (w .𝓖 .A) (w .𝓜 .mem) (w .𝓡 .run))
-      hop-chosen-at.Reads.Asked hop-chosen-at.Reads.Post
+  pub hop-gather :
+      Tied hop.gather (λ w. hop-gather.clauses (w .𝓤) (w .H) (w .𝓖 .A) (w .𝓜 .mem) (w .𝓡 .run))
+      hop-gather.Reads.Asked hop-gather.Reads.Post
+  pub hop-chosen :
+      Tied hop.chosen (λ w. hop-chosen.clauses (w .𝓤) (w .H) (w .𝓖 .A) (w .𝓜 .mem) (w .𝓡 .run))
+      hop-chosen.Reads.Asked hop-chosen.Reads.Post
   pub hop-hop-at :
       Tied hop.hop-at (λ w. hop-hop-at.clauses (w .𝓤) (w .H) (w .𝓖 .A) (w .𝓜 .mem) (w .𝓡 .run))
       hop-hop-at.Reads.Asked hop-hop-at.Reads.Post
@@ -176,8 +180,8 @@ abbrev pub Handed : {T : Ended} {A X B : Type 0} → Function T A X B → ((κs 
 Handed {T} f seen = (κs : Lfts (T .signature .lifetimes)) (a : Args (T .signature) κs) → f .handed κs a ≡ seen κs a
 
 -- the questions are handed their parameters one after the other, numbers as they are and tables by their bytes: so the first number is the dimension and
--- the job stands before the nodes, the first node is the one that a hop is decided at, a walk begins at or a label is asked about, and of labelling's tables the first is the fault
--- table, the second that of the draining nodes and the third that of the nodes that the job closes
+-- the job stands before the nodes, the first node is the one that a hop is decided at, a walk begins at or a label is asked about, and of labelling's tables
+-- the first is the fault table, the second that of the draining nodes and the third that of the nodes that the job closes
 pub record InOrder : Type 0 where
   pub hcube-label :
       Handed hcube.label (λ κs a.

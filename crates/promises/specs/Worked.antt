@@ -187,13 +187,21 @@ pub record Worked : Type 0 where
 
   -- k4's node 14 met the rule in round 2: of its neighbours 15 is faulty, and 12 and 10 were marked in round 1, as was 6, which is not named
   pub k4-why-14 : reasonOf k4 14 ≡ Unsafe 2 2 (Three 0 1 2)
-  -- 0 has three faulty neighbours, of which the two lowest are named; 1 is safe, with one neighbour that is not; and 2 is faulty
+  -- 0 has three faulty neighbours, of which the two lowest are named; 1 is safe, with one neighbour that is not, and so is 7, with two, of which one is
+  -- faulty; and 2 is faulty
   pub k4-why-0 : reasonOf k4 0 ≡ Unsafe 1 1 (Faulty 1 2)
   pub k4-why-1 : reasonOf k4 1 ≡ Safe 0 1
+  pub k4-why-7 : reasonOf k4 7 ≡ Safe 1 2
   pub k4-why-2 : reasonOf k4 2 ≡ Out 3
-  -- by rule 2 two are enough: 14 is marked in round 2 by 15 and 12, and 3 in round 2
+  -- by rule 2 two are enough: 14 is marked in round 2 by 15 and 12, and 3 in round 3 by 2 and 7. Its neighbour 1, across dimension 1, was marked later
   pub k4-older-why-14 : reasonOf (k4-by 2) 14 ≡ Unsafe 2 2 (Two 0 1)
+  pub k4-older-why-3 : reasonOf (k4-by 2) 3 ≡ Unsafe 2 3 (Two 0 2)
+  -- a draining neighbour and a closed one count as faulty, in a cause and in a count
   pub k4-drains-why-15 : reasonOf k4-drains 15 ≡ Out 4
+  pub k4-drains-why-14 : reasonOf k4-drains 14 ≡ Unsafe 2 2 (Three 0 1 2)
+  pub k4-drains-why-7 : reasonOf k4-drains 7 ≡ Safe 1 2
+  pub k4-closes-why-11 : reasonOf k4-closes 11 ≡ Unsafe 1 1 (Faulty 1 2)
+  pub k4-closes-why-1 : reasonOf k4-closes 1 ≡ Safe 1 2
   -- 13 to 0 begins with a forward hop to a safe node, 6 to 0 with a spare one, and 7 to 15, which drains, is before the scans
   pub k4-why-13-0 : hopReason 4 0 13 0 32 (labelAt k4) ≡ why.Hop 1 2
   pub k4-why-6-0 : hopReason 4 0 6 0 32 (labelAt k4) ≡ why.Hop 4 0

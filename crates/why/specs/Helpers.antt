@@ -2,8 +2,8 @@
 -- proofs/Reasons.antt how the reason is made of it.
 use mathlib.Core.Bool.{Bool, cond, _&&_, _||_}
 use mathlib.Core.List.{List}
-use Prim.Native.Nat.{ℕ}
-use lib.Dec.{eqb, leb}
+use Prim.Native.Nat.{ℕ, _*_, _/_, _%_}
+use lib.Dec.{eqb, leb, ltb}
 use Rattle.cube.specs.Count.{count}
 use Rattle.cube.specs.Cube.{flip}
 use Rattle.cube.specs.Tables.{labelIn}
@@ -11,6 +11,9 @@ use Rattle.rule.specs.Cabinet.{Cabinet, out}
 use Rattle.rule.specs.Rule.{marked, rounds}
 use Rattle.causes.specs.Cause.{causeOf, causeWith, roundOf}
 use Rattle.labels.specs.Passes.{markIn, outIn}
+use Rattle.scans.specs.Scans.{noScan}
+use Rattle.why.specs.declared.HopReason.{HopReason}
+use Rattle.why.specs.declared.HopReason.the-variants as hop
 use Rattle.why.specs.declared.NodeReason.{NodeReason}
 use Rattle.why.specs.declared.NodeReason.the-variants as reason
 use Rattle.why.specs.declared.Watched.{Watched}
@@ -39,3 +42,7 @@ unmarked n lab x = cond (leb 3 (lab x)) (reason.Out (lab x)) (reason.Safe (count
 abbrev pub reasonBy : (n : ℕ) (lab : ℕ → ℕ) (x : ℕ) → Watched → NodeReason
 reasonBy n lab x Unmarked = unmarked n lab x
 reasonBy n lab x (Marked r c) = reason.Unsafe (lab x) r c
+
+-- why a hop is taken away from the destination, by what the scans picked, the scan and its dimension in one number
+unfoldable pub taken : (picked : ℕ) → HopReason
+taken picked = cond (ltb picked (noScan * 16)) (hop.Hop (picked / 16) (picked % 16)) hop.Halted

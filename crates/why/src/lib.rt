@@ -1,29 +1,29 @@
 // The two questions that say why. `why_node` labels the nodes as labelling does, by its passes, and watches one node: when a round marks it, the marks of the
-// earlier rounds are still in the table, and the node's cause is read from them. `why_hop` asks for the hop and, where there is one, for the scan that took it.
+// earlier rounds are still in the table, and the node's cause is read from them. `why_hop` makes the tests and the scans of a hop, and answers which scan took it.
 // Both take any numbers and bytes, and test them; what reads labels is handed the job's half alone.
-ghost use Prim.Native.Nat.{_/_, _≤_, _<_};
+ghost use Prim.Native.Nat.{_≤_, _<_};
 ghost use Rattle.causes.specs.Cause.{badCause, causeWith, from};
 ghost use Rattle.cube.specs.Count.{count};
 ghost use Rattle.cube.specs.Cube.{flip};
 ghost use Rattle.cube.specs.Tables.{labelIn, tableLen};
-ghost use Rattle.hop.specs.Hop.{hopped};
-ghost use Rattle.hop.specs.declared.Hopped.the-variants.{Decided};
 ghost use Rattle.jobs.specs.Jobs.{labelFor};
 ghost use Rattle.labels.specs.Passes.{NodeOf, markIn, outIn};
 ghost use Rattle.rule.specs.Cabinet.{cabinet, labelsOf};
-ghost use Rattle.why.specs.Helpers.{counted, reasonBy, unmarked, watchedOn};
+ghost use Rattle.why.specs.Helpers.{counted, reasonBy, taken, unmarked, watchedOn};
 ghost use Rattle.why.specs.HopReasons.{hopReason};
 ghost use Rattle.why.specs.NodeReasons.{labelsLeft, nodeReason, nodeRefusal, reasonOf};
 ghost use lib.Dec.{leb};
 ghost use lib.ListN.{length};
 ghost use mathlib.Core.Path.{_≡_};
 use causes::Cause;
+use cube::HIGHEST;
 use cube::neighbour;
 use cube::nodes;
-use hop::Decision;
-use hop::Hopped;
-use hop::chosen_at;
-use hop::hop;
+use hop::DRAINING;
+use hop::NO_CHOICE;
+use hop::chosen;
+use hop::gather;
+use hop::place_refusal;
 use jobs::half;
 use labels::MARKED;
 use labels::NEW;
@@ -244,31 +244,39 @@ pub fn why_node(
 
 // ---- a hop
 
-// Why the hop question decided x.
-fn decision_reason(
-    n: usize,
-    job: usize,
-    c: usize,
-    d: usize,
-    labels: &[u8],
-    x: Decision,
-) -> HopReason
-    requires { ⌜ hopped n job c d (length (now labels)) (labelFor n job (now labels)) ≡ Decided x ⌝ }
-    ensures { λ r. ⌜ r ≡ hopReason n job c d (length (now (labels .entry))) (labelFor n job (now (labels .entry))) ⌝ }
+// Why a hop is taken away from the destination, by what the scans picked.
+fn taken(picked: usize) -> HopReason
+    ensures { λ r. ⌜ r ≡ taken picked ⌝ }
 {
-    match x {
-        Decision::Deliver => HopReason::Deliver,
-        Decision::Halted => HopReason::Halted,
-        Decision::Hop(i) => HopReason::Hop(chosen_at(n, c, d, half(n, job, labels)) / 16, i),
+    if picked < NO_CHOICE {
+        return HopReason::Hop(picked / 16, picked % 16);
     }
+    HopReason::Halted
 }
 
-// Why the hop at c on the way to d is taken, for a job.
+// Why the hop at c on the way to d is taken, for a job. It is asked as the hop is, and reads the same labels: of the job's half c's and each neighbour's once.
 pub fn why_hop(n: usize, job: usize, c: usize, d: usize, labels: &[u8]) -> HopReason
     ensures { λ r. ⌜ r ≡ hopReason n job c d (length (now (labels .entry))) (labelFor n job (now (labels .entry))) ⌝ }
 {
-    match hop(n, job, c, d, labels) {
-        Hopped::Refused(k) => HopReason::Refused(k),
-        Hopped::Decided(x) => decision_reason(n, job, c, d, labels, x),
+    let k = place_refusal(n, job, c, d, labels.len(), false);
+    if k != 0 {
+        return HopReason::Refused(k);
     }
+    let table = half(n, job, labels);
+    let own = table[c];
+    let mut near = [0u8; 12];
+    let high = gather(n, table, c, &mut near);
+    if (HIGHEST < own) | high {
+        return HopReason::Refused(4);
+    }
+    if own == 3 {
+        return HopReason::Refused(6);
+    }
+    if (own == DRAINING) & (c != d) {
+        return HopReason::Refused(6);
+    }
+    if c != d {
+        return taken(chosen(n, c, d, own, &near));
+    }
+    HopReason::Deliver
 }

@@ -1,27 +1,151 @@
--- `why_hop` hands on the refusals of `hop`, and its decision with the scan.
-use mathlib.Core.Path.{sym, _∙_}
+-- `why_hop` goes as `hop` does: the place first, then the labels of the node and its neighbours in the job's half, then what the scans pick by the labels
+-- gathered, which are that half's.
+use mathlib.Core.Path.{_≡_, refl, sym, ap, _∙_}
+use mathlib.Core.List.{List}
+use Prim.Native.Nat.{ℕ, _^_}
+use native.Mathlib.Omega.{arith}
 use borrow.Author.Needs.{needs}
-use Rattle.why.proofs.Hops.{refused-is}
+use borrow.Author.Tests.{eq-eqb, ne-eqb}
+use lib.ListN.{length}
+use Rattle.cube.specs.Cube.{flip}
+use Rattle.cube.specs.Refusal.{first}
+use Rattle.cube.specs.Tables.{labelIn}
+use Rattle.jobs.specs.Jobs.{half}
+use Rattle.hop.specs.Helpers.{Asked, Placed}
+use Rattle.hop.specs.Hop.{hopRefusal, nearTests}
+use Rattle.hop.proofs.Gathered.{chosen-is}
+use Rattle.hop.proofs.Refusals.{half-placed, hop-misplaced, hop-placed, placed}
+use Rattle.why.specs.HopReasons.{hopReason}
+use Rattle.why.specs.declared.HopReason.{HopReason}
+use Rattle.why.specs.declared.HopReason.the-variants.{Refused}
+use Rattle.why.proofs.Hops.{delivers-is, refused-is, taken-is}
 use Rattle.why.proofs.why_hop.Statement.{statement}
 use Rattle.why.proofs.why_hop.Tie as tie
 
-hop-requires : tie.Need-hop-requires
-hop-requires c κs = search needs
+-- the places of the code: the arguments from behind the first test; where the half was taken, from where the labels are gathered; and that place from
+-- behind the tests of c's label
+abbrev start : tie.Else1 → tie.Start
+start c = c .before .before .before
 
-enum-known-k : tie.Need-enum-known-k
-enum-known-k c = search needs
+abbrev halved-at : tie.After-gather → tie.After-half
+halved-at c = c .before .before .before
 
-enum-known-x : tie.Need-enum-known-x
-enum-known-x c = search needs
+abbrev gathered-at : tie.Else4 → tie.After-gather
+gathered-at c = c .before .before .before
 
-decision-reason-requires : tie.Need-decision-reason-requires
-decision-reason-requires c κs = sym (c .before .before .before .hop .ensures) ∙ c .before .x .given .1
+-- the job's half, as the specification takes it from the buffer and as the code has it
+abbrev own-half : tie.After-half → List ℕ
+own-half c = let a = start (c .before) .args in half (a .job) (2 ^ a .n) (a .labels .now)
+
+abbrev table : tie.After-half → List ℕ
+table c = c .half .result .now
+
+-- the refusal and the answer by a table
+abbrev refusal-by : tie.After-half → List ℕ → ℕ
+refusal-by c t = let a = start (c .before) .args in hopRefusal (a .n) (a .job) (a .c) (a .d) (length (a .labels .now)) (labelIn t)
+
+abbrev answer-by : tie.After-half → List ℕ → HopReason
+answer-by c t = let a = start (c .before) .args in hopReason (a .n) (a .job) (a .c) (a .d) (length (a .labels .now)) (labelIn t)
+
+-- past the first test the place is good
+asked : (c : tie.Else1) → let a = start c .args in Asked (a .n) (a .job) (a .c) (a .d) (length (a .labels .now))
+asked c = placed _ _ _ _ _ _ (sym (c .before .place-refusal .ensures) ∙ c .if1 .left)
+
+good : (c : tie.After-half) → let a = start (c .before) .args in Placed (a .n) (a .c) (a .d) (length (table c))
+good c = rw (c .half .ensures .0) (half-placed _ _ _ _ _ (asked (c .before)))
+
+-- and the labels decide
+near-is : (c : tie.After-half) → let a = start (c .before) .args in let lab = labelIn (table c) in
+    refusal-by c (table c) ≡ first (nearTests (a .n) (a .c) (a .d) (lab (a .c)) (λ i. lab (flip i (a .c))))
+near-is c = hop-placed _ _ _ _ _ _ (sym (c .before .before .place-refusal .ensures) ∙ c .before .if1 .left)
+
+-- the answer by the code's table is that by the job's half
+answers : (c : tie.After-half) (r : HopReason) → r ≡ answer-by c (table c) → r ≡ answer-by c (own-half c)
+answers c r e = e ∙ ap (answer-by c) (c .half .ensures .0)
+
+refuses : (c : tie.After-half) (k : ℕ) → (k ≡ 0 → ⊥) → refusal-by c (table c) ≡ k → Refused k ≡ answer-by c (own-half c)
+refuses c k z e = answers c _ (refused-is _ _ _ _ _ _ k z e)
+
+place-refusal-requires : tie.Need-place-refusal-requires
+place-refusal-requires c κs = search needs
 
 returns : tie.Need-returns
-returns c = refused-is _ _ _ _ _ _ _ (sym (c .before .before .before .hop .ensures) ∙ c .before .k .given .1)
+returns c = refused-is _ _ _ _ _ _ _ (c .if1 .taken) (hop-misplaced _ _ _ _ _ _ _ (c .before .place-refusal .ensures) (c .if1 .taken))
+
+half-requires : tie.Need-half-requires
+half-requires c κs = asked c .halved
+
+shared-slice-read-own : tie.Need-shared-slice-read-own
+shared-slice-read-own c = omega (arith, good (c .before))
+
+gather-requires : tie.Need-gather-requires
+gather-requires c κs = let g = good (c .before .before) in (g .small, g .first, g .sized, refl)
 
 returns-2 : tie.Need-returns-2
-returns-2 c = search needs
+unfolding labelIn first
+returns-2 c =
+    let h = halved-at (c .before) in
+    refuses h 4 (λ z. omega arith) (near-is h ∙ rw (rw (c .before .gather .ensures .1) at (c .if2 .taken)))
+
+returns-3 : tie.Need-returns-3
+unfolding labelIn first
+returns-3 c =
+    let g = c .before .before in
+    let h = halved-at g in
+    refuses h 6 (λ z. omega arith) (near-is h ∙ rw (rw (g .gather .ensures .1) at (c .before .if2 .left), eq-eqb _ _ (c .if3 .taken)))
+
+returns-4 : tie.Need-returns-4
+unfolding labelIn first
+returns-4 c =
+    let e = c .before in
+    let g = e .before .before in
+    let h = halved-at g in
+    refuses h 6 (λ z. omega arith)
+    (near-is h ∙ rw (rw (g .gather .ensures .1) at (e .before .if2 .left), ne-eqb _ _ (e .if3 .left), c .if4 .taken))
+
+-- past the fourth test nothing is refused
+nothing : (c : tie.Else4) → let h = halved-at (gathered-at c) in refusal-by h (table h) ≡ 0
+unfolding labelIn first
+nothing c =
+    let g = gathered-at c in
+    near-is (halved-at g) ∙ rw (rw (g .gather .ensures .1) at (c .before .before .if2 .left), ne-eqb _ _ (c .before .if3 .left), c .if4 .left)
+
+chosen-requires : tie.Need-chosen-requires
+chosen-requires c κs = let g = good (halved-at (gathered-at (c .before .before))) in (g .small, g .first, g .second, c .before .if5 .taken)
+
+taken-requires : tie.Need-taken-requires
+taken-requires c κs = search needs
+
+returns-5 : tie.Need-returns-5
+unfolding labelIn
+returns-5 c =
+    let far = c .before .before .before in
+    let g = gathered-at (far .before) in
+    let h = halved-at g in
+    let lab = labelIn (table h) in
+    let p = good h in
+    let picked = c .before .chosen .ensures ∙ chosen-is _ lab _ _ (p .small) (g .gather .ensures .0) _ in
+    answers h _
+    (c .taken .ensures ∙ taken-is _ _ _ _ _ lab (nothing (far .before)) (p .small) (p .first) (p .second) (far .if5 .taken) _ picked)
+
+returns-6 : tie.Need-returns-6
+returns-6 c =
+    let h = halved-at (gathered-at (c .before)) in
+    answers h _ (delivers-is _ _ _ _ _ _ (nothing (c .before)) (c .if5 .left))
 
 pub why-hop-spec : {M : Type 1} → statement M
-why-hop-spec = tie.close (tie.spec hop-requires enum-known-k enum-known-x decision-reason-requires returns returns-2)
+why-hop-spec =
+    tie.close
+    (tie.spec
+    place-refusal-requires
+    returns
+    half-requires
+    shared-slice-read-own
+    gather-requires
+    returns-2
+    returns-3
+    returns-4
+    chosen-requires
+    taken-requires
+    returns-5
+    returns-6)

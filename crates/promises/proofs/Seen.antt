@@ -1,0 +1,30 @@
+-- Each is the same by its text.
+use mathlib.Core.Path.{refl}
+use Rattle.promises.specs.Seen.{AsSeen}
+
+pub as-seen : AsSeen
+as-seen =
+    record {
+      hcube-label = λ κs r. refl;
+      hcube-hop = λ κs r. refl;
+      hcube-walk = λ κs r. refl;
+      hcube-why-node = λ κs r. refl;
+      hcube-why-hop = λ κs r. refl;
+      hcube-notice-dimension = λ κs r. refl;
+      hcube-read-notice = λ κs r. refl;
+      labels-label = λ κs r. refl;
+      hop-hop = λ κs r. refl;
+      walk-walk = λ κs r. refl;
+      walk-walk-for = λ κs r. refl;
+      why-why-node = λ κs r. refl;
+      why-why-hop = λ κs r. refl;
+      notice-dimension = λ κs r. refl;
+      notice-read = λ κs r. refl;
+      hcube-label-left = λ κs r. refl;
+      hcube-walk-left = λ κs r. refl;
+      hcube-why-node-left = λ κs r. refl;
+      hcube-read-notice-left = λ κs r. refl;
+      labels-label-left = λ κs r. refl;
+      why-why-node-left = λ κs r. refl;
+      notice-read-left = λ κs r. refl;
+    }

@@ -1,0 +1,47 @@
+-- What a question is seen to answer and to leave is its result and the bytes of each buffer that it was lent to write, as they are: so a promise on an answer is
+-- one on what the caller has in hand. (`InOrder`, in Tied.antt, says it of what is handed.) Proved in proofs/Seen.antt.
+use mathlib.Core.Path.{_≡_}
+use contract.Lifetimes.{Lfts}
+use denote.Ref.{now}
+use denote.Triple.Clauses.{AtExit, Ended}
+use denote.Triple.Entry.{Res}
+use Rattle.cube.specs.Contracts.{Function}
+use Rattle.notice.proofs.Functions as notice
+use Rattle.labels.proofs.Functions as labels
+use Rattle.hop.proofs.Functions as hop
+use Rattle.walk.proofs.Functions as walk
+use Rattle.why.proofs.Functions as why
+use Rattle.hcube.proofs.Functions as hcube
+
+module _ {T : Ended} {A X B : Type 0} (f : Function T A X B) where
+  -- f is seen to answer this of its result, and to leave this
+  abbrev pub Answered : ((κs : Lfts (T .signature .lifetimes)) → Res (T .signature) κs → X) → Type 0
+  Answered seen = (κs : Lfts (T .signature .lifetimes)) (r : Res (T .signature) κs) → f .answered κs r ≡ seen κs r
+
+  abbrev pub Leaves : ((κs : Lfts (T .signature .lifetimes)) → AtExit T κs → B) → Type 0
+  Leaves seen = (κs : Lfts (T .signature .lifetimes)) (e : AtExit T κs) → f .left κs e ≡ seen κs e
+
+pub record AsSeen : Type 0 where
+  pub hcube-label : Answered hcube.label (λ κs r. r)
+  pub hcube-hop : Answered hcube.hop (λ κs r. r)
+  pub hcube-walk : Answered hcube.walk (λ κs r. r)
+  pub hcube-why-node : Answered hcube.why-node (λ κs r. r)
+  pub hcube-why-hop : Answered hcube.why-hop (λ κs r. r)
+  pub hcube-notice-dimension : Answered hcube.notice-dimension (λ κs r. r)
+  pub hcube-read-notice : Answered hcube.read-notice (λ κs r. r)
+  pub labels-label : Answered labels.label (λ κs r. r)
+  pub hop-hop : Answered hop.hop (λ κs r. r)
+  pub walk-walk : Answered walk.walk (λ κs r. r)
+  pub walk-walk-for : Answered walk.walk-for (λ κs r. r)
+  pub why-why-node : Answered why.why-node (λ κs r. r)
+  pub why-why-hop : Answered why.why-hop (λ κs r. r)
+  pub notice-dimension : Answered notice.dimension (λ κs r. r)
+  pub notice-read : Answered notice.read (λ κs r. r)
+  -- and what is left: the label buffer, the row, the fault table
+  pub hcube-label-left : Leaves hcube.label (λ κs e. now (e .1 .1 .1 .1 .1 .1 .0))
+  pub hcube-walk-left : Leaves hcube.walk (λ κs e. now (e .1 .1 .1 .1 .1 .0))
+  pub hcube-why-node-left : Leaves hcube.why-node (λ κs e. now (e .1 .1 .1 .1 .1 .1 .1 .0))
+  pub hcube-read-notice-left : Leaves hcube.read-notice (λ κs e. now (e .1 .0))
+  pub labels-label-left : Leaves labels.label (λ κs e. now (e .1 .1 .1 .1 .1 .1 .0))
+  pub why-why-node-left : Leaves why.why-node (λ κs e. now (e .1 .1 .1 .1 .1 .1 .1 .0))
+  pub notice-read-left : Leaves notice.read (λ κs e. now (e .1 .0))
