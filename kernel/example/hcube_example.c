@@ -1,8 +1,8 @@
 // SPDX-License-Identifier: GPL-2.0-only OR MIT
 /*
  * An example of a kernel module that calls the functions of hcube.h; the calls are in stored.c. At load it labels each
- * stored cube for both jobs in one buffer, asks hop and walk for all pairs of either, reads the stored notices,
- * compares with the stored answers and prints one line.
+ * stored cube for both jobs in one buffer, asks why each node of either has its label, and hop, why that hop, and walk
+ * for all pairs, reads the stored notices, compares with the stored answers and prints one line.
  */
 #include <linux/init.h>
 #include <linux/kernel.h>
@@ -17,12 +17,22 @@
 static size_t __init wrong_labels(const struct hcube_cube *cube, uint32_t job, uint8_t *labels)
 {
 	const struct hcube_closing *closings = cube->closings;
+	size_t wrong = !hcube_labels_are_right(cube, job, &closings[job], labels);
 
-	return !hcube_labels_are_right(cube, job, &closings[job], labels) +
-	       !hcube_half_is_right(cube, !job, &closings[!job], labels);
+	return wrong + !hcube_half_is_right(cube, !job, &closings[!job], labels);
 }
 
-/* Labels the cube for both jobs, one of them once more, and compares; returns how many answers are wrong. */
+/* Asks why one job's nodes have their labels, which leaves the other half alone, and what is asked of pairs. */
+static size_t __init wrong_questions(const struct hcube_cube *cube, uint32_t job, uint8_t *labels)
+{
+	const struct hcube_closing *closings = cube->closings;
+	size_t wrong = hcube_wrong_whys(cube, job, &closings[job], labels);
+
+	wrong += !hcube_half_is_right(cube, !job, &closings[!job], labels);
+	return wrong + hcube_wrong_pairs(cube, job, &closings[job], labels);
+}
+
+/* Labels the cube for both jobs, one of them once more, asks and compares; returns how many answers are wrong. */
 static size_t __init wrong_answers(const struct hcube_cube *cube, uint8_t *labels)
 {
 	size_t wrong = !hcube_labels_are_right(cube, 0, &cube->closings[0], labels);
@@ -31,7 +41,7 @@ static size_t __init wrong_answers(const struct hcube_cube *cube, uint8_t *label
 	wrong += wrong_labels(cube, 1, labels);
 	wrong += wrong_labels(cube, 0, labels);
 	for (job = 0; job < HCUBE_JOBS; job++)
-		wrong += hcube_wrong_pairs(cube, job, &cube->closings[job], labels);
+		wrong += wrong_questions(cube, job, labels);
 	if (wrong)
 		pr_err("hcube_example: %zu wrong answers in the cube %s\n", wrong, cube->name);
 	return wrong;
@@ -40,7 +50,7 @@ static size_t __init wrong_answers(const struct hcube_cube *cube, uint8_t *label
 static int __init hcube_example_init(void)
 {
 	uint8_t *labels = kmalloc(HCUBE_LABEL_BYTES(12), GFP_KERNEL); /* too much for the kernel's stack */
-	size_t k, pairs = 0, wrong;
+	size_t k, whys = 0, pairs = 0, wrong;
 	int error;
 
 	if (!labels)
@@ -50,11 +60,12 @@ static int __init hcube_example_init(void)
 		pr_err("hcube_example: %zu notices wrong\n", wrong);
 	for (k = 0; k < hcube_stored_count; k++) {
 		wrong += wrong_answers(&hcube_stored[k], labels);
+		whys += HCUBE_JOBS * hcube_whys(&hcube_stored[k]);
 		pairs += HCUBE_JOBS * hcube_pairs(&hcube_stored[k]);
 	}
 	kfree(labels);
-	pr_info("hcube_example: %zu cubes labelled for two jobs, %zu pairs and %zu notices compared, %zu wrong\n",
-		hcube_stored_count, pairs, hcube_notice_count, wrong);
+	pr_info("hcube_example: %zu cubes labelled for two jobs, %zu nodes, %zu pairs and %zu notices compared, %zu wrong\n",
+		hcube_stored_count, whys, pairs, hcube_notice_count, wrong);
 	error = wrong ? -EIO : hcube_jobs_compare();
 	return error ? error : hcube_hammer_start();
 }

@@ -2,9 +2,9 @@
 /*
  * The load of kernel/test; a driver needs nothing of it. Whoever writes a number of milliseconds to /proc/hcube_demo,
  * which has the module's name, has all stored answers compared again and again for that long, in his own process and
- * with interrupts on. Meanwhile a timer interrupts every 100 microseconds and compares three things itself: a pair, of
+ * with interrupts on. Meanwhile a timer interrupts every 100 microseconds and compares four things itself: a pair, of
  * each cube and of either job in turn; one of the job that the process is not at work for, in the very buffer that it
- * is at work in; and a notice.
+ * is at work in; a node of that job there, which labels it once more; and a notice.
  */
 #include <linux/atomic.h>
 #include <linux/hrtimer.h>
@@ -22,19 +22,19 @@
 #define HAMMER_FILE KBUILD_MODNAME
 #define HAMMER_PERIOD ns_to_ktime(100 * 1000)
 
-static atomic64_t pairs, interrupts, beside, notices, wrong;
+static atomic64_t pairs, interrupts, beside, whys, whys_beside, notices, wrong;
 
 struct hammer {
 	struct hrtimer timer;
 	uint32_t turn;
 	uint8_t labels[HCUBE_LABEL_BYTES(12)];
-	/* The half of the job `still` in `labels` is that of the cube, and stays so, while there is one. */
+	/* While there is a cube, the half of job `still` in `labels` is that cube's; only the timer writes it. */
 	spinlock_t lock;
 	const struct hcube_cube *cube;
 	uint32_t still;
 };
 
-/* Says which half stays as it is from now on; the other one may change. */
+/* Says which half is left to the timer from now on; the other one may change. */
 static void keep_still(struct hammer *hammer, const struct hcube_cube *cube, uint32_t job)
 {
 	spin_lock_irq(&hammer->lock);
@@ -43,20 +43,27 @@ static void keep_still(struct hammer *hammer, const struct hcube_cube *cube, uin
 	spin_unlock_irq(&hammer->lock);
 }
 
-/* A pair of that half, while the process labels the other one or asks. */
+/* A pair and a node of that half, while the process labels the other one or asks. */
+static void compare_in_half(struct hammer *hammer, const struct hcube_cube *cube, uint32_t job)
+{
+	const struct hcube_closing *closing = &cube->closings[job];
+	uint32_t nodes = HCUBE_NODES(cube->n), pair = hammer->turn % (nodes * nodes);
+
+	if (!hcube_pair_is_right(cube, job, closing, hammer->labels, pair / nodes, pair % nodes))
+		atomic64_inc(&wrong);
+	atomic64_inc(&beside);
+	if (!cube->has_tables)
+		return;
+	if (!hcube_why_is_right(cube, job, closing, hammer->labels, hammer->turn % nodes))
+		atomic64_inc(&wrong);
+	atomic64_inc(&whys_beside);
+}
+
 static void compare_beside(struct hammer *hammer)
 {
-	const struct hcube_cube *cube;
-
 	spin_lock(&hammer->lock);
-	cube = hammer->cube;
-	if (cube) {
-		uint32_t job = hammer->still, nodes = HCUBE_NODES(cube->n), pair = hammer->turn % (nodes * nodes);
-
-		if (!hcube_pair_is_right(cube, job, &cube->closings[job], hammer->labels, pair / nodes, pair % nodes))
-			atomic64_inc(&wrong);
-		atomic64_inc(&beside);
-	}
+	if (hammer->cube)
+		compare_in_half(hammer, hammer->cube, hammer->still);
 	spin_unlock(&hammer->lock);
 }
 
@@ -89,7 +96,10 @@ static void set_up(struct hammer *hammer)
 #endif
 }
 
-/* Labelling and notices take their turns too: about a tenth of the time each. */
+/*
+ * Labelling and notices take their turns too: about a twentieth of the time each. Asking why, which labels for each
+ * node, takes about a third.
+ */
 static void compare(const struct hcube_cube *cube, uint32_t job, uint8_t *labels)
 {
 	const struct hcube_closing *closing = &cube->closings[job];
@@ -98,6 +108,8 @@ static void compare(const struct hcube_cube *cube, uint32_t job, uint8_t *labels
 	for (turn = 0; turn < 10; turn++)
 		if (!hcube_labels_are_right(cube, job, closing, labels))
 			atomic64_inc(&wrong);
+	atomic64_add(hcube_wrong_whys(cube, job, closing, labels), &wrong);
+	atomic64_add(hcube_whys(cube), &whys);
 	atomic64_add(hcube_wrong_pairs(cube, job, closing, labels), &wrong);
 	atomic64_add(hcube_pairs(cube), &pairs);
 	atomic64_add(hcube_wrong_notices(), &wrong);
@@ -159,9 +171,10 @@ int hcube_hammer_start(void)
 void hcube_hammer_stop(void)
 {
 	remove_proc_entry(HAMMER_FILE, NULL);
-	pr_info("hcube_hammer: %lld pairs compared, %lld in interrupts, %lld beside the other job at work, %lld notices compared, %lld in interrupts, %lld wrong\n",
+	pr_info("hcube_hammer: %lld pairs compared, %lld in interrupts, %lld beside the other job at work, %lld nodes compared, %lld beside the other job at work, %lld notices compared, %lld in interrupts, %lld wrong\n",
 		(long long)(atomic64_read(&pairs) + atomic64_read(&interrupts) + atomic64_read(&beside)),
 		(long long)atomic64_read(&interrupts), (long long)atomic64_read(&beside),
+		(long long)(atomic64_read(&whys) + atomic64_read(&whys_beside)), (long long)atomic64_read(&whys_beside),
 		(long long)(atomic64_read(&notices) + atomic64_read(&interrupts)), (long long)atomic64_read(&interrupts),
 		(long long)atomic64_read(&wrong));
 }

@@ -1,9 +1,10 @@
 // SPDX-License-Identifier: GPL-2.0-only OR MIT
 /*
  * Two jobs with one label buffer, each on a processor of its own, for kernel/test; a driver needs nothing of it. Of
- * each stored cube, job 0 is labelled over and over, its closed table changing, while job 1 asks hop and walk; then
- * job 1 is labelled and job 0 asks; then both are labelled. Each side compares every answer, and every byte of its own
- * half, with what is stored, and counts how often the other one was labelled meanwhile.
+ * each stored cube, job 0 is labelled over and over, its closed table changing, while job 1 asks hop, why that hop, and
+ * walk; then job 1 is labelled and job 0 asks; then both are labelled. Half of the labellings are questions why a node
+ * has its label. Each side compares every answer, and every byte of its own half, with what is stored, and counts how
+ * often the other one was labelled meanwhile.
  */
 #include <linux/atomic.h>
 #include <linux/cpumask.h>
@@ -45,17 +46,23 @@ struct counts {
 	unsigned long least; /* made meanwhile in a trial */
 };
 
+/* The closed table changes each time; two labellings and two questions why take turns. */
 static bool relabelling_is_right(struct side *side)
 {
 	const struct hcube_cube *cube = side->cube;
 	const struct hcube_closing *closing = &cube->closings[side->compared % HCUBE_JOBS];
-	uint32_t answer;
+	unsigned long turn = side->compared / HCUBE_JOBS;
+	uint32_t x = turn / 2 % HCUBE_NODES(cube->n);
+	bool right;
 
 	memset(side->labels + HCUBE_HALF(cube->n, side->job), HCUBE_UNTOUCHED, HCUBE_NODES(cube->n));
 	atomic_inc(&side->calls);
-	answer = hcube_label_stored(cube, side->job, closing, side->labels);
+	if (turn % 2)
+		right = hcube_why_stored(cube, side->job, closing, side->labels, x) == closing->whys[x];
+	else
+		right = hcube_label_stored(cube, side->job, closing, side->labels) == closing->label;
 	atomic_inc(&side->calls);
-	return answer == closing->label && hcube_half_is_right(cube, side->job, closing, side->labels);
+	return right && hcube_half_is_right(cube, side->job, closing, side->labels);
 }
 
 static bool question_is_right(struct side *side)

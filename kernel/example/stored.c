@@ -23,6 +23,13 @@ uint32_t hcube_label_stored(const struct hcube_cube *cube, uint32_t job, const s
 			   closing->closed, cube->table_len, labels, HCUBE_LABEL_BYTES(cube->n));
 }
 
+uint64_t hcube_why_stored(const struct hcube_cube *cube, uint32_t job, const struct hcube_closing *closing,
+			  uint8_t *labels, uint32_t x)
+{
+	return hcube_why_node(cube->n, cube->rule, job, x, cube->faults, cube->table_len, cube->draining,
+			      cube->table_len, closing->closed, cube->table_len, labels, HCUBE_LABEL_BYTES(cube->n));
+}
+
 bool hcube_half_is_right(const struct hcube_cube *cube, uint32_t job, const struct hcube_closing *closing,
 			 const uint8_t *labels)
 {
@@ -43,6 +50,29 @@ bool hcube_labels_are_right(const struct hcube_cube *cube, uint32_t job, const s
 	       hcube_half_is_right(cube, job, closing, labels);
 }
 
+bool hcube_why_is_right(const struct hcube_cube *cube, uint32_t job, const struct hcube_closing *closing,
+			uint8_t *labels, uint32_t x)
+{
+	uint8_t *half = labels + HCUBE_HALF(cube->n, job);
+
+	memset(half, HCUBE_UNTOUCHED, HCUBE_NODES(cube->n));
+	if (hcube_why_stored(cube, job, closing, labels, x) != closing->whys[x])
+		return false;
+	if (x >= HCUBE_NODES(cube->n))
+		return !memchr_inv(half, HCUBE_UNTOUCHED, HCUBE_NODES(cube->n));
+	return hcube_half_is_right(cube, job, closing, labels);
+}
+
+size_t hcube_wrong_whys(const struct hcube_cube *cube, uint32_t job, const struct hcube_closing *closing,
+			uint8_t *labels)
+{
+	size_t wrong = 0, x = hcube_whys(cube);
+
+	while (x-- > 0) /* the refused one first, which labels nothing */
+		wrong += !hcube_why_is_right(cube, job, closing, labels, x);
+	return wrong;
+}
+
 bool hcube_pair_is_right(const struct hcube_cube *cube, uint32_t job, const struct hcube_closing *closing,
 			 const uint8_t *labels, uint32_t s, uint32_t d)
 {
@@ -52,6 +82,7 @@ bool hcube_pair_is_right(const struct hcube_cube *cube, uint32_t job, const stru
 
 	memset(row, HCUBE_UNTOUCHED, sizeof(row));
 	return hcube_hop(cube->n, job, s, d, labels, bytes) == stored->hop &&
+	       hcube_why_hop(cube->n, job, s, d, labels, bytes) == stored->why &&
 	       hcube_walk(cube->n, job, s, d, labels, bytes, row, sizeof(row)) == stored->walk &&
 	       memcmp(row, stored->row, sizeof(row)) == 0;
 }

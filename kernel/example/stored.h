@@ -13,6 +13,7 @@ enum { HCUBE_JOBS = 2, HCUBE_UNTOUCHED = 0xaa, STORED_NOTICE_BYTES = 16, STORED_
 /* The answers for one pair. The row of a refused walk keeps the byte HCUBE_UNTOUCHED. */
 struct hcube_answer {
 	uint32_t hop;
+	uint32_t why; /* what hcube_why_hop answers */
 	uint32_t walk;
 	uint8_t row[HCUBE_ROW_BYTES];
 };
@@ -22,6 +23,7 @@ struct hcube_closing {
 	const uint8_t *closed;
 	uint32_t label;
 	const uint8_t *half; /* of the label buffer */
+	const uint64_t *whys; /* what hcube_why_node answers for each node, and for one above the last */
 	const struct hcube_answer *answers; /* that of source s and destination d at s * (2^n + 1) + d */
 };
 
@@ -58,9 +60,19 @@ static inline size_t hcube_pairs(const struct hcube_cube *cube)
 	return (HCUBE_NODES(cube->n) + 1) * (HCUBE_NODES(cube->n) + 1);
 }
 
+/* So many nodes are asked about, one above the last among them; none where there are no tables to label by. */
+static inline size_t hcube_whys(const struct hcube_cube *cube)
+{
+	return cube->has_tables ? HCUBE_NODES(cube->n) + 1 : 0;
+}
+
 /* Labels the cube for this job into its half of a buffer of HCUBE_LABEL_BYTES(n) bytes. */
 uint32_t hcube_label_stored(const struct hcube_cube *cube, uint32_t job, const struct hcube_closing *closing,
 			    uint8_t *labels);
+
+/* Labels alike, unless x is one above the last, and answers why node x has its label. */
+uint64_t hcube_why_stored(const struct hcube_cube *cube, uint32_t job, const struct hcube_closing *closing,
+			  uint8_t *labels, uint32_t x);
 
 /* Whether the bytes of the job's half are as stored. */
 bool hcube_half_is_right(const struct hcube_cube *cube, uint32_t job, const struct hcube_closing *closing,
@@ -70,7 +82,18 @@ bool hcube_half_is_right(const struct hcube_cube *cube, uint32_t job, const stru
 bool hcube_labels_are_right(const struct hcube_cube *cube, uint32_t job, const struct hcube_closing *closing,
 			    uint8_t *labels);
 
-/* Whether the job's hop and walk of this pair are as stored, the row's bytes among them. */
+/*
+ * Asks why over bytes that are no labels, and says whether the answer and the half are as stored. A refused x leaves
+ * the half with those bytes.
+ */
+bool hcube_why_is_right(const struct hcube_cube *cube, uint32_t job, const struct hcube_closing *closing,
+			uint8_t *labels, uint32_t x);
+
+/* How many of all nodes are not. Leaves the half labelled, if there are tables, else as it is. */
+size_t hcube_wrong_whys(const struct hcube_cube *cube, uint32_t job, const struct hcube_closing *closing,
+			uint8_t *labels);
+
+/* Whether the job's hop, its reason and the walk of this pair are as stored, the row's bytes among them. */
 bool hcube_pair_is_right(const struct hcube_cube *cube, uint32_t job, const struct hcube_closing *closing,
 			 const uint8_t *labels, uint32_t s, uint32_t d);
 
