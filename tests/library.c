@@ -63,7 +63,8 @@ static void check_refusals_seen(void)
     CAME_UP("refusal of label, no job", refusal[LABEL][NO_JOB], 18, 19);
     CAME_UP("refusal of hop, no job", refusal[HOP][NO_JOB], 19, 19);
     CAME_UP("refusal of walk, no job", refusal[WALK][NO_JOB], 19, 19);
-    CAME_UP("refusal of why a label, no job", refusal[WHY_NODE][NO_JOB], 18, 19);
+    CAME_UP("refusal of why a label, no job", refusal[WHY_NODE][NO_JOB], 18,
+            19);
     CAME_UP("refusal of why a hop, no job", refusal[WHY_HOP][NO_JOB], 19, 19);
     end_group();
 }

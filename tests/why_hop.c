@@ -1,8 +1,8 @@
 /*
- * why_hop.c: why a hop is taken (RULES, Why a hop is taken), between all nodes of
- * small cubes and some of larger ones, by labels of cabinets, by any others, and by
- * bytes that are none. Which scan takes what stands here once more and is not asked
- * of the reference.
+ * why_hop.c: why a hop is taken (RULES, Why a hop is taken), between all nodes
+ * of small cubes and some of larger ones, by labels of cabinets, by any others,
+ * and by bytes that are none. Which scan takes what stands here once more and
+ * is not asked of the reference.
  */
 #include <string.h>
 
@@ -68,10 +68,11 @@ static void explains(uint32_t n, uint32_t c, uint32_t d)
 {
     struct hop_question asked = fit_hop(n, c, d, labels);
     uint32_t hop = ask_hop(asked), why = check_why_hop(asked);
+    uint8_t own = labels[c];
     int holds;
     if (is_near_bad(n, c))
         holds = why == REFUSED(4);
-    else if (labels[c] == HCUBE_FAULTY || (labels[c] == HCUBE_DRAINING && c != d))
+    else if (own == HCUBE_FAULTY || (own == HCUBE_DRAINING && c != d))
         holds = why == REFUSED(6);
     else if (c == d)
         holds = why == HCUBE_DELIVER << 16;

@@ -1,7 +1,7 @@
 /*
  * why_named.c: causes that are made one by one, across each two and each three
- * dimensions of every cube (RULES, Why a node has its label). What is due is said
- * here, not by the reference.
+ * dimensions of every cube (RULES, Why a node has its label). What is due is
+ * said here, not by the reference.
  */
 #include "cabinet.h"
 #include "cases.h"
@@ -23,8 +23,8 @@ static void cause_is(uint32_t n, uint32_t rule, uint32_t x, unsigned cause,
     due = ((uint64_t)cause << 56) + ((uint64_t)k << 48) + ((uint64_t)j << 40) +
           ((uint64_t)i << 32) + ((uint64_t)labels[x] << 16) + round;
     saw_why_node(asked, due);
-    expect(answer == due, "n = %u by %u, node %u: %016llx, not %016llx", n, rule,
-           x, (unsigned long long)answer, (unsigned long long)due);
+    expect(answer == due, "n = %u by %u, node %u: %016llx, not %016llx", n,
+           rule, x, (unsigned long long)answer, (unsigned long long)due);
 }
 
 /* The node that is i and j away from x. */
@@ -45,8 +45,8 @@ static void two_out(uint32_t n, uint32_t x, uint32_t i, uint32_t j)
     cause_is(n, 2 + random_below(2), x, HCUBE_CAUSE_FAULTY, i, j, 0);
 }
 
-/* Two that are marked in round 1, or one and one that does not work. Each that is
- * marked has two out of work beside it, and no other neighbour of x has. */
+/* Two that are marked in round 1, or one and one that does not work. Each that
+ * is marked has two out of work beside it, and no other neighbour of x has. */
 static void two_marked(uint32_t n, uint32_t x, uint32_t i, uint32_t j)
 {
     uint32_t a = (i + 1) % n, b;
@@ -65,7 +65,8 @@ static void two_marked(uint32_t n, uint32_t x, uint32_t i, uint32_t j)
 }
 
 /* The same for three, of which the first may not work. */
-static void three_marked(uint32_t n, uint32_t x, uint32_t i, uint32_t j, uint32_t k)
+static void three_marked(uint32_t n, uint32_t x, uint32_t i, uint32_t j,
+                         uint32_t k)
 {
     clear_cabinet();
     put_out(away(x, i, j));
