@@ -153,6 +153,7 @@ static const struct group groups[] = {
     {"why_random", check_why_random},
     {"why_rounds", check_why_rounds},
     {"why_hops", check_why_hops},
+    {"scans_taken", check_scans_taken},
     {"damaged", check_damaged},
     {"dimensions", check_dimensions},
     {"notices", check_notices},
