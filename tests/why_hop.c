@@ -123,8 +123,7 @@ void check_why_hops(void)
 
 /* ---- each scan across each dimension */
 
-/* The label of the neighbour that a scan takes here, and of no other that it or
- * an earlier scan would take before. */
+/* The label of the neighbour that each scan takes here. */
 static const uint8_t taken[] = {HCUBE_DRAINING, HCUBE_SAFE, HCUBE_ORDINARY,
                                 HCUBE_STRONG, HCUBE_SAFE, HCUBE_ORDINARY};
 
