@@ -1,7 +1,7 @@
 /*
  * plain.c: the library's algorithm in plain C, to measure the archive against:
- * labelling, and why a node has its label. Hop and walk are in plain_hop.c. PREFIX
- * is the prefix of the functions' names.
+ * labelling, and why a node has its label. Hop and walk are in plain_hop.c.
+ * PREFIX is the prefix of the functions' names.
  */
 #include "plain.h"
 
@@ -128,8 +128,9 @@ uint32_t NAME(label)(uint32_t n, uint32_t rule, uint32_t job,
 
 /* ---- why a node has its label: labelling, which watches the node */
 
-/* The lowest dimensions across which two are faulty, if there are two, or else so
- * many are faulty or marked; the fresh ones are of this round, and do not count. */
+/* The lowest dimensions across which two are faulty, if there are two, or else
+ * so many are faulty or marked; the fresh ones are of this round, and do not
+ * count. */
 static uint64_t cause(uint32_t n, uint32_t rule, uint32_t x,
                       const uint8_t *labels)
 {

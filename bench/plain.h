@@ -1,6 +1,6 @@
 /*
- * plain.h: labelling, hop, walk and the questions that say why in plain C, compiled
- * by two compilers (gcc_, clang_); and what its two files share.
+ * plain.h: labelling, hop, walk and the questions that say why in plain C,
+ * compiled by two compilers (gcc_, clang_); and what its two files share.
  */
 #ifndef PLAIN_H
 #define PLAIN_H

@@ -1,6 +1,7 @@
 /*
- * plain_hop.c: the library's algorithm in plain C, to measure the archive against:
- * hop, why it is taken, and walk. PREFIX is the prefix of the functions' names.
+ * plain_hop.c: the library's algorithm in plain C, to measure the archive
+ * against: hop, why it is taken, and walk. PREFIX is the prefix of the
+ * functions' names.
  */
 #include "plain.h"
 
@@ -22,8 +23,8 @@ static int all_labels(const uint8_t *labels, size_t count)
     return largest <= DRAINING;
 }
 
-/* Reads the n + 1 labels; whether each is one. Where none is draining they show it
- * at once, joined; otherwise they are looked at one by one. */
+/* Reads the n + 1 labels; whether each is one. Where none is draining they show
+ * it at once, joined; otherwise they are looked at one by one. */
 static int gather(uint32_t n, uint32_t c, const uint8_t *labels,
                   struct around *around)
 {

@@ -1,6 +1,6 @@
 /*
- * sides.c: label, hop, walk and the questions that say why, as the archive and the
- * two C builds answer them.
+ * sides.c: label, hop, walk and the questions that say why, as the archive and
+ * the two C builds answer them.
  */
 #include "sides.h"
 

@@ -60,8 +60,9 @@ uint64_t check_why_node(struct label_question asked, uint32_t x)
                         asked.closed, asked.closed_len, wanted,
                         asked.labels_len);
     answer = ask_why_node(lent, x);
-    expect(answer == want, "why n=%u by %u, job %u, node %u: %016llx, not %016llx",
-           asked.n, asked.rule, asked.job, x, (unsigned long long)answer,
+    expect(answer == want,
+           "why n=%u by %u, job %u, node %u: %016llx, not %016llx", asked.n,
+           asked.rule, asked.job, x, (unsigned long long)answer,
            (unsigned long long)want);
     expect(tables_are(asked), "why n=%u by %u, job %u, node %u: wrong bytes",
            asked.n, asked.rule, asked.job, x);
@@ -115,8 +116,8 @@ uint32_t check_hop(struct hop_question asked)
     expect(lent_is(&read_only, asked.labels), "hop n=%u, job %u: a byte changed",
            asked.n, asked.job);
     expect(answer == without_scan(why),
-           "hop n=%u, job %u, %u to %u: %08x, but why it is taken %08x", asked.n,
-           asked.job, asked.c, asked.d, answer, why);
+           "hop n=%u, job %u, %u to %u: %08x, but why it is taken %08x",
+           asked.n, asked.job, asked.c, asked.d, answer, why);
     saw_hop(asked, want);
     return answer;
 }

@@ -1,8 +1,8 @@
 /*
  * combinations.c: hop and walk with all that they refuse, in every combination;
- * labelling is in combinations_label.c, and why a hop is taken is asked with each
- * hop, by check.c. Which refusal is due stands here once more,
- * in the order of RULES (Refusal numbers), and is not asked of the reference. That
+ * labelling is in combinations_label.c, and why a hop is taken is asked with
+ * each hop, by check.c. Which refusal is due stands here once more, in the
+ * order of RULES (Refusal numbers), and is not asked of the reference. That
  * nothing is written then is checked by check.c.
  */
 #include "combinations.h"

@@ -1,7 +1,8 @@
 /*
- * combinations_label.c: labelling with all that it refuses, in every combination,
- * and why a node has its label, where it is the last node or, as often, none. Which
- * refusal is due stands here once more, as in combinations.c.
+ * combinations_label.c: labelling with all that it refuses, in every
+ * combination, and why a node has its label, where it is the last node or, as
+ * often, none. Which refusal is due stands here once more, as in
+ * combinations.c.
  */
 #include "combinations.h"
 

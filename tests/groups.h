@@ -32,6 +32,7 @@ void check_why_random(void);
 void check_why_rounds(void);
 void check_why_named(void);       /* why_named.c */
 void check_why_hops(void);        /* why_hop.c */
+void check_scans_taken(void);
 void check_lengths(void);         /* lengths.c */
 void check_damaged(void);         /* refusals.c */
 void check_plain_numbers(void);

@@ -1,8 +1,8 @@
 /*
- * halves.c: what the other half of a label buffer holds changes no answer, no row
- * and no byte of a job's own half, and refusal 4 never comes from there. What is
- * expected is what the library answers over a half of zeros. Why a hop is taken is
- * asked with each hop, by check.c.
+ * halves.c: what the other half of a label buffer holds changes no answer, no
+ * row and no byte of a job's own half, and refusal 4 never comes from there.
+ * What is expected is what the library answers over a half of zeros. Why a hop
+ * is taken is asked with each hop, by check.c.
  */
 #include <string.h>
 

@@ -195,8 +195,8 @@ uint64_t call_all(const uint8_t *bytes, uint8_t *faults, uint8_t *labels,
     uint64_t read = hcube_read_notice(bytes, 12, faults, table);
     uint32_t all = hcube_label(n, HCUBE_RULE_CHIU_WU, 1, faults, table, none,
                                table, none, table, labels, size);
-    uint64_t why = hcube_why_node(n, HCUBE_RULE_CHIU_WU, 1, 0, faults, table, none,
-                                  table, none, table, labels, size);
+    uint64_t why = hcube_why_node(n, HCUBE_RULE_CHIU_WU, 1, 0, faults, table,
+                                  none, table, none, table, labels, size);
     all += hcube_hop(n, 1, 0, 1, labels, size);
     all += parts_32(hcube_why_hop(n, 1, 0, 1, labels, size));
     all += hcube_walk(n, 1, 0, 1, labels, size, row, HCUBE_ROW_BYTES);

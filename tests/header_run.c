@@ -83,7 +83,8 @@ static void scans(void)
                    "a scan's text of two", scan);
     }
     for (scan = 0; scan < 256; scan++)
-        expect(is_no_scan(scan) == (scan > 5), "the default's text, scan", scan);
+        expect(is_no_scan(scan) == (scan > 5), "the default's text, scan",
+               scan);
     for (i = 0; i < sizeof large / sizeof large[0]; i++)
         expect(is_no_scan(large[i]), "the default's text, scan", large[i]);
 }

@@ -70,9 +70,9 @@ static void why_job(uint32_t n, uint32_t rule, uint32_t job, uint32_t x)
     want = ref_why_node(n, rule, 0, x, merged, len, draining, len, none, len,
                         own[job], ref_label_bytes(n));
     answer = check_why_node(cabinet_of(n, rule, job), x);
-    expect(answer == want, "n = %u by %u, job %u: why %u is %016llx, not %016llx",
-           n, rule, job, x, (unsigned long long)answer,
-           (unsigned long long)want);
+    expect(answer == want,
+           "n = %u by %u, job %u: why %u is %016llx, not %016llx", n, rule, job,
+           x, (unsigned long long)answer, (unsigned long long)want);
     holds_both(n, "why a label");
 }
 

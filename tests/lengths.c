@@ -1,7 +1,7 @@
 /*
- * lengths.c: labelling, hop and walk, and the questions that say why, on buffers of
- * every kind of length, and what is refused since a length is right in its low 32
- * bits alone.
+ * lengths.c: labelling, hop and walk, and the questions that say why, on
+ * buffers of every kind of length, and what is refused since a length is right
+ * in its low 32 bits alone.
  */
 #define _DEFAULT_SOURCE /* MAP_ANONYMOUS, MAP_NORESERVE */
 #include <string.h>

@@ -63,7 +63,8 @@ static void check_refusals_seen(void)
     CAME_UP("refusal of label, no job", refusal[LABEL][NO_JOB], 18, 19);
     CAME_UP("refusal of hop, no job", refusal[HOP][NO_JOB], 19, 19);
     CAME_UP("refusal of walk, no job", refusal[WALK][NO_JOB], 19, 19);
-    CAME_UP("refusal of why a label, no job", refusal[WHY_NODE][NO_JOB], 18, 19);
+    CAME_UP("refusal of why a label, no job", refusal[WHY_NODE][NO_JOB], 18,
+            19);
     CAME_UP("refusal of why a hop, no job", refusal[WHY_HOP][NO_JOB], 19, 19);
     end_group();
 }
@@ -152,6 +153,7 @@ static const struct group groups[] = {
     {"why_random", check_why_random},
     {"why_rounds", check_why_rounds},
     {"why_hops", check_why_hops},
+    {"scans_taken", check_scans_taken},
     {"damaged", check_damaged},
     {"dimensions", check_dimensions},
     {"notices", check_notices},

@@ -1,6 +1,6 @@
 /*
- * orders.c: for hop, why it is taken, and walk, inputs to which two refusals apply
- * at once, and what asks those of labelling too (orders_label.c).
+ * orders.c: for hop, why it is taken, and walk, inputs to which two refusals
+ * apply at once, and what asks those of labelling too (orders_label.c).
  */
 #include "orders.h"
 

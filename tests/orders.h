@@ -13,8 +13,8 @@
  * stands for either job: both are asked. */
 struct order {
     unsigned first, second;
-    uint32_t n, job, s, d; /* s: the walk's source, the hop's current node, or the
-                            * node whose label is asked about */
+    uint32_t n, job, s, d; /* s: the walk's source, the hop's current node, or
+                            * the node whose label is asked about */
     int rule_more;         /* for labelling: beyond rule 3 */
     uint8_t fault_byte, draining_byte, closed_byte; /* each byte of the table */
     const char *labels; /* for hop and walk: the job's half, a digit a byte, x for
@@ -23,8 +23,8 @@ struct order {
     int labels_more, row_more;
 };
 
-/* Asks all, and expects that each pair of the refusals of this question, any but
- * those of a notice, is among them. */
+/* Asks all, and expects that each pair of the refusals of this question, any
+ * but those of a notice, is among them. */
 void check_order(unsigned question,
                  uint64_t (*answer_to)(const struct order *, uint32_t job),
                  const struct order *orders, size_t count);

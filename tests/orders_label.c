@@ -1,7 +1,7 @@
 /*
- * orders_label.c: for labelling, and why a node has its label, inputs to which two
- * refusals apply at once. 1 and 3 meet only where n is right once narrowed. 5 is
- * none of labelling's: there the first stands alone.
+ * orders_label.c: for labelling, and why a node has its label, inputs to which
+ * two refusals apply at once. 1 and 3 meet only where n is right once narrowed.
+ * 5 is none of labelling's: there the first stands alone.
  */
 #include <string.h>
 
@@ -106,7 +106,7 @@ static const struct order label_orders[] = {
     {.first = 3, .second = 5, .n = 1, .closed_byte = 4, .s = 256},
 };
 
-static struct label_question question_of(const struct order *order, uint32_t job)
+static struct label_question tables_of(const struct order *order, uint32_t job)
 {
     struct label_question asked = fit_label(order->n & 255, faults, labels);
     memset(faults, order->fault_byte, sizeof faults);
@@ -126,12 +126,12 @@ static struct label_question question_of(const struct order *order, uint32_t job
 
 static uint64_t label_answer(const struct order *order, uint32_t job)
 {
-    return check_label(question_of(order, job));
+    return check_label(tables_of(order, job));
 }
 
 static uint64_t why_answer(const struct order *order, uint32_t job)
 {
-    return check_why_node(question_of(order, job), order->s);
+    return check_why_node(tables_of(order, job), order->s);
 }
 
 void check_label_orders(void)

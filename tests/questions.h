@@ -19,8 +19,9 @@
 
 enum { LABEL, HOP, WALK, WHY_NODE, WHY_HOP, NOTICE, DIMENSION, QUESTIONS };
 
-/* Name and refusals of each question; 0 ends the row. A notice, or its dimension
- * alone, is read from left to right; the others test theirs in this order. */
+/* Name and refusals of each question; 0 ends the row. A notice, or its
+ * dimension alone, is read from left to right; the others test theirs in this
+ * order. */
 extern const struct question {
     const char *name;
     unsigned refusals[MOST_REFUSAL + 1];

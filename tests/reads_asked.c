@@ -1,7 +1,7 @@
 /*
- * reads_asked.c: which labels a hop, a walk, and the questions that say why read,
- * and that what is refused before a label is looked at reads none. The other half
- * holds anything.
+ * reads_asked.c: which labels a hop, a walk, and the questions that say why
+ * read, and that what is refused before a label is looked at reads none. The
+ * other half holds anything.
  */
 #include <stdio.h>
 
@@ -92,8 +92,8 @@ void check_why_labels(void)
     result("why labels", cases);
 }
 
-/* Why a hop is taken at c: its own label and each neighbour's, no other, and none
- * more than twice, since it is looked at for the hop and for its scan. */
+/* Why a hop is taken at c: its own label and each neighbour's, no other, and
+ * none more than twice, since it is looked at for the hop and for its scan. */
 void check_why_hops(void)
 {
     unsigned cases = 0;
@@ -149,8 +149,8 @@ void check_refused(void)
     hcube_hop(n, job + 2, 0, 1, labels, len);
     hcube_hop(n, job, 0, 1, labels, len / 2);
     hcube_hop(n, job, 0, 1u << n, labels, len);
-    hcube_why_node(n, 3, job + 2, 0, none, bytes, none, bytes, none, bytes, labels,
-                   len);
+    hcube_why_node(n, 3, job + 2, 0, none, bytes, none, bytes, none, bytes,
+                   labels, len);
     hcube_why_node(n, 3, job, 0, none, bytes, none, bytes, none, bytes, labels,
                    len / 2);
     hcube_why_node(n, 3, job, 1u << n, none, bytes, none, bytes, none, bytes,

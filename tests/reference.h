@@ -1,7 +1,7 @@
 /*
  * reference.h: the rules of docs/RULES.md once more, in plain C, to hold the
- * library and the listing program against. The first seven functions have the same
- * interface as the library's.
+ * library and the listing program against. The first seven functions have the
+ * same interface as the library's.
  */
 #ifndef REFERENCE_H
 #define REFERENCE_H
@@ -63,8 +63,8 @@ unsigned ref_exchanges(uint32_t n, uint32_t rule, const uint8_t *faults,
                        uint8_t *half);
 
 /* Of three good tables, by rule 2 or 3: each node's label, and the round that
- * marked it, counted from 1; 0 where the node does not work, and NOT_MARKED where it
- * is safe. And what is answered of a node then. */
+ * marked it, counted from 1; 0 where the node does not work, and NOT_MARKED
+ * where it is safe. And what is answered of a node then. */
 #define NOT_MARKED 0xffff
 struct ref_marks {
     uint8_t label[MOST_NODES];

@@ -1,7 +1,7 @@
 /*
  * reference_why.c: why a node has its label and why a hop is taken, by
- * docs/RULES.md, in the most direct C: each node has the round that marked it, and
- * a cause is looked up in these rounds.
+ * docs/RULES.md, in the most direct C: each node has the round that marked it,
+ * and a cause is looked up in these rounds.
  */
 #include "reference.h"
 
@@ -79,8 +79,8 @@ static uint64_t packed(uint64_t cause, uint64_t named, uint64_t label,
     return (cause << 56) + (named << 32) + label * 65536u + round;
 }
 
-/* The dimensions of the first so many of these neighbours, a byte each, the lowest
- * one in the lowest byte. */
+/* The dimensions of the first so many of these neighbours, a byte each, the
+ * lowest one in the lowest byte. */
 static uint64_t lowest(uint32_t n, const struct ref_marks *marks, uint32_t x,
                        unsigned round, unsigned count)
 {
@@ -155,6 +155,8 @@ uint32_t ref_why_hop(uint32_t n, uint32_t job, uint32_t c, uint32_t d,
     uint32_t scan, dimension = 0;
     if (answer / 65536u != 1) /* refused, delivered or halted */
         return answer;
-    scan = ref_scan(n, c, d, job == 1 ? labels + (1u << n) : labels, &dimension);
+    if (job == 1)
+        labels += 1u << n;
+    scan = ref_scan(n, c, d, labels, &dimension);
     return 65536u + scan * 256 + dimension;
 }

@@ -1,7 +1,8 @@
 /*
- * refusals.c: labelling, hop and walk on inputs that are refused: random damage,
- * and numbers that would fit once narrowed. Why a node has its label is asked with
- * labelling's inputs; why a hop is taken is asked with each hop, by check.c.
+ * refusals.c: labelling, hop and walk on inputs that are refused: random
+ * damage, and numbers that would fit once narrowed. Why a node has its label is
+ * asked with labelling's inputs; why a hop is taken is asked with each hop, by
+ * check.c.
  */
 #include <string.h>
 
@@ -149,7 +150,7 @@ void check_damaged(void)
 /* ---- numbers that would be good once narrowed to 8 or 16 bits */
 
 /* Asked with the tables of n = 4, whatever n is given: nobody is faulty. */
-static struct label_question tables_of_4(uint32_t n, uint32_t rule, uint32_t job)
+static struct label_question of_4(uint32_t n, uint32_t rule, uint32_t job)
 {
     struct label_question asked = fit_label(4, faults, row);
     asked.n = n;
@@ -160,12 +161,12 @@ static struct label_question tables_of_4(uint32_t n, uint32_t rule, uint32_t job
 
 static uint32_t label_at_4(uint32_t n, uint32_t rule, uint32_t job)
 {
-    return check_label(tables_of_4(n, rule, job));
+    return check_label(of_4(n, rule, job));
 }
 
 static uint64_t why_at_4(uint32_t n, uint32_t rule, uint32_t job, uint32_t x)
 {
-    return check_why_node(tables_of_4(n, rule, job), x);
+    return check_why_node(of_4(n, rule, job), x);
 }
 
 static uint32_t hop_at_4(uint32_t n, uint32_t c, uint32_t d)
@@ -232,7 +233,7 @@ void check_plain_numbers(void)
         no_job(job);
     for (unsigned i = 1; i < 32; i++) {
         if (i >= 4)
-            expect(why_at_4(4, 3, 0, 1u << i) == REFUSED(5), "node %u", 1u << i);
+            expect(why_at_4(4, 3, 0, 1u << i) == REFUSED(5), "node 2^%u", i);
         no_job(1u << i);
         no_job((1u << i) + 1);
         no_job(0u - (1u << i));

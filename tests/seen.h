@@ -26,12 +26,12 @@ struct seen {
     unsigned long rule[4];             /* by which labels were made */
     unsigned long exchanges[11];       /* 10: ten or more */
     unsigned long label[MOST_LABEL + 1]; /* bytes that labelling wrote */
-    unsigned long why_label[MOST_LABEL + 1]; /* of nodes that were asked about */
+    unsigned long why_label[MOST_LABEL + 1]; /* of nodes asked about */
     unsigned long cause[4][3];         /* of their labels, by the rule */
-    unsigned long named[3][12];        /* dimensions of a cause, by their place */
-    unsigned long round[12];           /* 10: ten to 99; 11: a hundred or more */
-    unsigned long beside_safe[2][3];   /* safe nodes, by faulty neighbours and by
-                                        * those that are not safe */
+    unsigned long named[3][12];        /* dimensions of a cause, by place */
+    unsigned long round[12];           /* 10: ten to 99; 11: a hundred, more */
+    unsigned long beside_safe[2][3];   /* safe nodes, by faulty neighbours and
+                                        * by those that are not safe */
     unsigned long why_scan[NO_SCAN];   /* that took a hop, as it says itself */
     unsigned long tables[8]; /* nodes labelled to n = 5, by the tables that they
                               * are in: 1 faults, 2 draining, 4 closed */

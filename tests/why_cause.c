@@ -1,7 +1,7 @@
 /*
- * why_cause.c: that what the library answers of a node is true (RULES, Why a node
- * has its label). Other nodes' rounds are asked of the library, and all else is
- * counted here, in the labels: nothing rests on the reference.
+ * why_cause.c: that what the library answers of a node is true (RULES, Why a
+ * node has its label). Other nodes' rounds are asked of the library, and all
+ * else is counted here, in the labels: nothing rests on the reference.
  */
 #include "why.h"
 
@@ -56,15 +56,16 @@ static uint64_t due_of_safe(uint32_t n, uint32_t x)
            ((uint64_t)count_near(n, x, is_not_safe) << 40);
 }
 
-/* By two that do not work in round 1, or else by as many as the rule says that do
- * not work or were marked before. With fewer no round marks it: no answer is due. */
+/* By two that do not work in round 1, or else by as many as the rule says that
+ * do not work or were marked before. With fewer no round marks it: no answer is
+ * due. */
 static uint64_t due_of_unsafe(uint32_t n, uint32_t rule, uint32_t x)
 {
     int by_faulty = count_near(n, x, is_out_of_work) >= 2;
     uint32_t round = by_faulty ? 1 : round_of(x);
     unsigned cause = by_faulty ? HCUBE_CAUSE_FAULTY : HCUBE_CAUSE_MARKED;
     unsigned count = by_faulty ? 2 : rule, found = 0;
-    uint64_t due = ((uint64_t)cause << 56) + ((uint64_t)labels[x] << 16) + round;
+    uint64_t due = ((uint64_t)cause << 56) + 65536u * labels[x] + round;
     for (uint32_t i = 0; i < n && found < count; i++)
         if (is_bad(x ^ 1u << i, round))
             due += (uint64_t)i << (32 + 8 * found++);
@@ -92,11 +93,11 @@ void check_true(uint32_t n, uint32_t rule, uint32_t x)
         due = due_of_unsafe(n, rule, x);
     if (answer != due)
         show_why(x);
-    expect(answer == due, "n = %u by %u, node %u: %016llx is due, not %016llx", n,
-           rule, x, (unsigned long long)due, (unsigned long long)answer);
+    expect(answer == due, "n = %u by %u, node %u: %016llx is due, not %016llx",
+           n, rule, x, (unsigned long long)due, (unsigned long long)answer);
     if (is_unsafe(x))
-        expect(is_first(n, rule, x), "n = %u by %u, node %u: not the first round",
-               n, rule, x);
+        expect(is_first(n, rule, x),
+               "n = %u by %u, node %u: not the first round", n, rule, x);
 }
 
 /* ---- followed down */

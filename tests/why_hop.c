@@ -1,8 +1,8 @@
 /*
- * why_hop.c: why a hop is taken (RULES, Why a hop is taken), between all nodes of
- * small cubes and some of larger ones, by labels of cabinets, by any others, and by
- * bytes that are none. Which scan takes what stands here once more and is not asked
- * of the reference.
+ * why_hop.c: why a hop is taken (RULES, Why a hop is taken), between all nodes
+ * of small cubes and some of larger ones, by labels of cabinets, by any others,
+ * and by bytes that are none. Which scan takes what stands here once more and
+ * is not asked of the reference.
  */
 #include <string.h>
 
@@ -68,10 +68,11 @@ static void explains(uint32_t n, uint32_t c, uint32_t d)
 {
     struct hop_question asked = fit_hop(n, c, d, labels);
     uint32_t hop = ask_hop(asked), why = check_why_hop(asked);
+    uint8_t own = labels[c];
     int holds;
     if (is_near_bad(n, c))
         holds = why == REFUSED(4);
-    else if (labels[c] == HCUBE_FAULTY || (labels[c] == HCUBE_DRAINING && c != d))
+    else if (own == HCUBE_FAULTY || (own == HCUBE_DRAINING && c != d))
         holds = why == REFUSED(6);
     else if (c == d)
         holds = why == HCUBE_DELIVER << 16;
@@ -117,5 +118,56 @@ void check_why_hops(void)
         put_bad(n);
         explain_some(n);
     }
+    end_group();
+}
+
+/* ---- each scan across each dimension */
+
+/* The label of the neighbour that each scan takes here. */
+static const uint8_t taken[] = {HCUBE_DRAINING, HCUBE_SAFE, HCUBE_ORDINARY,
+                                HCUBE_STRONG, HCUBE_SAFE, HCUBE_ORDINARY};
+
+/* Where d is, for a scan that is to take dimension i at c: i is forward up to
+ * scan 3, and alone in scan 0. */
+static uint32_t destination(uint32_t n, uint32_t c, unsigned scan, uint32_t i)
+{
+    uint32_t others = random_below(1u << n) & ~(1u << i);
+    if (scan == 0)
+        return c ^ 1u << i;
+    if (scan <= 3)
+        return c ^ 1u << i ^ others;
+    return c ^ (others ? others : 1u << (i + 1) % n);
+}
+
+/* All others around c are faulty, but for some across higher dimensions, which
+ * the scan would take too. */
+static void is_taken(uint32_t n, uint32_t job, unsigned scan, uint32_t i)
+{
+    uint32_t c = random_below(1u << n), d = destination(n, c, scan, i), why;
+    struct hop_question asked;
+    memset(labels, HCUBE_FAULTY, HCUBE_NODES(n));
+    for (uint32_t k = i; k < n; k++)
+        if (k == i || (((c ^ d) >> k & 1) == (scan <= 3) && random_below(2)))
+            labels[c ^ 1u << k] = taken[scan];
+    labels[c] = scan == 3 && ref_distance(n, c, d) > 2
+                    ? HCUBE_STRONG
+                    : (uint8_t)random_below(3);
+    asked = fit_hop(n, c, d, labels);
+    asked.job = job;
+    asked.labels = buffer_of(n, job, labels);
+    why = check_why_hop(asked);
+    expect(why == 65536u + 256 * scan + i,
+           "n = %u, job %u, %u to %u: %08x, not scan %u across %u", n, job, c,
+           d, why, scan, i);
+}
+
+void check_scans_taken(void)
+{
+    begin_group("why a hop, each scan across each dimension");
+    for (uint32_t n = 1; n <= 12; n++)
+        for (unsigned k = 0; k < 6 * 2 * 4; k++)
+            for (uint32_t i = 0; i < n; i++)
+                if (n > 1 || k % 6 <= 3)
+                    is_taken(n, k / 6 % 2, k % 6, i);
     end_group();
 }

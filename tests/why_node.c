@@ -1,7 +1,7 @@
 /*
- * why_node.c: why a node has its label (RULES, Why a node has its label): all fault
- * tables of small cubes, random cabinets, and the tables with the most rounds that
- * are known. Causes that are made one by one are in why_named.c.
+ * why_node.c: why a node has its label (RULES, Why a node has its label): all
+ * fault tables of small cubes, random cabinets, and the tables with the most
+ * rounds that are known. Causes that are made one by one are in why_named.c.
  */
 #include "why.h"
 

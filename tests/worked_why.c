@@ -1,6 +1,7 @@
 /*
- * worked_why.c: worked numbers of the questions that say why (RULES, Why, Numbers on
- * both sides), worked out by hand, each as a literal, asked of the library.
+ * worked_why.c: worked numbers of the questions that say why (RULES, Why,
+ * Numbers on both sides), worked out by hand, each as a literal, asked of the
+ * library.
  */
 #include <string.h>
 
