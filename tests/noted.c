@@ -66,20 +66,6 @@ void expect_reads(void)
     expect_all(0);
 }
 
-void expect_around(uint32_t node, unsigned so_often)
-{
-    unsigned often[13] = {0}; /* of its neighbours, and then its own */
-    for (; at < noted && !notes[at].is_write && in_half(); at++) {
-        uint32_t other =
-            (uint32_t)notes[at].place - (uint32_t)HCUBE_HALF(n, job);
-        uint32_t i = 0;
-        while (i < n && other != (node ^ 1u << i))
-            i++;
-        if ((i == n && other != node) || ++often[i] > so_often)
-            return;
-    }
-}
-
 void expect_half(void)
 {
     while (at < noted && in_half())

@@ -22,9 +22,6 @@ void expect_neighbours(uint32_t node, uint32_t so_many, const char *what);
 /* The next are writes, or reads, alone, as many as there are. */
 void expect_writes(void);
 void expect_reads(void);
-/* The next are reads of the labels of this node and its neighbours alone, in
- * any order, each at most so many times. */
-void expect_around(uint32_t node, unsigned so_often);
 /* The next are reads and writes of the job's half, as many as there are. */
 void expect_half(void);
 /* The next go once through the job's half, in whatever steps: reads and writes

@@ -32,36 +32,51 @@ static uint32_t any_node(void)
     return random_below(HCUBE_NODES(n));
 }
 
-static void watch_hop(uint32_t c, uint32_t d)
+/* A hop, and why it is taken. */
+typedef uint32_t decides(uint32_t n, uint32_t job, uint32_t c, uint32_t d,
+                         const uint8_t *labels, size_t labels_len);
+
+static void watch_hop(decides *question, uint32_t c, uint32_t d)
 {
     uint8_t *labels = watched_buffer(HCUBE_NODES(n));
     watch_begin();
-    hcube_hop(n, job, c, d, labels, HCUBE_LABEL_BYTES(n));
+    question(n, job, c, d, labels, HCUBE_LABEL_BYTES(n));
     watch_end();
     expect_from_start(n, job);
 }
 
 /* A hop at c: its own label, then each neighbour's, and no more. Where one label
  * of the half is none, reads of the half alone. */
-void check_hops(void)
+static void check_decisions(decides *question, const char *what)
 {
     unsigned cases = 0;
     put_halves(0);
     *wrong = 0;
     for (; cases < HOPS && !*wrong; cases++) {
         uint32_t c = any_node();
-        watch_hop(c, any_node());
+        watch_hop(question, c, any_node());
         expect_access(0, c, "a hop's own label");
         expect_neighbours(c, n, "a hop's neighbours");
         expect_end();
     }
     for (; cases < 2 * HOPS && !*wrong; cases++) {
         put_halves(1);
-        watch_hop(any_node(), any_node());
+        watch_hop(question, any_node(), any_node());
         expect_reads();
         expect_end();
     }
-    result("hops", cases);
+    result(what, cases);
+}
+
+void check_hops(void)
+{
+    check_decisions(hcube_hop, "hops");
+}
+
+/* Why a hop is taken is told by the labels that the hop reads. */
+void check_why_hops(void)
+{
+    check_decisions(hcube_why_hop, "why hops");
 }
 
 /* Why a node has its label: the job's half alone is read and written. One table
@@ -90,28 +105,6 @@ void check_why_labels(void)
                      (unsigned)noted);
     }
     result("why labels", cases);
-}
-
-/* Why a hop is taken at c: its own label and each neighbour's, no other, and
- * none more than twice, since it is looked at for the hop and for its scan. */
-void check_why_hops(void)
-{
-    unsigned cases = 0;
-    uint8_t *labels = watched_buffer(HCUBE_NODES(n));
-    *wrong = 0;
-    for (; cases < HOPS && !*wrong; cases++) {
-        uint32_t c = any_node(), d = any_node();
-        put_halves(cases % 8 == 7);
-        watch_begin();
-        hcube_why_hop(n, job, c, d, labels, HCUBE_LABEL_BYTES(n));
-        watch_end();
-        expect_from_start(n, job);
-        expect_around(c, 2);
-        expect_end();
-        if (noted == 0)
-            snprintf(wrong, sizeof wrong, "a reason that reads nothing");
-    }
-    result("why hops", cases);
 }
 
 /* A walk: reads, all of them in the job's half. Fewer walks in large cubes, since
