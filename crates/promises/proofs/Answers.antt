@@ -99,13 +99,13 @@ module _ (K : Cabinet) (j : ℕ) (before : List ℕ) where
     abbrev left : List ℕ
     left = labelsLeft K j x before
 
-    explains : May why.why-node (K .n, K .rule, j, x, K .faults, K .draining, K .closed, before) because left
-    explains =
+    why-nodes : May why.why-node (K .n, K .rule, j, x, K .faults, K .draining, K .closed, before) because left
+    why-nodes =
         may why.why-node four (K .n, (K .rule, (j, (x, (lend (K .faults), (lend (K .draining), (lend (K .closed), (lend before, tt)))))))) because
         (K .n, (K .rule, (j, (x, (lend (K .faults), (lend (K .draining), (lend (K .closed), (lend left, tt)))))))) (refl, refl)
 
-    c-explains : May hcube.why-node (K .n, K .rule, j, x, K .faults, K .draining, K .closed, before) (nodeReasonNumber because) left
-    c-explains =
+    c-why-nodes : May hcube.why-node (K .n, K .rule, j, x, K .faults, K .draining, K .closed, before) (nodeReasonNumber because) left
+    c-why-nodes =
         may hcube.why-node four (K .n, (K .rule, (j, (x, (lend (K .faults), (lend (K .draining), (lend (K .closed), (lend before, tt))))))))
         (nodeReasonNumber because)
         (K .n, (K .rule, (j, (x, (lend (K .faults), (lend (K .draining), (lend (K .closed), (lend left, tt)))))))) (refl, refl)
@@ -114,11 +114,11 @@ module _ (n j a b : ℕ) (l : List ℕ) where
   abbrev taken : HopReason
   taken = hopReason n j a b (length l) (labelFor n j l)
 
-  reasons : May why.why-hop (n, j, a, b, l) taken tt
-  reasons = may why.why-hop one (n, (j, (a, (b, (lend l, tt))))) taken (n, (j, (a, (b, (lend l, tt))))) refl
+  why-hops : May why.why-hop (n, j, a, b, l) taken tt
+  why-hops = may why.why-hop one (n, (j, (a, (b, (lend l, tt))))) taken (n, (j, (a, (b, (lend l, tt))))) refl
 
-  c-reasons : May hcube.why-hop (n, j, a, b, l) (hopReasonNumber taken) tt
-  c-reasons = may hcube.why-hop one (n, (j, (a, (b, (lend l, tt))))) (hopReasonNumber taken) (n, (j, (a, (b, (lend l, tt))))) refl
+  c-why-hops : May hcube.why-hop (n, j, a, b, l) (hopReasonNumber taken) tt
+  c-why-hops = may hcube.why-hop one (n, (j, (a, (b, (lend l, tt))))) (hopReasonNumber taken) (n, (j, (a, (b, (lend l, tt))))) refl
 
   abbrev decided : Hopped
   decided = hopped n j a b (length l) (labelFor n j l)
@@ -148,8 +148,8 @@ rattle-answers =
       sizes = λ bytes. (_, _, (dimensionAt bytes, sizes bytes, record { refusal = refl; value = refl }));
       labels = λ K j before. (_, _, labels K j before);
       hops = λ n j a b l. (_, hops n j a b l);
-      explains = λ K j x before. (_, _, explains K j before x);
-      reasons = λ n j a b l. (_, reasons n j a b l);
+      why-nodes = λ K j x before. (_, _, why-nodes K j before x);
+      why-hops = λ n j a b l. (_, why-hops n j a b l);
       walks = λ n j a b l room. (_, inl (walks n j a b l room));
     }
 
@@ -160,7 +160,7 @@ c-answers =
       sizes = λ bytes. (_, _, (_, c-sizes bytes, refl, refl));
       labels = λ K j before. (_, _, (_, c-labels K j before, refl));
       hops = λ n j a b l. (_, (_, c-hops n j a b l, refl));
-      explains = λ K j x before. (_, _, (_, c-explains K j before x, refl));
-      reasons = λ n j a b l. (_, (_, c-reasons n j a b l, refl));
+      why-nodes = λ K j x before. (_, _, (_, c-why-nodes K j before x, refl));
+      why-hops = λ n j a b l. (_, (_, c-why-hops n j a b l, refl));
       walks = λ n j a b l room. (_, (_, replicate room 0, _, c-walks n j a b l (replicate room 0), length-replicate room 0, refl));
     }

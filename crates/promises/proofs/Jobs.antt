@@ -151,8 +151,8 @@ module _ (lib : Library) (F : Faithful lib) (A : Answers lib) (D : Demands lib) 
   unmoved-by : {K : Cabinet} {i j : ℕ} {l l′ : List ℕ} {x : Labelled} → j < 2 → i ≢ j → lib .labels K i l x l′ → SameTo (K .n) j l l′
   unmoved-by {K} {i} {j} {l} h d m = rw (F .labels m .1) (other-same K i j h (λ q. d (sym q)) l)
 
-  unmoved-why : {K : Cabinet} {i j x : ℕ} {l l′ : List ℕ} {a : NodeReason} → j < 2 → i ≢ j → lib .explains K i x l a l′ → SameTo (K .n) j l l′
-  unmoved-why {K} {i} {j} {x} {l} h d m = rw (F .explains m .1) (left-other K i x j h (λ q. d (sym q)) l)
+  unmoved-why : {K : Cabinet} {i j x : ℕ} {l l′ : List ℕ} {a : NodeReason} → j < 2 → i ≢ j → lib .why-nodes K i x l a l′ → SameTo (K .n) j l l′
+  unmoved-why {K} {i} {j} {x} {l} h d m = rw (F .why-nodes m .1) (left-other K i x j h (λ q. d (sym q)) l)
 
   unmoved : {n j : ℕ} {l l′ : List ℕ} → j < 2 → Meanwhile lib n j l l′ → SameTo n j l l′
   unmoved h nothing = record { long = refl; own = refl }
@@ -194,10 +194,10 @@ module _ (lib : Library) (F : Faithful lib) (A : Answers lib) (D : Demands lib) 
         labels-own = λ m m′ s. labels-own m m′ s;
         hop-own = λ m m′ s. hop-own m m′ s;
         why-node-own = λ {K} {j} {x} m m′ e.
-            F .explains m .0 ∙ ap (λ (k : ℕ). nodeReason K j k x) e ∙ sym (F .explains m′ .0);
-        why-labels-own = λ {K} {j} {x} {l} {l′} m m′ s. rw (F .explains m .1, F .explains m′ .1) (left-same K j x l l′ s);
+            F .why-nodes m .0 ∙ ap (λ (k : ℕ). nodeReason K j k x) e ∙ sym (F .why-nodes m′ .0);
+        why-labels-own = λ {K} {j} {x} {l} {l′} m m′ s. rw (F .why-nodes m .1, F .why-nodes m′ .1) (left-same K j x l l′ s);
         why-hop-own = λ {n} {j} {c} {d} m m′ s.
-            F .reasons m ∙ ap₂ (λ (k : ℕ) (t : List ℕ). hopReason n j c d k (labelIn t)) (s .long) (s .own) ∙ sym (F .reasons m′);
+            F .why-hops m ∙ ap₂ (λ (k : ℕ) (t : List ℕ). hopReason n j c d k (labelIn t)) (s .long) (s .own) ∙ sym (F .why-hops m′);
         walk-own = λ v v′ e. walk-own v v′ e;
         closed-as-faulty = λ en er ed same m m′. closed-as-faulty en er ed same m m′;
         other-labelled = λ job d m. unmoved-by (job-below job) d m;
@@ -212,10 +212,10 @@ module _ (lib : Library) (F : Faithful lib) (A : Answers lib) (D : Demands lib) 
             F .hops m ∙ hop-alike (job-below hi) (job-below hj) n c d (length l) (labelFor n i l)
             ∙ ap₂ (λ (k : ℕ) (t : List ℕ). hopped n j c d k (labelIn t)) e o ∙ sym (F .hops m′);
         why-node-alike = λ {K} {i} {j} {x} {l} hi hj m m′ e.
-            F .explains m .0 ∙ why-node-alike (job-below hi) (job-below hj) K (length l) x ∙ ap (λ (k : ℕ). nodeReason K j k x) e ∙ sym (F .explains m′ .0);
+            F .why-nodes m .0 ∙ why-node-alike (job-below hi) (job-below hj) K (length l) x ∙ ap (λ (k : ℕ). nodeReason K j k x) e ∙ sym (F .why-nodes m′ .0);
         why-hop-alike = λ {n} {i} {j} {c} {d} {l} {l′} hi hj m m′ e o.
-            F .reasons m ∙ why-hop-alike (job-below hi) (job-below hj) n c d (length l) (labelFor n i l)
-            ∙ ap₂ (λ (k : ℕ) (t : List ℕ). hopReason n j c d k (labelIn t)) e o ∙ sym (F .reasons m′);
+            F .why-hops m ∙ why-hop-alike (job-below hi) (job-below hj) n c d (length l) (labelFor n i l)
+            ∙ ap₂ (λ (k : ℕ) (t : List ℕ). hopReason n j c d k (labelIn t)) e o ∙ sym (F .why-hops m′);
         walk-alike = λ {n} {i} {j} {s} {d} {room} {l} {l′} hi hj v v′ e o.
             F .walks v ∙ walk-alike (job-below hi) (job-below hj) n s d (length l) room (labelFor n i l)
             ∙ ap₂ (λ (k : ℕ) (t : List ℕ). walked n j s d k room (labelIn t)) e o ∙ sym (F .walks v′);

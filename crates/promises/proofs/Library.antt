@@ -39,11 +39,11 @@ pub record Faithful (lib : Library) : Type 0 where
       {K : Cabinet} {j : ℕ} {before after : List ℕ} {x : Labelled} → lib .labels K j before x after
       → (x ≡ labelled K j (length before)) × (after ≡ labelsAfter K j before)
   pub hops : {n j c d : ℕ} {buffer : List ℕ} {x : Hopped} → lib .hops n j c d buffer x → x ≡ hopped n j c d (length buffer) (labelFor n j buffer)
-  pub explains :
-      {K : Cabinet} {j x : ℕ} {before after : List ℕ} {a : NodeReason} → lib .explains K j x before a after
+  pub why-nodes :
+      {K : Cabinet} {j x : ℕ} {before after : List ℕ} {a : NodeReason} → lib .why-nodes K j x before a after
       → (a ≡ nodeReason K j (length before) x) × (after ≡ labelsLeft K j x before)
-  pub reasons :
-      {n j c d : ℕ} {buffer : List ℕ} {a : HopReason} → lib .reasons n j c d buffer a → a ≡ hopReason n j c d (length buffer) (labelFor n j buffer)
+  pub why-hops :
+      {n j c d : ℕ} {buffer : List ℕ} {a : HopReason} → lib .why-hops n j c d buffer a → a ≡ hopReason n j c d (length buffer) (labelFor n j buffer)
   pub walks :
       {n j s d room : ℕ} {buffer : List ℕ} {w : Walked} → lib .walks n j s d buffer room w → w ≡ walked n j s d (length buffer) room (labelFor n j buffer)
 
@@ -54,8 +54,8 @@ rattle-faithful =
       sizes = λ {bytes} {k} {v} m. subst (λ (x : Number). Told x k v) (told notice.dimension-says (m .1) .0) (m .2);
       labels = told labels.label-says;
       hops = λ m. told hop.hop-says m .0;
-      explains = told why.why-node-says;
-      reasons = λ m. told why.why-hop-says m .0;
+      why-nodes = told why.why-node-says;
+      why-hops = λ m. told why.why-hop-says m .0;
       walks = λ {n} {j} {s} {d} {room} {buffer} {w}.
           ⊎-elim (λ (m : May walk.walk-for (n, j, s, d, buffer, room) w tt). told walk.walk-for-says m .0)
           (λ (m : May walk.walk (n, j, s, d, buffer) w tt × (room ≡ rowBytes)). told walk.walk-says (m .0) .0
@@ -75,9 +75,9 @@ c-faithful =
           (sym (m .2) ∙ ap labelledFrom (t .0) ∙ decodes .label K j (length before), t .1);
       hops = λ {n} {j} {c} {d} {buffer} m. let t = told hcube.hop-says (m .1) in
           sym (m .2) ∙ ap hoppedFrom (t .0) ∙ decodes .hop n j c d (length buffer) (labelFor n j buffer);
-      explains = λ {K} {j} {x} {before} m. let t = told hcube.why-node-says (m .1) in
+      why-nodes = λ {K} {j} {x} {before} m. let t = told hcube.why-node-says (m .1) in
           (sym (m .2) ∙ ap (nodeReasonFrom (K .rule)) (t .0) ∙ decodes .why-node K j (length before) x, t .1);
-      reasons = λ {n} {j} {c} {d} {buffer} m. let t = told hcube.why-hop-says (m .1) in
+      why-hops = λ {n} {j} {c} {d} {buffer} m. let t = told hcube.why-hop-says (m .1) in
           sym (m .2) ∙ ap hopReasonFrom (t .0) ∙ decodes .why-hop n j c d (length buffer) (labelFor n j buffer);
       walks = λ {n} {j} {s} {d} {room} {buffer} m. let t = told hcube.walk-says (m .3) in
           sym (m .5) ∙ ap₂ walkedFrom (t .0) (t .1) ∙ decodes .walk n j s d buffer (m .1)

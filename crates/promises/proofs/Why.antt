@@ -107,9 +107,9 @@ module _ (K : Cabinet) (j m x : ℕ) where
 -- ---- of a library
 
 module _ (lib : Library) (F : Faithful lib) where
-  module _ {K : Cabinet} {j x : ℕ} {before after : List ℕ} {a : NodeReason} (m : lib .explains K j x before a after) where
+  module _ {K : Cabinet} {j x : ℕ} {before after : List ℕ} {a : NodeReason} (m : lib .why-nodes K j x before a after) where
     is-answer : a ≡ Y.nodeReason K j (length before) x
-    is-answer = F .explains m .0
+    is-answer = F .why-nodes m .0
 
     -- one that is not refused is the reason, and labelling accepts
     good : Y.refusalOf a ≡ 0 → (labelRefusal K j (length before) ≡ 0) × (x < 2 ^ K .n)
@@ -119,7 +119,7 @@ module _ (lib : Library) (F : Faithful lib) where
     is-reason e = is-answer ∙ answered K j (length before) x (none K j (length before) x (ap Y.refusalOf (sym is-answer) ∙ e))
 
     is-left : Y.refusalOf a ≡ 0 → after ≡ labelsAfter K j before
-    is-left e = F .explains m .1 ∙ left K j x before (none K j (length before) x (ap Y.refusalOf (sym is-answer) ∙ e))
+    is-left e = F .why-nodes m .1 ∙ left K j x before (none K j (length before) x (ap Y.refusalOf (sym is-answer) ∙ e))
 
     node : Y.refusalOf a ≡ 0 → NodeExplained K (labelFor (K .n) j after) x a
     node e =
@@ -129,12 +129,12 @@ module _ (lib : Library) (F : Faithful lib) where
         rw (bytes, is-reason e) (why-laws .node K (r .0) (r .1) x (g .1))
 
   -- whoever asks about a node of the cube, with buffers of that length, is answered its reason
-  reason-again : {K : Cabinet} {j y m : ℕ} {before after : List ℕ} {b : NodeReason} → lib .explains K j y before b after → length before ≡ m
+  reason-again : {K : Cabinet} {j y m : ℕ} {before after : List ℕ} {b : NodeReason} → lib .why-nodes K j y before b after → length before ≡ m
       → labelRefusal K j m ≡ 0 → y < 2 ^ K .n → b ≡ Y.reasonOf K y
   reason-again {K} {j} {y} {m} {before} v e z h =
-      F .explains v .0 ∙ answered K j (length before) y (sym (refuses-none K j (length before) y (ap (labelRefusal K j) e ∙ z) h))
+      F .why-nodes v .0 ∙ answered K j (length before) y (sym (refuses-none K j (length before) y (ap (labelRefusal K j) e ∙ z) h))
 
-  module _ {K : Cabinet} {j x l r : ℕ} {c : Cause} {before after : List ℕ} (m : lib .explains K j x before (Unsafe l r c) after) where
+  module _ {K : Cabinet} {j x l r : ℕ} {c : Cause} {before after : List ℕ} (m : lib .why-nodes K j x before (Unsafe l r c) after) where
     unsafe : Marked (K .n) (K .rule) (out K) x × (roundOf (K .n) (K .rule) (out K) x ≡ r) × (causeOf (K .n) (K .rule) (out K) x ≡ c)
     unsafe = of-unsafe K x l r c (sym (is-reason m refl))
 
@@ -144,7 +144,7 @@ module _ (lib : Library) (F : Faithful lib) where
         let k = fitting K j (length before) (g .0) .rule in
         omega (arith, unsafe .1, cause-laws (K .n) (K .rule) (out K) (k .0) (k .1) .round x (unsafe .0) .one)
 
-    named : {before′ after′ : List ℕ} {b : NodeReason} (i : ℕ) → Names c i → length before ≡ length before′ → lib .explains K j (flip i x) before′ b after′
+    named : {before′ after′ : List ℕ} {b : NodeReason} (i : ℕ) → Names c i → length before ≡ length before′ → lib .why-nodes K j (flip i x) before′ b after′
         → Earlier r b
     named {before′} {after′} {b} i t e v =
         let g = good m refl in
@@ -163,18 +163,18 @@ module _ (lib : Library) (F : Faithful lib) where
   Comes r a = (t : ℕ) × (t ≤ r) × ((l : ℕ) × (a t ≡ Out l)) × ((s : ℕ) → s < t → (l r : ℕ) × (c : Cause) × (a s ≡ Unsafe l r c))
 
   comes-down : (most : ℕ) (K : Cabinet) (j l r m : ℕ) (c : Cause) (at : ℕ → ℕ) (a : ℕ → NodeReason) (before after : ℕ → List ℕ)
-      → ((t : ℕ) → lib .explains K j (at t) (before t) (a t) (after t)) → ((t : ℕ) → length (before t) ≡ m)
+      → ((t : ℕ) → lib .why-nodes K j (at t) (before t) (a t) (after t)) → ((t : ℕ) → length (before t) ≡ m)
       → a 0 ≡ Unsafe l r c → ((t : ℕ) → Followed (a t) (at t) (at (suc t))) → r ≤ most → Comes r a
   comes-down zero K j l r m c at a before after asked long e follow h =
-      absurd (omega (arith, one-at-least (subst (λ (b : NodeReason). lib .explains K j (at 0) (before 0) b (after 0)) e (asked 0))))
+      absurd (omega (arith, one-at-least (subst (λ (b : NodeReason). lib .why-nodes K j (at 0) (before 0) b (after 0)) e (asked 0))))
   comes-down (suc most) K j l r m c at a before after asked long e follow h =
       step
       (λ l′ r′ c′ q o. comes-down most K j l′ r′ m c′ (λ t. at (suc t)) (λ t. a (suc t)) (λ t. before (suc t)) (λ t. after (suc t)) (λ t. asked (suc t))
       (λ t. long (suc t)) q (λ t. follow (suc t)) o)
       (a 1) refl earlier
     where
-      first : lib .explains K j (at 0) (before 0) (Unsafe l r c) (after 0)
-      first = subst (λ (b : NodeReason). lib .explains K j (at 0) (before 0) b (after 0)) e (asked 0)
+      first : lib .why-nodes K j (at 0) (before 0) (Unsafe l r c) (after 0)
+      first = subst (λ (b : NodeReason). lib .why-nodes K j (at 0) (before 0) b (after 0)) e (asked 0)
 
       way : (i : ℕ) × Names c i × (at 1 ≡ flip i (at 0))
       way = follow 0 l r c e
@@ -182,7 +182,7 @@ module _ (lib : Library) (F : Faithful lib) where
       earlier : Earlier r (a 1)
       earlier =
           named first (way .0) (way .1) (long 0 ∙ sym (long 1))
-          (subst (λ (y : ℕ). lib .explains K j y (before 1) (a 1) (after 1)) (way .2) (asked 1))
+          (subst (λ (y : ℕ). lib .why-nodes K j y (before 1) (a 1) (after 1)) (way .2) (asked 1))
 
       before-it : (t s : ℕ) → ((s : ℕ) → s < t → (l r : ℕ) × (c : Cause) × (a (suc s) ≡ Unsafe l r c)) → s < suc t
           → (l r : ℕ) × (c : Cause) × (a s ≡ Unsafe l r c)
@@ -198,10 +198,10 @@ module _ (lib : Library) (F : Faithful lib) where
 
   -- ---- a hop
 
-  hop : {n j c d : ℕ} {buffer : List ℕ} {a : HopReason} → lib .reasons n j c d buffer a → X.refusalOf a ≡ 0 → HopExplained n (labelFor n j buffer) c d a
+  hop : {n j c d : ℕ} {buffer : List ℕ} {a : HopReason} → lib .why-hops n j c d buffer a → X.refusalOf a ≡ 0 → HopExplained n (labelFor n j buffer) c d a
   unfolding X.hopReason
   hop {n} {j} {c} {d} {buffer} m e =
-      let is = F .reasons m in
+      let is = F .why-hops m in
       let z : hopRefusal n j c d (length buffer) (labelFor n j buffer) ≡ 0 =
       reason-refusal n j c d (length buffer) (labelFor n j buffer) ∙ ap X.refusalOf (sym is) ∙ e in
       rw (is, z) (why-laws .hop n (labelFor n j buffer) c d)
@@ -209,24 +209,24 @@ module _ (lib : Library) (F : Faithful lib) where
   whys : Whys lib
   whys =
       record {
-        node-refusal = λ {K} {j} {x} {before} m. rw (F .explains m .0) (refusals .why-node K j (length before) x);
+        node-refusal = λ {K} {j} {x} {before} m. rw (F .why-nodes m .0) (refusals .why-node K j (length before) x);
         labels-kept = λ {K} {j} {x} {k} {before} m.
-            F .explains m .1 ∙ left-kept K j x before (of-refused-node K j (length before) x k (sym (F .explains m .0)));
+            F .why-nodes m .1 ∙ left-kept K j x before (of-refused-node K j (length before) x k (sym (F .why-nodes m .0)));
         labels-left = λ m e v. is-left m e ∙ sym (F .labels v .1);
         refused-alike = λ {K} {j} {x} {k} {before} m v.
             let r = of-refused K j (length before) k (sym (F .labels v .0)) in
-            F .explains m .0 ∙ refused K j (length before) x k (sym (refuses-first K j (length before) x k (r .0) (r .1))) (r .1);
+            F .why-nodes m .0 ∙ refused K j (length before) x k (sym (refuses-first K j (length before) x k (r .0) (r .1))) (r .1);
         node = λ m e. node m e;
         named = λ m. named m;
         down = λ {K} {j} {l} {r} {m} {c} at a before after asked long e follow.
             comes-down r K j l r m c at a before after asked long e follow (omega arith);
-        hop-refusal = λ {n} {j} {c} {d} {buffer} m. rw (F .reasons m) (refusals .why-hop n j c d (length buffer) (labelFor n j buffer));
+        hop-refusal = λ {n} {j} {c} {d} {buffer} m. rw (F .why-hops m) (refusals .why-hop n j c d (length buffer) (labelFor n j buffer));
         same-hop = λ {n} {j} {c} {d} {buffer} m v.
-            ap X.withoutScan (F .reasons m) ∙ why-laws .same-hop n j c d (length buffer) (labelFor n j buffer) ∙ sym (F .hops v);
+            ap X.withoutScan (F .why-hops m) ∙ why-laws .same-hop n j c d (length buffer) (labelFor n j buffer) ∙ sym (F .hops v);
         hop = hop;
         hop-local = λ {n} {j} {c} {d} {buffer} {buffer′} m v e own near.
-            F .reasons m ∙ reason-same n j c d (length buffer) (labelFor n j buffer) (labelFor n j buffer′) own near
-            ∙ ap (λ (k : ℕ). X.hopReason n j c d k (labelFor n j buffer′)) e ∙ sym (F .reasons v);
+            F .why-hops m ∙ reason-same n j c d (length buffer) (labelFor n j buffer) (labelFor n j buffer′) own near
+            ∙ ap (λ (k : ℕ). X.hopReason n j c d k (labelFor n j buffer′)) e ∙ sym (F .why-hops v);
       }
 
 pub rattle-whys : Whys rattle

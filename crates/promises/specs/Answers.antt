@@ -15,6 +15,6 @@ pub record Answers (lib : Library) : Type 0 where
   pub sizes : (bytes : List ℕ) → (k v : ℕ) × lib .sizes bytes k v
   pub labels : (K : Cabinet) (j : ℕ) (before : List ℕ) → (x : Labelled) × (after : List ℕ) × lib .labels K j before x after
   pub hops : (n j c d : ℕ) (buffer : List ℕ) → (x : Hopped) × lib .hops n j c d buffer x
-  pub explains : (K : Cabinet) (j x : ℕ) (before : List ℕ) → (a : NodeReason) × (after : List ℕ) × lib .explains K j x before a after
-  pub reasons : (n j c d : ℕ) (buffer : List ℕ) → (a : HopReason) × lib .reasons n j c d buffer a
+  pub why-nodes : (K : Cabinet) (j x : ℕ) (before : List ℕ) → (a : NodeReason) × (after : List ℕ) × lib .why-nodes K j x before a after
+  pub why-hops : (n j c d : ℕ) (buffer : List ℕ) → (a : HopReason) × lib .why-hops n j c d buffer a
   pub walks : (n j s d : ℕ) (buffer : List ℕ) (room : ℕ) → (w : Walked) × lib .walks n j s d buffer room w

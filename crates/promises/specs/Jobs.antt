@@ -36,7 +36,7 @@ pub data Meanwhile (lib : Library) (n j : ℕ) : (l l′ : List ℕ) → Type 0 
       → Meanwhile lib n j l l′
   -- or were told why a node has its label, which labels them too
   another-why :
-      {l l₁ l′ : List ℕ} {i x : ℕ} {K : Cabinet} {a : NodeReason} → i ≢ j → K .n ≡ n → lib .explains K i x l a l₁ → Meanwhile lib n j l₁ l′
+      {l l₁ l′ : List ℕ} {i x : ℕ} {K : Cabinet} {a : NodeReason} → i ≢ j → K .n ≡ n → lib .why-nodes K i x l a l₁ → Meanwhile lib n j l₁ l′
       → Meanwhile lib n j l l′
 
 pub record Jobs (lib : Library) : Type 0 where
@@ -56,13 +56,13 @@ pub record Jobs (lib : Library) : Type 0 where
       {n j s d room : ℕ} {l l′ : List ℕ} {w w′ : Walked} → lib .walks n j s d l room w → lib .walks n j s d l′ room w′ → SameTo n j l l′ → w ≡ w′
   -- and so do the questions that say why
   pub why-node-own :
-      {K : Cabinet} {j x : ℕ} {l l′ after after′ : List ℕ} {a a′ : NodeReason} → lib .explains K j x l a after → lib .explains K j x l′ a′ after′
+      {K : Cabinet} {j x : ℕ} {l l′ after after′ : List ℕ} {a a′ : NodeReason} → lib .why-nodes K j x l a after → lib .why-nodes K j x l′ a′ after′
       → length l ≡ length l′ → a ≡ a′
   pub why-labels-own :
-      {K : Cabinet} {j x : ℕ} {l l′ after after′ : List ℕ} {a a′ : NodeReason} → lib .explains K j x l a after → lib .explains K j x l′ a′ after′
+      {K : Cabinet} {j x : ℕ} {l l′ after after′ : List ℕ} {a a′ : NodeReason} → lib .why-nodes K j x l a after → lib .why-nodes K j x l′ a′ after′
       → SameTo (K .n) j l l′ → SameTo (K .n) j after after′
   pub why-hop-own :
-      {n j c d : ℕ} {l l′ : List ℕ} {a a′ : HopReason} → lib .reasons n j c d l a → lib .reasons n j c d l′ a′ → SameTo n j l l′ → a ≡ a′
+      {n j c d : ℕ} {l l′ : List ℕ} {a a′ : HopReason} → lib .why-hops n j c d l a → lib .why-hops n j c d l′ a′ → SameTo n j l l′ → a ≡ a′
   -- "closed counts as faulty": in which of the two tables a node stands makes no difference. So a job has the labels and the count of a cabinet of its own in
   -- which the nodes that it closes are in the fault table
   pub closed-as-faulty :
@@ -76,7 +76,7 @@ pub record Jobs (lib : Library) : Type 0 where
   pub other-labelled :
       {K : Cabinet} {i j : ℕ} {l after : List ℕ} {x : Labelled} → Job j → i ≢ j → lib .labels K i l x after → SameTo (K .n) j l after
   pub other-explained :
-      {K : Cabinet} {i j x : ℕ} {l after : List ℕ} {a : NodeReason} → Job j → i ≢ j → lib .explains K i x l a after → SameTo (K .n) j l after
+      {K : Cabinet} {i j x : ℕ} {l after : List ℕ} {a : NodeReason} → Job j → i ≢ j → lib .why-nodes K i x l a after → SameTo (K .n) j l after
   -- and however often it was labelled meanwhile,
   pub unmoved : {n j : ℕ} {l l′ : List ℕ} → Job j → Meanwhile lib n j l l′ → SameTo n j l l′
   -- and the walks that its labelling promised arrive as promised
@@ -103,10 +103,10 @@ pub record Jobs (lib : Library) : Type 0 where
       {n i j c d : ℕ} {l l′ : List ℕ} {x x′ : Hopped} → Job i → Job j → lib .hops n i c d l x → lib .hops n j c d l′ x′ → length l ≡ length l′
       → half i (2 ^ n) l ≡ half j (2 ^ n) l′ → x ≡ x′
   pub why-node-alike :
-      {K : Cabinet} {i j x : ℕ} {l l′ after after′ : List ℕ} {a a′ : NodeReason} → Job i → Job j → lib .explains K i x l a after
-      → lib .explains K j x l′ a′ after′ → length l ≡ length l′ → a ≡ a′
+      {K : Cabinet} {i j x : ℕ} {l l′ after after′ : List ℕ} {a a′ : NodeReason} → Job i → Job j → lib .why-nodes K i x l a after
+      → lib .why-nodes K j x l′ a′ after′ → length l ≡ length l′ → a ≡ a′
   pub why-hop-alike :
-      {n i j c d : ℕ} {l l′ : List ℕ} {a a′ : HopReason} → Job i → Job j → lib .reasons n i c d l a → lib .reasons n j c d l′ a′ → length l ≡ length l′
+      {n i j c d : ℕ} {l l′ : List ℕ} {a a′ : HopReason} → Job i → Job j → lib .why-hops n i c d l a → lib .why-hops n j c d l′ a′ → length l ≡ length l′
       → half i (2 ^ n) l ≡ half j (2 ^ n) l′ → a ≡ a′
   pub walk-alike :
       {n i j s d room : ℕ} {l l′ : List ℕ} {w w′ : Walked} → Job i → Job j → lib .walks n i s d l room w → lib .walks n j s d l′ room w′

@@ -35,9 +35,9 @@ pub record Library : Type 1 where
   -- a hop is decided at c for d, by the labels that job j has in a buffer
   pub hops : (n j c d : ℕ) (buffer : List ℕ) (x : Hopped) → Type 0
   -- it is told why node x has its label, for job j, with what labelling is lent
-  pub explains : (K : Cabinet) (j x : ℕ) (before : List ℕ) (a : NodeReason) (after : List ℕ) → Type 0
+  pub why-nodes : (K : Cabinet) (j x : ℕ) (before : List ℕ) (a : NodeReason) (after : List ℕ) → Type 0
   -- it is told why the hop at c for d is taken, by the labels that job j has in a buffer
-  pub reasons : (n j c d : ℕ) (buffer : List ℕ) (a : HopReason) → Type 0
+  pub why-hops : (n j c d : ℕ) (buffer : List ℕ) (a : HopReason) → Type 0
   -- a walk goes from s to d, by these labels, for a caller who lends a row of `room` bytes
   pub walks : (n j s d : ℕ) (buffer : List ℕ) (room : ℕ) (w : Walked) → Type 0
 
@@ -48,8 +48,8 @@ rattle =
       sizes = λ bytes k v. (x : Number) × May notice.dimension bytes x tt × Told x k v;
       labels = λ K j before x after. May labels.label (K .n, K .rule, j, K .faults, K .draining, K .closed, before) x after;
       hops = λ n j c d buffer x. May hop.hop (n, j, c, d, buffer) x tt;
-      explains = λ K j x before a after. May why.why-node (K .n, K .rule, j, x, K .faults, K .draining, K .closed, before) a after;
-      reasons = λ n j c d buffer a. May why.why-hop (n, j, c, d, buffer) a tt;
+      why-nodes = λ K j x before a after. May why.why-node (K .n, K .rule, j, x, K .faults, K .draining, K .closed, before) a after;
+      why-hops = λ n j c d buffer a. May why.why-hop (n, j, c, d, buffer) a tt;
       walks = λ n j s d buffer room w.
           May walk.walk-for (n, j, s, d, buffer, room) w tt ⊎ (May walk.walk (n, j, s, d, buffer) w tt × (room ≡ rowBytes));
     }
@@ -62,9 +62,9 @@ c =
       labels = λ K j before x after.
           (r : ℕ) × May hcube.label (K .n, K .rule, j, K .faults, K .draining, K .closed, before) r after × (labelledFrom r ≡ x);
       hops = λ n j c d buffer x. (r : ℕ) × May hcube.hop (n, j, c, d, buffer) r tt × (hoppedFrom r ≡ x);
-      explains = λ K j x before a after.
+      why-nodes = λ K j x before a after.
           (r : ℕ) × May hcube.why-node (K .n, K .rule, j, x, K .faults, K .draining, K .closed, before) r after × (nodeReasonFrom (K .rule) r ≡ a);
-      reasons = λ n j c d buffer a. (r : ℕ) × May hcube.why-hop (n, j, c, d, buffer) r tt × (hopReasonFrom r ≡ a);
+      why-hops = λ n j c d buffer a. (r : ℕ) × May hcube.why-hop (n, j, c, d, buffer) r tt × (hopReasonFrom r ≡ a);
       walks = λ n j s d buffer room w.
           (r : ℕ) × (before after : List ℕ) × May hcube.walk (n, j, s, d, buffer, before) r after × (length before ≡ room) × (walkedFrom r after ≡ w);
     }
