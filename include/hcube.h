@@ -4,8 +4,8 @@
  *
  * The rules in whole stand in docs/RULES.md of the source repository: Labels for
  * hcube_label, One hop for hcube_hop, Walk for hcube_walk, Why for the questions
- * that say why, Tables and the notice for the functions that read a notice,
- * Refusal numbers for all refusals, To C for the answers.
+ * that say why, Tables and the notice for the functions that read and write a
+ * notice, Refusal numbers for all refusals, To C for the answers.
  *
  * A cube of dimension n, 1 to 12, has the nodes 0 to 2^n - 1. Nodes whose
  * numbers differ in bit i alone are neighbours across dimension i.
@@ -75,7 +75,7 @@ extern "C" {
 /* The version of this interface. Whatever a program that was right with an
  * earlier one would notice raises MAJOR, what is new MINOR, all else PATCH. */
 #define HCUBE_VERSION_MAJOR 1
-#define HCUBE_VERSION_MINOR 1
+#define HCUBE_VERSION_MINOR 2
 #define HCUBE_VERSION_PATCH 0
 #define HCUBE_VERSION                                                          \
     (HCUBE_VERSION_MAJOR * 10000 + HCUBE_VERSION_MINOR * 100 +                 \
@@ -86,6 +86,7 @@ extern "C" {
 #define HCUBE_NODES_MAX 4096
 #define HCUBE_LABEL_BYTES_MAX 8192
 #define HCUBE_FAULT_BYTES_MAX 512
+#define HCUBE_NOTICE_BYTES_MAX 4099 /* the longest notice */
 
 /* Sizes in bytes: of one job's labels, a label buffer with both jobs' halves, a
  * fault, draining or closed table, a walk's row. Test n first, or take it from
@@ -136,6 +137,8 @@ extern "C" {
 #define HCUBE_BAD_GROUP 10       /* second group zero or with its high bit */
 #define HCUBE_BAD_COUNT 11       /* count above 2^n */
 #define HCUBE_BAD_ADDRESS 12     /* an address is 2^n or more */
+#define HCUBE_NO_ROOM 13         /* a lent buffer is too short for what is to be
+                                  * written */
 #define HCUBE_BAD_RULE 18        /* the rule's number is not 2 or 3 */
 #define HCUBE_BAD_JOB 19         /* the job's number is not 0 or 1 */
 
@@ -184,6 +187,8 @@ HCUBE_INLINE const char *hcube_refusal_text(uint32_t number)
         return "the count is above 2^n";
     case HCUBE_BAD_ADDRESS:
         return "an address is 2^n or more";
+    case HCUBE_NO_ROOM:
+        return "a lent buffer is too short for what is to be written";
     case HCUBE_BAD_RULE:
         return "the rule's number is not 2 or 3";
     case HCUBE_BAD_JOB:
@@ -482,6 +487,25 @@ uint32_t hcube_notice_dimension(const uint8_t *bytes, size_t bytes_len);
  */
 uint64_t hcube_read_notice(const uint8_t *bytes, size_t bytes_len,
                            uint8_t *faults, size_t faults_len);
+
+/*
+ * Writes the notice of the fault table `faults` of an n-cube to the start of
+ * `out`: what hcube_read_notice reads. Each table has one notice, so the bytes
+ * are settled: hcube_read_notice takes as many bytes of `out` as were written,
+ * whatever stands behind them, and gives back n and the table; and what it reads
+ * from any bytes is written as the very bytes that it took.
+ *
+ * Refusals, in order:
+ *   1   n is not 1 to 12
+ *   2   faults_len is not HCUBE_FAULT_BYTES(n)
+ *   3   n is 1 or 2 and a bit for a node of 2^n or more is set in `faults`
+ *   13  the notice is longer than out_len
+ * Accepted: kind 0, value the length of the notice in bytes. It is at most
+ * 2^n + 3, so HCUBE_NOTICE_BYTES_MAX bytes have room for every notice. The bytes
+ * of `out` behind the notice keep their content.
+ */
+uint32_t hcube_write_notice(uint32_t n, const uint8_t *faults, size_t faults_len,
+                            uint8_t *out, size_t out_len);
 
 #ifdef __cplusplus
 }
