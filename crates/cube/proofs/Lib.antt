@@ -10,3 +10,4 @@ pub mod Refusal
 pub mod Laws
 pub mod Contracts
 pub mod Functions
+pub mod Over
