@@ -1,0 +1,2 @@
+pub mod Passes
+pub mod Refusal

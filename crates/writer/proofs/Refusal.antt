@@ -1,0 +1,98 @@
+-- What writing goes by: the refusals of the table come first, and then whether the notice has room. Answer and buffer follow from the number.
+use mathlib.Core.Bool.{Bool, cond}
+use mathlib.Core.List.{List, [], _∷_, _++_}
+use mathlib.Core.Logic.{_≢_}
+use mathlib.Core.Path.{_≡_, refl, sym, ap, _∙_}
+use Prim.Native.Nat.{ℕ, zero, suc, _+_, _*_, _-_, _≤_, _<_}
+use native.Mathlib.Omega.{arith}
+use lib.Dec.{eqb, ltb}
+use lib.ListN.{length, length-append}
+use borrow.Author.Tests.{eqb-true, eq-eqb, le-leb, le-ltb, lt-ltb, ltb-false, ne-eqb, not-false}
+use Rattle.cube.specs.Over.{over}
+use Rattle.cube.specs.Refusal.{first, _⇒_}
+use Rattle.cube.specs.Tables.{isDimension, tableLen}
+use Rattle.cube.proofs.Bools.{by-cases, either}
+use Rattle.cube.proofs.Refusal.{None, first-none, first-passes, first-stops}
+use Rattle.cube.proofs.Tables.{dimension-is}
+use Rattle.groups.specs.Number.{groupsOf}
+use Rattle.spelling.specs.Laws.{IsTable}
+use Rattle.spelling.specs.Spelled.{addressBytes, having, noticeBytes}
+use Rattle.writer.specs.Writing.{bufferAfter, tableTests, writeRefusal, wrote}
+use Rattle.writer.specs.declared.Wrote.the-variants.{Length, Refused}
+use Rattle.writer.proofs.Passes.{few-groups}
+
+-- ---- a table that is not refused
+
+module _ (n : ℕ) (faults : List ℕ) where
+  pub table-is : first (tableTests n faults) ≡ 0 → IsTable n faults
+  table-is e =
+      let t = first-none 3 (tableTests n faults) refl e in
+      record {
+        dimension = dimension-is n (not-false _ (t .0));
+        sized = eqb-true _ _ (not-false _ (t .1 .0));
+        unused = t .1 .1 .0;
+      }
+
+  pub is-taken : IsTable n faults → first (tableTests n faults) ≡ 0
+  unfolding first isDimension
+  is-taken t =
+      rw (le-leb 1 n (t .dimension .0), le-leb n 12 (t .dimension .1), eq-eqb (length faults) (tableLen n) (t .sized), t .unused)
+
+  -- its refusals come first,
+  pub table-first : (room : ℕ) → first (tableTests n faults) ≢ 0 → writeRefusal n faults room ≡ first (tableTests n faults)
+  unfolding writeRefusal
+  table-first room h = first-stops (tableTests n faults) (ltb room (length (noticeBytes n faults)) ⇒ 13 ∷ []) h
+
+  -- and then the room decides
+  pub room-then : (room : ℕ) → IsTable n faults → writeRefusal n faults room ≡ cond (ltb room (length (noticeBytes n faults))) 13 0
+  unfolding writeRefusal first
+  room-then room t =
+      first-passes (tableTests n faults) (ltb room (length (noticeBytes n faults)) ⇒ 13 ∷ []) (first-none 3 (tableTests n faults) refl (is-taken t))
+
+  pub no-room : (room : ℕ) → IsTable n faults → room < length (noticeBytes n faults) → writeRefusal n faults room ≡ 13
+  no-room room t h = room-then room t ∙ rw (lt-ltb room (length (noticeBytes n faults)) h)
+
+  pub has-room : (room : ℕ) → IsTable n faults → length (noticeBytes n faults) ≤ room → writeRefusal n faults room ≡ 0
+  has-room room t h = room-then room t ∙ rw (le-ltb room (length (noticeBytes n faults)) h)
+
+-- ---- answer and buffer, by the number
+
+module _ (n : ℕ) (faults out : List ℕ) where
+  module _ (k : ℕ) (e : writeRefusal n faults (length out) ≡ k) (h : k ≢ 0) where
+    pub wrote-refused : Refused k ≡ wrote n faults (length out)
+    unfolding wrote
+    wrote-refused = rw (e, ne-eqb k 0 h)
+
+    pub buffer-kept : out ≡ bufferAfter n faults out
+    unfolding bufferAfter
+    buffer-kept = rw (sym wrote-refused)
+
+  module _ (e : writeRefusal n faults (length out) ≡ 0) where
+    pub wrote-length : Length (length (noticeBytes n faults)) ≡ wrote n faults (length out)
+    unfolding wrote
+    wrote-length = rw e
+
+    pub buffer-written : over (noticeBytes n faults) out ≡ bufferAfter n faults out
+    unfolding bufferAfter
+    buffer-written = rw (sym wrote-length)
+
+-- ---- the parts of a notice are short
+
+few-having : (p : ℕ → Bool) (left k : ℕ) → length (having left k p) ≤ left
+unfolding having
+few-having p zero k = omega arith
+few-having p (suc left) k =
+    let h = few-having p left (k + 1) in
+    by-cases (λ (l : List ℕ). length l ≤ suc left) (p k) (λ e. omega (arith, h)) (λ e. omega (arith, h))
+
+few-addresses : (base : ℕ) (l : List ℕ) → length (addressBytes base l) ≤ 2 * length l
+unfolding addressBytes
+few-addresses base [] = omega arith
+few-addresses base (x ∷ l) =
+    omega (arith, few-addresses (x + 1) l, few-groups (x - base), length-append (groupsOf (x - base)) (addressBytes (x + 1) l))
+
+pub few-nodes : (p : ℕ → Bool) (size : ℕ) → length (having size 0 p) ≤ size
+few-nodes p size = few-having p size 0
+
+pub few-bytes : (p : ℕ → Bool) (size : ℕ) → length (addressBytes 0 (having size 0 p)) ≤ 2 * size
+few-bytes p size = omega (arith, few-addresses 0 (having size 0 p), few-having p size 0)
