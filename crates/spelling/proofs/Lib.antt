@@ -1,2 +1,3 @@
 pub mod Numbers
 pub mod Addresses
+pub mod Having
