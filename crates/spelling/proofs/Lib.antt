@@ -1,3 +1,5 @@
 pub mod Numbers
 pub mod Addresses
 pub mod Having
+pub mod Tables
+pub mod Notice
