@@ -3,3 +3,5 @@ pub mod Addresses
 pub mod Having
 pub mod Tables
 pub mod Notice
+pub mod Worked
+pub mod Laws

@@ -34,6 +34,12 @@ use Rattle.spelling.proofs.Tables.{nodes-rise, table-again}
 
 -- ---- the notice of a table, before any other bytes
 
+pub notice-length : (n : ℕ) (faults : List ℕ)
+    → length (noticeBytes n faults)
+    ≡ length (groupsOf n) + length (groupsOf (length (faultyNodes n faults))) + length (addressBytes 0 (faultyNodes n faults))
+unfolding noticeBytes
+notice-length n faults = simp length-append
+
 module _ (n : ℕ) (faults behind : List ℕ) (is : IsTable n faults) where
   abbrev nodes : List ℕ
   nodes = faultyNodes n faults
@@ -85,8 +91,7 @@ module _ (n : ℕ) (faults behind : List ℕ) (is : IsTable n faults) where
   addresses-read = read-here nodes part behind 0 0 (2 ^ n) small (nodes-rise n faults is) from-addresses
 
   long : start + (0 + length (addressBytes 0 nodes)) ≡ length (noticeBytes n faults)
-  unfolding noticeBytes
-  long = simp length-append (omega arith)
+  long = omega (arith, notice-length n faults)
 
   outcome : (before : List ℕ) → length before ≡ length faults
       → Outcome s before (Notice n (count (2 ^ n) (nodeBit faults)) (length (noticeBytes n faults))) (withBits (replicate (length faults) 0) nodes)
