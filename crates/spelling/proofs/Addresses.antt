@@ -10,7 +10,7 @@ use borrow.Author.Tests.{lt-leb}
 use Rattle.cube.specs.Refusal.{first}
 use Rattle.groups.specs.Number.{groupsOf, numberAt}
 use Rattle.groups.specs.declared.Number.the-variants.{Value}
-use Rattle.notice.specs.Tests.{tested, addressTests}
+use Rattle.notice.specs.Tests.{addressTests}
 use Rattle.notice.specs.Addresses.{addressesEnd, addressesAt, rising}
 use Rattle.notice.proofs.Addresses.{first-address}
 use Rattle.notice.proofs.Cases.{tested-passes}
@@ -64,4 +64,4 @@ addresses-spelled (suc m) s at base size last end bytes e =
     let f = first-address m s at base size last end e in
     let z : base + f .v - base ≡ f .v = omega arith in
     let more = addresses-spelled m s (f .next) (base + f .v + 1) size last end bytes (f .others) in
-    rw (f .number, z) (number-spelled s at (f .v) (f .next) bytes (f .number) ∙ rw more (sym (append-assoc (groupsOf (f .v)) (addressBytes (base + f .v + 1) (addressesAt m s (f .next) (base + f .v + 1))) (drop end s))))
+    rw (f .number, z) (number-spelled s at (f .v) (f .next) bytes (f .number) ∙ rw more (simp append-assoc))

@@ -1,8 +1,8 @@
--- The laws of spelling that specs/Laws.antt states. Two accepted notices that gave one table are both spelled as it is, and the
--- notice of a table is no longer than any that is accepted.
+-- The laws of spelling that specs/Laws.antt states. Two accepted notices that gave one table are both spelled as its notice; and the notice of a table is
+-- accepted, so it is as short as those are.
 use mathlib.Core.Path.{_≡_, refl, sym, ap, _∙_}
 use mathlib.Core.List.{List, []}
-use Prim.Native.Nat.{ℕ, _+_, _^_, _≤_, _<_}
+use Prim.Native.Nat.{ℕ, _+_, _^_, _≤_}
 use native.Mathlib.Omega.{arith}
 use lib.ListN.{length, take}
 use Rattle.notice.specs.Notice.{noticed, tableAfter}

@@ -1,24 +1,22 @@
--- The notice of a table, read: its numbers stand one behind the other, so each is read at its place; and a notice that was read, spelled: so each of its numbers
--- is the bytes that it took, and together they are all that the notice took.
+-- The notice of a table, read: its numbers stand one behind the other, so each is read at its place. And a notice that was read, spelled: each of its numbers
+-- is spelled as the bytes that it took, so together they are all that the notice took.
 use mathlib.Core.Path.{_≡_, refl, sym, ap, _∙_}
-use mathlib.Core.Bool.{true}
 use mathlib.Core.List.{List, _++_, append-assoc}
-use Prim.Native.Nat.{ℕ, _+_, _-_, _^_, _≤_, _<_}
+use Prim.Native.Nat.{ℕ, _+_, _-_, _^_, _≤_}
 use native.Mathlib.Omega.{arith}
-use lib.ListN.{length, take, drop, getD, replicate, length-append, length-drop}
+use lib.ListN.{length, take, drop, replicate, length-append, length-drop}
 use lib.Seq.{drop-drop, getD-drop, take-all, take-at}
-use borrow.Author.Tests.{le-leb, le-ltb}
+use borrow.Author.Tests.{le-leb}
 use Rattle.cube.specs.Count.{count}
 use Rattle.cube.specs.Refusal.{first}
 use Rattle.cube.specs.Tables.{isDimension, nodeBit}
-use Rattle.cube.proofs.Bools.{and-both}
 use Rattle.cube.proofs.Count.{count-bound}
 use Rattle.cube.proofs.Tables.{nodes-few}
-use Rattle.groups.specs.Number.{further, groupsOf, numberAt}
+use Rattle.groups.specs.Number.{groupsOf, numberAt}
 use Rattle.groups.specs.declared.Number.the-variants as number
-use Rattle.notice.specs.Tests.{tested, dimensionTests, countTests}
-use Rattle.notice.specs.Addresses.{addressesEnd, addressesAt, withBits}
-use Rattle.notice.specs.Notice.{dimensionAt, restAt, noticeOf, noticed, addressesOf, tableAfter}
+use Rattle.notice.specs.Tests.{dimensionTests}
+use Rattle.notice.specs.Addresses.{withBits}
+use Rattle.notice.specs.Notice.{dimensionAt, noticeOf, noticed, addressesOf, tableAfter}
 use Rattle.notice.specs.declared.Noticed.the-variants.{Notice}
 use Rattle.notice.proofs.Agree.{same-accepted}
 use Rattle.notice.proofs.Cases.{tested-passes}
@@ -61,7 +59,7 @@ module _ (n : ℕ) (faults behind : List ℕ) (is : IsTable n faults) where
   from-count : drop at s ≡ groupsOf (length nodes) ++ (addressBytes 0 nodes ++ behind)
   from-count = behind-here s 0 n _ from-dimension
 
-  -- the bytes from there on, as the address reader is handed them
+  -- the bytes of the addresses and all behind them, as the address reader is handed them
   abbrev part : List ℕ
   part = take (length s - start) (drop start s)
 

@@ -1,6 +1,6 @@
 -- A fault table is given by its bits: bytes with the same eight bits are the same. So a cleared table with the bits of the faulty nodes set is the table that
 -- names them, as no bit of it stands for anything else.
-use mathlib.Core.Path.{_≡_, refl, sym, ap, _∙_}
+use mathlib.Core.Path.{_≡_, sym, _∙_}
 use mathlib.Core.Logic.{_⊎_, inl, inr}
 use mathlib.Core.Bool.{true, false, _&&_}
 use mathlib.Core.List.{List, [], _∷_}
@@ -11,7 +11,7 @@ use lib.Dec.{leb}
 use lib.ListN.{length, getD, set, replicate, length-replicate}
 use lib.Pow.{pow-lt}
 use lib.Seq.{ext-getD}
-use borrow.Author.Tests.{le-leb, leb-true, leb-false}
+use borrow.Author.Tests.{leb-true, leb-false}
 use Rattle.cube.specs.Cube.{bit}
 use Rattle.cube.specs.Tables.{nodeBit, unusedSet}
 use Rattle.cube.proofs.Bools.{either}

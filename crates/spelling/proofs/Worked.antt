@@ -2,10 +2,10 @@
 -- one byte for each node, as each stands right behind the one before.
 use mathlib.Core.Path.{_≡_, refl, ap, _∙_}
 use mathlib.Core.Bool.{Bool, true}
-use mathlib.Core.List.{List, [], _∷_}
+use mathlib.Core.List.{[], _∷_}
 use Prim.Native.Nat.{ℕ, zero, suc, _+_, _-_, _/_, _%_, _^_, _<_}
 use native.Mathlib.Omega.{arith}
-use lib.ListN.{length, getD, replicate, getD-replicate}
+use lib.ListN.{length, replicate, getD-replicate}
 use lib.Pow.{pow-pos}
 use Rattle.cube.specs.Cube.{bit}
 use Rattle.cube.specs.Tables.{nodeBit}
