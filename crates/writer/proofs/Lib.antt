@@ -1,2 +1,4 @@
 pub mod Passes
 pub mod Refusal
+pub mod Parts
+pub mod Functions

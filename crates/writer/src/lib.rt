@@ -1,11 +1,11 @@
 // Notices, written: the notice of a fault table goes to the front of a lent buffer. One pass over the nodes measures it, so that its length is known before
 // the first byte is written; a second pass writes.
-ghost use Prim.Native.Nat.{_+_, _*_, _^_, _<_, _≤_};
-ghost use Rattle.cube.specs.Over.{overAt};
+ghost use Prim.Native.Nat.{_+_, _*_, _<_, _≤_};
+ghost use Rattle.cube.specs.Over.{over, overAt};
 ghost use Rattle.cube.specs.Refusal.{first};
-ghost use Rattle.cube.specs.Tables.{nodeBit};
+ghost use Rattle.cube.specs.Tables.{nodeBit, tableLen};
 ghost use Rattle.groups.specs.Number.{groupsOf};
-ghost use Rattle.spelling.specs.Spelled.{addressBytes, having};
+ghost use Rattle.spelling.specs.Spelled.{addressBytes, faultyNodes, having, noticeBytes};
 ghost use Rattle.writer.specs.Writing.{bufferAfter, tableTests, wrote};
 ghost use lib.ListN.{length};
 ghost use mathlib.Core.Path.{_≡_};
@@ -107,6 +107,19 @@ fn put_addresses(faults: &[u8], size: usize, out: &mut [u8], start: usize)
     }
 }
 
+// Writes the three parts of a notice one behind the other.
+fn put_notice(n: usize, faults: &[u8], count: usize, out: &mut [u8])
+    requires { ⌜ (n ≤ 12) × (length (now faults) ≡ tableLen n) ⌝ }
+    requires { ⌜ count ≡ length (faultyNodes n (now faults)) ⌝ }
+    requires { ⌜ length (noticeBytes n (now faults)) ≤ length (now out) ⌝ }
+    ensures { λ _. ⌜ now (out .exit) ≡ over (noticeBytes n (now (faults .entry))) (now (out .entry)) ⌝ }
+{
+    let size = nodes(n);
+    let second = put_number(out, 0, n);
+    let start = put_number(out, second, count);
+    put_addresses(faults, size, out, start);
+}
+
 // Writes the notice of a fault table of an n-cube to the front of the buffer, or refuses and leaves the buffer as it was.
 pub fn write(n: usize, faults: &[u8], out: &mut [u8]) -> Wrote
     ensures answer { λ r. ⌜ r ≡ wrote n (now (faults .entry)) (length (now (out .entry))) ⌝ }
@@ -116,14 +129,11 @@ pub fn write(n: usize, faults: &[u8], out: &mut [u8]) -> Wrote
     if refusal != 0 {
         return Wrote::Refused(refusal);
     }
-    let size = nodes(n);
-    let found = measure(faults, size);
+    let found = measure(faults, nodes(n));
     let length = groups_len(n) + groups_len(found.count) + found.bytes;
     if out.len() < length {
         return Wrote::Refused(13);
     }
-    let second = put_number(out, 0, n);
-    let start = put_number(out, second, found.count);
-    put_addresses(faults, size, out, start);
+    put_notice(n, faults, found.count, out);
     Wrote::Length(length)
 }

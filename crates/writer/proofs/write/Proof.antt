@@ -1,70 +1,130 @@
+-- `write` knows the length before it writes: the table is one that is taken, and the notice has room.
+use mathlib.Core.Path.{_≡_, sym, ap, _∙_}
+use Prim.Native.Nat.{ℕ, _+_, _≤_}
+use native.Mathlib.Omega.{arith}
 use borrow.Author.Needs.{needs}
+use lib.ListN.{length}
+use Rattle.cube.specs.Tables.{nodeBit}
+use Rattle.spelling.specs.Laws.{IsTable}
+use Rattle.spelling.specs.Spelled.{having, noticeBytes}
+use Rattle.writer.specs.declared.Wrote.the-variants.{Length}
+use Rattle.writer.proofs.Passes.{few-groups}
+use Rattle.writer.proofs.Parts.{Sized, addresses-few, nodes-fit, notice-length}
+use Rattle.writer.proofs.Refusal.{buffer-kept, buffer-written, has-room, no-room, table-first, table-is, wrote-length, wrote-refused}
 use Rattle.writer.proofs.write.Statement.{statement}
 use Rattle.writer.proofs.write.Tie as tie
-use Rattle.writer.proofs.write.Reads as reads
-use Rattle.writer.proofs.write.Lts as lts
-use Rattle.cube.proofs.nodes.Reads as nodes-reads
-use Rattle.writer.proofs.groups_len.Reads as groups-len-reads
-use Rattle.writer.proofs.measure.Reads as measure-reads
-use Rattle.writer.proofs.put_addresses.Reads as put-addresses-reads
-use Rattle.writer.proofs.put_number.Reads as put-number-reads
-use Rattle.writer.proofs.table_refusal.Reads as table-refusal-reads
 
--- src/lib.rt:115:9
+-- the start, from where the table was taken; that from where it was measured, and that from where the length was added up
+abbrev start : tie.Else1 → tie.Start
+start c = c .before .before .before .before
+
+abbrev taken : tie.After-measure → tie.Else1
+taken c = c .before .before
+
+abbrev measured : tie.After-struct-known → tie.After-measure
+measured c = c .before .before .before
+
+abbrev begun : tie.After-struct-known → tie.Start
+begun c = start (taken (measured c))
+
+table : (c : tie.Else1) → IsTable (start c .args .n) (start c .args .faults .now)
+table c = table-is _ _ (sym (c .before .table-refusal .ensures) ∙ c .if1 .left)
+
+sized : (c : tie.After-measure)
+    → Sized (start (taken c) .args .n) (start (taken c) .args .faults .now) (c .before .nodes .result) (c .measure .result .count)
+sized c =
+    let t = table (taken c) in
+    let e = c .before .nodes .ensures in
+    record {
+      small = t .dimension .1;
+      long = t .sized;
+      nodes = e;
+      counted = c .measure .ensures .0 ∙ ap (λ (k : ℕ). length (having k 0 (nodeBit (start (taken c) .args .faults .now)))) e;
+    }
+
+-- the length that was added up is the notice's
+length-is : (c : tie.After-struct-known)
+    → c .before .before .groups-len .result + c .before .groups-len2 .result + measured c .measure .result .bytes
+      ≡ length (noticeBytes (begun c .args .n) (begun c .args .faults .now))
+length-is c =
+    omega (
+      arith,
+      c .before .before .groups-len .ensures,
+      c .before .groups-len2 .ensures,
+      measured c .measure .ensures .1,
+      notice-length (sized (measured c)),
+    )
+
+-- and has room
+room : (c : tie.Else2) → length (noticeBytes (begun (c .before) .args .n) (begun (c .before) .args .faults .now)) ≤ length (begun (c .before) .args .out .now)
+room c = omega (arith, length-is (c .before), c .if2 .left)
+
 table-refusal-requires : tie.Need-table-refusal-requires
 table-refusal-requires c κs = search needs
 
--- src/lib.rt:117:9
 returns : tie.Need-returns
-returns c = ?
+returns c =
+    let a = c .before .before .before .before .args in
+    let e = c .before .table-refusal .ensures in
+    let k = table-first (a .n) (a .faults .now) (length (a .out .now)) (λ z. c .if1 .taken (e ∙ z)) ∙ sym e in (
+      wrote-refused (a .n) (a .faults .now) (a .out .now) (c .before .table-refusal .result) k (c .if1 .taken),
+      buffer-kept (a .n) (a .faults .now) (a .out .now) (c .before .table-refusal .result) k (c .if1 .taken),
+    )
 
--- src/lib.rt:119:9
 nodes-requires : tie.Need-nodes-requires
-nodes-requires c κs = ?
+nodes-requires c κs = omega (arith, table c .dimension .1)
 
--- src/lib.rt:120:9
 measure-requires : tie.Need-measure-requires
-measure-requires c κs = ?
+measure-requires c κs = let t = table (c .before) in nodes-fit (t .dimension .1) (t .sized) (c .nodes .ensures)
 
--- src/lib.rt:121:18
 groups-len-requires : tie.Need-groups-len-requires
 groups-len-requires c κs = search needs
 
--- src/lib.rt:121:34
 groups-len-requires-2 : tie.Need-groups-len-requires-2
 groups-len-requires-2 c κs = search needs
 
--- src/lib.rt:121:18
 add-length : tie.Need-add-length
-add-length c = ?
+add-length c =
+    let m = c .before .before in
+    omega (arith, c .before .groups-len .ensures, c .groups-len2 .ensures, few-groups (start (taken m) .args .n), few-groups (m .measure .result .count))
 
--- src/lib.rt:121:18
 add-length-2 : tie.Need-add-length-2
-add-length-2 c = ?
+add-length-2 c =
+    let m = measured c in
+    omega (
+      arith,
+      m .measure .ensures .1,
+      addresses-few (sized m),
+      c .before .before .groups-len .ensures,
+      c .before .groups-len2 .ensures,
+      few-groups (begun c .args .n),
+      few-groups (m .measure .result .count),
+    )
 
--- src/lib.rt:123:9
 returns-2 : tie.Need-returns-2
-returns-2 c = ?
+returns-2 c =
+    let a = begun (c .before) .args in
+    let k = no-room (a .n) (a .faults .now) (length (a .out .now)) (table (taken (measured (c .before)))) (omega (arith, length-is (c .before), c .if2 .taken)) in (
+      wrote-refused (a .n) (a .faults .now) (a .out .now) 13 k (λ z. omega arith),
+      buffer-kept (a .n) (a .faults .now) (a .out .now) 13 k (λ z. omega arith),
+    )
 
--- src/lib.rt:125:9
-put-number-requires : tie.Need-put-number-requires
-put-number-requires c κs = ?
+put-notice-requires : tie.Need-put-notice-requires
+put-notice-requires c κs =
+    let m = sized (measured (c .before .before)) in
+    ((m .small, m .long), (m .counted, room (c .before)))
 
--- src/lib.rt:126:9
-put-number-requires-2 : tie.Need-put-number-requires-2
-put-number-requires-2 c κs = ?
-
--- src/lib.rt:127:5
-put-addresses-requires : tie.Need-put-addresses-requires
-put-addresses-requires c κs = ?
-
--- src/lib.rt:111:1
 same-length : tie.Need-same-length
 same-length c = search needs
 
--- src/lib.rt:111:1
 returns-3 : tie.Need-returns-3
-returns-3 c = ?
+returns-3 c =
+    let e = c .before .before .before .before in
+    let a = begun (e .before) .args in
+    let k = has-room (a .n) (a .faults .now) (length (a .out .now)) (table (taken (measured (e .before)))) (room e) in (
+      ap Length (length-is (e .before)) ∙ wrote-length (a .n) (a .faults .now) (a .out .now) k,
+      c .before .before .put-notice .ensures ∙ buffer-written (a .n) (a .faults .now) (a .out .now) k,
+    )
 
 pub write-spec : {M : Type 1} → statement M
 write-spec =
@@ -79,8 +139,6 @@ write-spec =
     add-length
     add-length-2
     returns-2
-    put-number-requires
-    put-number-requires-2
-    put-addresses-requires
+    put-notice-requires
     same-length
     returns-3)
