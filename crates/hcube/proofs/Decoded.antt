@@ -49,7 +49,7 @@ use Rattle.hcube.specs.Decoded.{
   valuePart,
   walkedFrom,
 }
-use Rattle.hcube.proofs.DecodedNotices.{dimension-decoded, notice-decoded}
+use Rattle.hcube.proofs.DecodedNotices.{dimension-decoded, notice-decoded, written-decoded}
 use Rattle.hcube.proofs.DecodedReasons.{hop-reason-decoded, node-reason-decoded}
 use Rattle.hcube.proofs.Parts.{cut, kind-is, refusal-is, value-is}
 use Rattle.hcube.proofs.Small.{HopFits, LabelFits, has-row, hop-small, label-small, walk-small, written}
@@ -211,5 +211,6 @@ decodes =
       why-hop = hop-reason-decoded;
       dimension = dimension-decoded;
       notice = notice-decoded;
+      written = written-decoded;
       cut = cut;
     }

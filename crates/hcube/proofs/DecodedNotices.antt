@@ -1,7 +1,7 @@
--- A notice, and its dimension by itself, come out of their numbers as they were put in.
+-- A notice, its dimension by itself, and what writing one answers come out of their numbers as they were put in.
 use mathlib.Core.List.{List}
 use mathlib.Core.Path.{_≡_, refl, _∙_}
-use Prim.Native.Nat.{ℕ}
+use Prim.Native.Nat.{ℕ, _<_}
 use native.Mathlib.Omega.{arith}
 use borrow.Author.Tests.{ne-eqb}
 use Rattle.groups.specs.Number.{refusalIn}
@@ -10,8 +10,12 @@ use Rattle.notice.specs.declared.Noticed.{Noticed}
 use Rattle.notice.specs.declared.Noticed.the-variants as noticed
 use Rattle.notice.proofs.Agree.{parts}
 use Rattle.notice.proofs.Refusals.{refused-notice}
-use Rattle.hcube.specs.Answers.{dimensionNumber, noticeNumber, packed, packedNotice}
-use Rattle.hcube.specs.Decoded.{noticedFrom, refusalPart, valuePart}
+use Rattle.writer.specs.Writing.{wrote}
+use Rattle.writer.specs.declared.Wrote.{Wrote}
+use Rattle.writer.specs.declared.Wrote.the-variants as written
+use Rattle.writer.proofs.Outcomes.{given-few, given-some, length-few}
+use Rattle.hcube.specs.Answers.{dimensionNumber, noticeNumber, packed, packedNotice, writtenNumber}
+use Rattle.hcube.specs.Decoded.{noticedFrom, refusalPart, valuePart, wroteFrom}
 use Rattle.hcube.proofs.Parts.{above, count-is, dimension-is, refusal-is, value-is}
 use Rattle.hcube.proofs.Small.{dimension-small}
 
@@ -43,3 +47,15 @@ notice-decoded bytes before = go (N.noticed bytes before) refl
         let r : refusalPart (packedNotice 0 0 (packed k 0 at)) ≡ k = omega (arith, p .number .1, p .near) in
         let c : valuePart (packedNotice 0 0 (packed k 0 at)) ≡ at = omega (arith, p .number .1, p .near) in
         rw (r, c, ne-eqb k 0 (λ z. omega (arith, p .number .0)))
+
+pub written-decoded : (n : ℕ) (faults : List ℕ) (room : ℕ) → wroteFrom (writtenNumber (wrote n faults room)) ≡ wrote n faults room
+unfolding wroteFrom
+written-decoded n faults room = go (wrote n faults room) refl
+  where
+    go : (a : Wrote) → wrote n faults room ≡ a → wroteFrom (writtenNumber a) ≡ a
+    go (written.Length len) e =
+        let h : len < 65536 = omega (arith, length-few n faults room e) in
+        rw (refusal-is 0 0 len (omega arith) (omega arith) h, value-is 0 0 len h)
+    go (written.Refused k) e =
+        let h : k < 256 = omega (arith, given-few n faults room e) in
+        rw (refusal-is k 0 0 h (omega arith) (omega arith), ne-eqb k 0 (given-some n faults room e))

@@ -14,6 +14,7 @@ use Rattle.hop.specs.Hop.{hopped}
 use Rattle.why.specs.HopReasons.{hopReason}
 use Rattle.why.specs.NodeReasons.{labelsLeft, nodeReason}
 use Rattle.notice.specs.Notice.{dimensionAt, noticed, tableAfter}
+use Rattle.writer.specs.Writing.{bufferAfter, wrote}
 use Rattle.hcube.specs.Answers.{
   dimensionNumber,
   hopNumber,
@@ -24,6 +25,7 @@ use Rattle.hcube.specs.Answers.{
   rowAfter,
   walkNumber,
   walkedBy,
+  writtenNumber,
 }
 use Rattle.hcube.proofs.hcube_label
 use Rattle.hcube.proofs.hcube_hop
@@ -32,6 +34,7 @@ use Rattle.hcube.proofs.hcube_why_node
 use Rattle.hcube.proofs.hcube_why_hop
 use Rattle.hcube.proofs.hcube_notice_dimension
 use Rattle.hcube.proofs.hcube_read_notice
+use Rattle.hcube.proofs.hcube_write_notice
 
 abbrev pub label : Function hcube_label.ended (ℕ × ℕ × ℕ × List ℕ × List ℕ × List ℕ × List ℕ) ℕ (List ℕ)
 label =
@@ -161,3 +164,20 @@ read-notice-asks = record { asked = λ κs a. tt; empty = λ w κs a. (tt, refl)
 
 pub read-notice-says : Says read-notice (λ i. noticeNumber (noticed (i .0) (i .1))) (λ i. tableAfter (i .0) (i .1))
 read-notice-says = record { says = λ κs a r e p. (p .0, p .1) }
+
+abbrev pub write-notice : Function hcube_write_notice.ended (ℕ × List ℕ × List ℕ) ℕ (List ℕ)
+write-notice =
+    record {
+      clauses = λ w. hcube_write_notice.clauses (w .𝓤) (w .H) (w .𝓖 .A) (w .𝓜 .mem) (w .𝓡 .run);
+      asked = hcube_write_notice.Reads.Asked;
+      post = hcube_write_notice.Reads.Post;
+      handed = λ κs a. (a .0, now (a .1 .0), now (a .1 .1 .0));
+      answered = λ κs r. r;
+      left = λ κs e. now (e .1 .1 .0);
+    }
+
+pub write-notice-asks : AsksNothing write-notice
+write-notice-asks = record { asked = λ κs a. tt; empty = λ w κs a. (tt, refl) }
+
+pub write-notice-says : Says write-notice (λ i. writtenNumber (wrote (i .0) (i .1) (length (i .2)))) (λ i. bufferAfter (i .0) (i .1) (i .2))
+write-notice-says = record { says = λ κs a r e p. (p .0, p .1) }

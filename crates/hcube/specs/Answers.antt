@@ -12,6 +12,8 @@ use Rattle.groups.specs.Number.{refusalIn}
 use Rattle.groups.specs.declared.Number.{Number}
 use Rattle.notice.specs.Notice as N
 use Rattle.notice.specs.declared.Noticed.{Noticed}
+use Rattle.writer.specs.Writing as T
+use Rattle.writer.specs.declared.Wrote.{Wrote}
 use Rattle.hop.specs.Hop as H
 use Rattle.walk.specs.Walk as W
 use Rattle.walk.specs.declared.Ending.{Ending}
@@ -61,6 +63,10 @@ packedNotice dimension count low = dimension * 281474976710656 + count * 4294967
 
 abbrev pub noticeNumber : Noticed → ℕ
 noticeNumber a = packedNotice (N.dimensionOf a) (N.countOf a) (packed (N.refusalOf a) 0 (N.valueOf a))
+
+-- writing a notice: kind 0, the value is its length
+abbrev pub writtenNumber : Wrote → ℕ
+writtenNumber a = packed (T.refusalOf a) 0 (T.lengthOf a)
 
 -- the walk with the buffers that C lends
 abbrev pub walkedBy : (n j s d : ℕ) (labels row : List ℕ) → Walked

@@ -31,6 +31,9 @@ use Rattle.why.specs.declared.NodeReason.the-variants as node
 use Rattle.notice.specs.Notice.{Told, dimensionAt, noticed}
 use Rattle.notice.specs.declared.Noticed.{Noticed}
 use Rattle.notice.specs.declared.Noticed.the-variants as noticed
+use Rattle.writer.specs.Writing.{wrote}
+use Rattle.writer.specs.declared.Wrote.{Wrote}
+use Rattle.writer.specs.declared.Wrote.the-variants as written
 use Rattle.hcube.specs.Answers.{
   dimensionNumber,
   hopNumber,
@@ -41,6 +44,7 @@ use Rattle.hcube.specs.Answers.{
   rowAfter,
   walkNumber,
   walkedBy,
+  writtenNumber,
 }
 
 -- HCUBE_REFUSAL, HCUBE_KIND and HCUBE_VALUE: each takes its own bits, so they serve answers of 32 and of 64 bits
@@ -127,6 +131,9 @@ unfoldable pub noticedFrom : ℕ → Noticed
 noticedFrom r =
     cond (eqb (refusalPart r) 0) (noticed.Notice (dimensionPart r) (countPart r) (valuePart r)) (noticed.Refused (refusalPart r) (valuePart r))
 
+unfoldable pub wroteFrom : ℕ → Wrote
+wroteFrom r = cond (eqb (refusalPart r) 0) (written.Length (valuePart r)) (written.Refused (refusalPart r))
+
 -- the three parts of r are those of low
 pub record Shows (r low : ℕ) : Type 0 where
   pub refusal : refusalPart r ≡ refusalPart low
@@ -146,5 +153,6 @@ pub record Decodes : Type 0 where
       (bytes : List ℕ)
       → Told (dimensionAt bytes) (refusalPart (dimensionNumber (dimensionAt bytes))) (valuePart (dimensionNumber (dimensionAt bytes)))
   pub notice : (bytes before : List ℕ) → noticedFrom (noticeNumber (noticed bytes before)) ≡ noticed bytes before
+  pub written : (n : ℕ) (faults : List ℕ) (room : ℕ) → wroteFrom (writtenNumber (wrote n faults room)) ≡ wrote n faults room
   -- and an answer that is cut to 32 bits still shows its refusal, its kind and its value
   pub cut : (r : ℕ) → Shows r (r % 4294967296)

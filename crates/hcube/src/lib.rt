@@ -2,7 +2,7 @@
 // narrowed, so none is mistaken for a smaller one.
 ghost use Prim.Native.Nat.{_<_, _≤_};
 ghost use Rattle.cube.specs.Tables.{tab};
-ghost use Rattle.hcube.specs.Answers.{dimensionNumber, hasRow, hopNumber, hopReasonNumber, labelNumber, nodeReasonNumber, noticeNumber, packed, packedNotice, packedReason, rowAfter, rowByte, walkNumber, walkedBy};
+ghost use Rattle.hcube.specs.Answers.{dimensionNumber, hasRow, hopNumber, hopReasonNumber, labelNumber, nodeReasonNumber, noticeNumber, packed, packedNotice, packedReason, rowAfter, rowByte, walkNumber, walkedBy, writtenNumber};
 ghost use Rattle.hcube.specs.Fits.{CauseFits, RowFits, WalkFits};
 ghost use Rattle.jobs.specs.Jobs.{labelFor};
 ghost use Rattle.labels.specs.Labelling.{labelled, labelsAfter};
@@ -12,6 +12,7 @@ ghost use Rattle.walk.specs.Walk.{rowBytes};
 ghost use Rattle.why.specs.HopReasons.{hopReason};
 ghost use Rattle.why.specs.NodeReasons.{labelsLeft, nodeReason};
 ghost use Rattle.why.specs.declared.NodeReason.the-variants.{Unsafe};
+ghost use Rattle.writer.specs.Writing.{bufferAfter, wrote};
 ghost use Rattle.rule.specs.Cabinet.{cabinet};
 ghost use lib.ListN.{length};
 ghost use mathlib.Core.Path.{_≡_};
@@ -25,6 +26,7 @@ use walk::Ending;
 use walk::Walked;
 use why::HopReason;
 use why::NodeReason;
+use writer::Wrote;
 
 // One number for the refusal, the kind and the value.
 fn pack(refusal: u32, kind: u32, value: usize) -> u32
@@ -274,5 +276,18 @@ pub extern "C" fn hcube_read_notice(bytes: &[u8], faults: &mut [u8]) -> u64
     match answer {
         Noticed::Notice(n, m, taken) => pack_notice(n, m, taken),
         Noticed::Refused(k, at) => pack(k, 0, at) as u64,
+    }
+}
+
+// Writes the notice of a fault table to the front of the buffer: its length, or the refusal, which leaves the buffer as it was.
+#[no_mangle]
+pub extern "C" fn hcube_write_notice(n: u32, faults: &[u8], out: &mut [u8]) -> u32
+    ensures answer { λ r. ⌜ r ≡ writtenNumber (wrote n (now (faults .entry)) (length (now (out .entry)))) ⌝ }
+    ensures out { λ r. ⌜ now (out .exit) ≡ bufferAfter n (now (faults .entry)) (now (out .entry)) ⌝ }
+{
+    let answer = writer::write(n as usize, faults, out);
+    match answer {
+        Wrote::Length(length) => pack(0, 0, length),
+        Wrote::Refused(k) => pack(k, 0, 0),
     }
 }

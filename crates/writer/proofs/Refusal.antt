@@ -24,14 +24,12 @@ use Rattle.writer.proofs.Passes.{few-groups}
 -- ---- a table that is not refused
 
 module _ (n : ℕ) (faults : List ℕ) where
-  pub table-is : first (tableTests n faults) ≡ 0 → IsTable n faults
-  table-is e =
-      let t = first-none 3 (tableTests n faults) refl e in
-      record {
-        dimension = dimension-is n (not-false _ (t .0));
-        sized = eqb-true _ _ (not-false _ (t .1 .0));
-        unused = t .1 .1 .0;
-      }
+  pub table-is : None (tableTests n faults) → IsTable n faults
+  table-is t =
+      record { dimension = dimension-is n (not-false _ (t .0)); sized = eqb-true _ _ (not-false _ (t .1 .0)); unused = t .1 .1 .0 }
+
+  pub table-taken : first (tableTests n faults) ≡ 0 → IsTable n faults
+  table-taken e = table-is (first-none 3 (tableTests n faults) refl e)
 
   pub is-taken : IsTable n faults → first (tableTests n faults) ≡ 0
   unfolding first isDimension
@@ -57,24 +55,23 @@ module _ (n : ℕ) (faults : List ℕ) where
 
 -- ---- answer and buffer, by the number
 
+module _ (n : ℕ) (faults : List ℕ) (room : ℕ) where
+  pub wrote-refused : {k : ℕ} → writeRefusal n faults room ≡ k → k ≢ 0 → Refused k ≡ wrote n faults room
+  unfolding wrote
+  wrote-refused {k} e h = rw (e, ne-eqb k 0 h)
+
+  pub wrote-length : writeRefusal n faults room ≡ 0 → Length (length (noticeBytes n faults)) ≡ wrote n faults room
+  unfolding wrote
+  wrote-length e = rw e
+
 module _ (n : ℕ) (faults out : List ℕ) where
-  module _ (k : ℕ) (e : writeRefusal n faults (length out) ≡ k) (h : k ≢ 0) where
-    pub wrote-refused : Refused k ≡ wrote n faults (length out)
-    unfolding wrote
-    wrote-refused = rw (e, ne-eqb k 0 h)
+  pub buffer-kept : {k : ℕ} → writeRefusal n faults (length out) ≡ k → k ≢ 0 → out ≡ bufferAfter n faults out
+  unfolding bufferAfter
+  buffer-kept e h = rw (sym (wrote-refused n faults (length out) e h))
 
-    pub buffer-kept : out ≡ bufferAfter n faults out
-    unfolding bufferAfter
-    buffer-kept = rw (sym wrote-refused)
-
-  module _ (e : writeRefusal n faults (length out) ≡ 0) where
-    pub wrote-length : Length (length (noticeBytes n faults)) ≡ wrote n faults (length out)
-    unfolding wrote
-    wrote-length = rw e
-
-    pub buffer-written : over (noticeBytes n faults) out ≡ bufferAfter n faults out
-    unfolding bufferAfter
-    buffer-written = rw (sym wrote-length)
+  pub buffer-written : writeRefusal n faults (length out) ≡ 0 → over (noticeBytes n faults) out ≡ bufferAfter n faults out
+  unfolding bufferAfter
+  buffer-written e = rw (sym (wrote-length n faults (length out) e))
 
 -- ---- the parts of a notice are short
 

@@ -10,7 +10,7 @@ use Rattle.spelling.specs.Spelled.{having, noticeBytes}
 use Rattle.writer.specs.declared.Wrote.the-variants.{Length}
 use Rattle.writer.proofs.Passes.{few-groups}
 use Rattle.writer.proofs.Parts.{Sized, addresses-few, nodes-fit, notice-length}
-use Rattle.writer.proofs.Refusal.{buffer-kept, buffer-written, has-room, no-room, table-first, table-is, wrote-length, wrote-refused}
+use Rattle.writer.proofs.Refusal.{buffer-kept, buffer-written, has-room, no-room, table-first, table-taken, wrote-length, wrote-refused}
 use Rattle.writer.proofs.write.Statement.{statement}
 use Rattle.writer.proofs.write.Tie as tie
 
@@ -28,7 +28,7 @@ abbrev begun : tie.After-struct-known → tie.Start
 begun c = start (taken (measured c))
 
 table : (c : tie.Else1) → IsTable (start c .args .n) (start c .args .faults .now)
-table c = table-is _ _ (sym (c .before .table-refusal .ensures) ∙ c .if1 .left)
+table c = table-taken _ _ (sym (c .before .table-refusal .ensures) ∙ c .if1 .left)
 
 sized : (c : tie.After-measure)
     → Sized (start (taken c) .args .n) (start (taken c) .args .faults .now) (c .before .nodes .result) (c .measure .result .count)
@@ -67,8 +67,8 @@ returns c =
     let a = c .before .before .before .before .args in
     let e = c .before .table-refusal .ensures in
     let k = table-first (a .n) (a .faults .now) (length (a .out .now)) (λ z. c .if1 .taken (e ∙ z)) ∙ sym e in (
-      wrote-refused (a .n) (a .faults .now) (a .out .now) (c .before .table-refusal .result) k (c .if1 .taken),
-      buffer-kept (a .n) (a .faults .now) (a .out .now) (c .before .table-refusal .result) k (c .if1 .taken),
+      wrote-refused (a .n) (a .faults .now) (length (a .out .now)) k (c .if1 .taken),
+      buffer-kept (a .n) (a .faults .now) (a .out .now) k (c .if1 .taken),
     )
 
 nodes-requires : tie.Need-nodes-requires
@@ -105,8 +105,8 @@ returns-2 : tie.Need-returns-2
 returns-2 c =
     let a = begun (c .before) .args in
     let k = no-room (a .n) (a .faults .now) (length (a .out .now)) (table (taken (measured (c .before)))) (omega (arith, length-is (c .before), c .if2 .taken)) in (
-      wrote-refused (a .n) (a .faults .now) (a .out .now) 13 k (λ z. omega arith),
-      buffer-kept (a .n) (a .faults .now) (a .out .now) 13 k (λ z. omega arith),
+      wrote-refused (a .n) (a .faults .now) (length (a .out .now)) k (λ z. omega arith),
+      buffer-kept (a .n) (a .faults .now) (a .out .now) k (λ z. omega arith),
     )
 
 put-notice-requires : tie.Need-put-notice-requires
@@ -122,7 +122,7 @@ returns-3 c =
     let e = c .before .before .before .before in
     let a = begun (e .before) .args in
     let k = has-room (a .n) (a .faults .now) (length (a .out .now)) (table (taken (measured (e .before)))) (room e) in (
-      ap Length (length-is (e .before)) ∙ wrote-length (a .n) (a .faults .now) (a .out .now) k,
+      ap Length (length-is (e .before)) ∙ wrote-length (a .n) (a .faults .now) (length (a .out .now)) k,
       c .before .before .put-notice .ensures ∙ buffer-written (a .n) (a .faults .now) (a .out .now) k,
     )
 
