@@ -38,7 +38,7 @@ module _ (at : ℕ) (w s : List ℕ) (room : at + length w ≤ length s) where
       let H : List ℕ = take at s ++ w in
       let n : ℕ = at + length w in
       let behind : drop (n + length v) (H ++ drop n s) ≡ drop (n + length v) s =
-          ap (λ (k : ℕ). drop (k + length v) (H ++ drop n s)) (sym head-length) ∙ drop-append-add H (drop n s) (length v) ∙ drop-drop (length v) n s in
+      ap (λ (k : ℕ). drop (k + length v) (H ++ drop n s)) (sym head-length) ∙ drop-append-add H (drop n s) (length v) ∙ drop-drop (length v) n s in
       let end : n + length v ≡ at + length (w ++ v) = omega (arith, length-append w v) in
       ap₂ (λ (l r : List ℕ). l ++ v ++ r) (take-at H (drop n s) n head-length) (behind ∙ ap (λ (k : ℕ). drop k s) end)
       ∙ ap (λ (l : List ℕ). l ++ drop (at + length (w ++ v)) s) (append-assoc (take at s) w v)

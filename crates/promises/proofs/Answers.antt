@@ -27,6 +27,8 @@ use Rattle.why.specs.NodeReasons.{labelsLeft, nodeReason}
 use Rattle.why.specs.declared.HopReason.{HopReason}
 use Rattle.why.specs.declared.NodeReason.{NodeReason}
 use Rattle.why.proofs.Functions as why
+use Rattle.writer.specs.Writing.{bufferAfter, wrote}
+use Rattle.writer.proofs.Functions as writer
 use Rattle.hcube.specs.Answers.{
   dimensionNumber,
   hopNumber,
@@ -37,6 +39,7 @@ use Rattle.hcube.specs.Answers.{
   rowAfter,
   walkNumber,
   walkedBy,
+  writtenNumber,
 }
 use Rattle.hcube.proofs.Functions as hcube
 use Rattle.promises.specs.Answers.{Answers}
@@ -74,6 +77,18 @@ module _ (bytes before : List ℕ) where
 
   c-reads : May hcube.read-notice (bytes, before) (noticeNumber x) table
   c-reads = may hcube.read-notice two (lend bytes, (lend before, tt)) (noticeNumber x) (lend bytes, (lend table, tt)) (refl, refl)
+
+module _ (n : ℕ) (faults before : List ℕ) where
+  abbrev written : List ℕ
+  written = bufferAfter n faults before
+
+  writes : May writer.write (n, faults, before) (wrote n faults (length before)) written
+  writes = may writer.write two (n, (lend faults, (lend before, tt))) (wrote n faults (length before)) (n, (lend faults, (lend written, tt))) (refl, refl)
+
+  c-writes : May hcube.write-notice (n, faults, before) (writtenNumber (wrote n faults (length before))) written
+  c-writes =
+      may hcube.write-notice two (n, (lend faults, (lend before, tt))) (writtenNumber (wrote n faults (length before)))
+      (n, (lend faults, (lend written, tt))) (refl, refl)
 
 module _ (K : Cabinet) (j : ℕ) (before : List ℕ) where
   abbrev answer : Labelled
@@ -146,6 +161,7 @@ rattle-answers =
     record {
       reads = λ bytes before. (_, _, reads bytes before);
       sizes = λ bytes. (_, _, (dimensionAt bytes, sizes bytes, record { refusal = refl; value = refl }));
+      writes = λ n faults before. (_, _, writes n faults before);
       labels = λ K j before. (_, _, labels K j before);
       hops = λ n j a b l. (_, hops n j a b l);
       why-nodes = λ K j x before. (_, _, why-nodes K j before x);
@@ -158,6 +174,7 @@ c-answers =
     record {
       reads = λ bytes before. (_, _, (_, c-reads bytes before, refl));
       sizes = λ bytes. (_, _, (_, c-sizes bytes, refl, refl));
+      writes = λ n faults before. (_, _, (_, c-writes n faults before, refl));
       labels = λ K j before. (_, _, (_, c-labels K j before, refl));
       hops = λ n j a b l. (_, (_, c-hops n j a b l, refl));
       why-nodes = λ K j x before. (_, _, (_, c-why-nodes K j before x, refl));

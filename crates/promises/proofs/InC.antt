@@ -34,6 +34,8 @@ use Rattle.why.specs.declared.HopReason.{HopReason}
 use Rattle.why.specs.declared.NodeReason.{NodeReason}
 use Rattle.why.specs.declared.NodeReason.the-variants as because
 use Rattle.why.proofs.Functions as why
+use Rattle.writer.specs.declared.Wrote.{Wrote}
+use Rattle.writer.proofs.Functions as writer
 use Rattle.hcube.specs.Answers.{
   dimensionNumber,
   hasRow,
@@ -46,6 +48,7 @@ use Rattle.hcube.specs.Answers.{
   rowByte,
   walkNumber,
   walkedBy,
+  writtenNumber,
 }
 use Rattle.hcube.specs.Decoded.{endingFrom, kindPart, nodeAt, refusalPart, valuePart, walkedFrom}
 use Rattle.hcube.proofs.Decoded.{high-byte, low-byte}
@@ -91,6 +94,10 @@ notice-same m v = told hcube.read-notice-says m .0 ∙ ap noticeNumber (sym (tol
 dimension-same : {r : ℕ} {x : Number} {bytes : List ℕ} → May hcube.notice-dimension bytes r tt → May notice.dimension bytes x tt
     → (r ≡ dimensionNumber x) × (dimensionAt bytes ≡ x)
 dimension-same m v = let e = sym (told notice.dimension-says v .0) in (told hcube.notice-dimension-says m .0 ∙ ap dimensionNumber e, e)
+
+written-same : {n r : ℕ} {x : Wrote} {faults before after after′ : List ℕ} → May hcube.write-notice (n, faults, before) r after
+    → May writer.write (n, faults, before) x after′ → r ≡ writtenNumber x
+written-same m v = told hcube.write-notice-says m .0 ∙ ap writtenNumber (sym (told writer.write-says v .0))
 
 -- a refused walk has hop count 0
 walk-refuses : {n j s d r k : ℕ} {buffer before after : List ℕ} {w : Walked} → May hcube.walk (n, j, s, d, buffer, before) r after
@@ -193,6 +200,8 @@ in-c =
       notice-reads = λ {r} m v. let e = notice-same m v in omega arith;
       notice-refuses = λ {r} {k} {at} {bytes} {before} m v. let e = notice-same m v in
           let p = notice-laws .refused bytes before k at (sym (told notice.read-says v .0)) in (omega arith, omega (arith, p .near));
+      writes-length = λ {n} {r} m v. let e = written-same m v in omega arith;
+      writes-refuses = λ {n} {r} m v. let e = written-same m v in omega arith;
       row-nodes = λ m h v. row-nodes m h v;
       row-bytes = row-bytes;
       row-once = row-once;

@@ -4,11 +4,13 @@ pub mod Library
 pub mod Sizes
 pub mod Eight
 pub mod LabelRefusals
+pub mod WriteRefusals
 pub mod Refusals
 pub mod Why
 pub mod Outcomes
 pub mod Walks
 pub mod Demands
+pub mod Writes
 pub mod InC
 pub mod InRattle
 pub mod Answers

@@ -27,7 +27,10 @@ use Rattle.why.specs.NodeReasons.{labelsLeft, nodeReason}
 use Rattle.why.specs.declared.HopReason.{HopReason}
 use Rattle.why.specs.declared.NodeReason.{NodeReason}
 use Rattle.why.proofs.Functions as why
-use Rattle.hcube.specs.Decoded.{hopReasonFrom, hoppedFrom, labelledFrom, nodeReasonFrom, noticedFrom, refusalPart, valuePart, walkedFrom}
+use Rattle.writer.specs.Writing.{bufferAfter, wrote}
+use Rattle.writer.specs.declared.Wrote.{Wrote}
+use Rattle.writer.proofs.Functions as writer
+use Rattle.hcube.specs.Decoded.{hopReasonFrom, hoppedFrom, labelledFrom, nodeReasonFrom, noticedFrom, refusalPart, valuePart, walkedFrom, wroteFrom}
 use Rattle.hcube.proofs.Decoded.{decodes}
 use Rattle.hcube.proofs.Functions as hcube
 use Rattle.promises.specs.Library.{Library, rattle, c}
@@ -35,6 +38,9 @@ use Rattle.promises.specs.Library.{Library, rattle, c}
 pub record Faithful (lib : Library) : Type 0 where
   pub reads : {bytes before after : List ℕ} {x : Noticed} → lib .reads bytes before x after → (x ≡ noticed bytes before) × (after ≡ tableAfter bytes before)
   pub sizes : {bytes : List ℕ} {k v : ℕ} → lib .sizes bytes k v → Told (dimensionAt bytes) k v
+  pub writes :
+      {n : ℕ} {faults before after : List ℕ} {x : Wrote} → lib .writes n faults before x after
+      → (x ≡ wrote n faults (length before)) × (after ≡ bufferAfter n faults before)
   pub labels :
       {K : Cabinet} {j : ℕ} {before after : List ℕ} {x : Labelled} → lib .labels K j before x after
       → (x ≡ labelled K j (length before)) × (after ≡ labelsAfter K j before)
@@ -52,6 +58,7 @@ rattle-faithful =
     record {
       reads = told notice.read-says;
       sizes = λ {bytes} {k} {v} m. subst (λ (x : Number). Told x k v) (told notice.dimension-says (m .1) .0) (m .2);
+      writes = told writer.write-says;
       labels = told labels.label-says;
       hops = λ m. told hop.hop-says m .0;
       why-nodes = told why.why-node-says;
@@ -71,6 +78,8 @@ c-faithful =
           let t = told hcube.notice-dimension-says (m .1) .0 in
           let d = decodes .dimension bytes in
           record { refusal = sym (m .2) ∙ ap refusalPart t ∙ d .refusal; value = sym (m .3) ∙ ap valuePart t ∙ d .value };
+      writes = λ {n} {faults} {before} m. let t = told hcube.write-notice-says (m .1) in
+          (sym (m .2) ∙ ap wroteFrom (t .0) ∙ decodes .written n faults (length before), t .1);
       labels = λ {K} {j} {before} m. let t = told hcube.label-says (m .1) in
           (sym (m .2) ∙ ap labelledFrom (t .0) ∙ decodes .label K j (length before), t .1);
       hops = λ {n} {j} {c} {d} {buffer} m. let t = told hcube.hop-says (m .1) in

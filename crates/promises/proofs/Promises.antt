@@ -4,6 +4,7 @@ use Rattle.jobs.proofs.Laws.{job-laws}
 use Rattle.groups.proofs.Laws.{number-laws}
 use Rattle.notice.proofs.Laws.{notice-laws}
 use Rattle.reader.proofs.Laws.{reader-laws}
+use Rattle.spelling.proofs.Laws.{spelling-laws}
 use Rattle.rule.proofs.Exchanges.{exchanged}
 use Rattle.rule.proofs.Good.{labels-good}
 use Rattle.rule.proofs.Largest.{safe-largest}
@@ -41,6 +42,7 @@ use Rattle.promises.proofs.Settled.{settled, unasked}
 use Rattle.promises.proofs.Tied.{all-tied, in-order}
 use Rattle.promises.proofs.Why.{c-whys, rattle-whys}
 use Rattle.promises.proofs.Worked.{worked}
+use Rattle.promises.proofs.Writes.{c-writes, rattle-writes}
 
 pub promises : Promises
 promises =
@@ -58,6 +60,8 @@ promises =
       c-jobs = c-jobs;
       rattle-whys = rattle-whys;
       c-whys = c-whys;
+      rattle-writes = rattle-writes;
+      c-writes = c-writes;
       in-c = in-c;
       in-rattle = in-rattle;
       decodes = decodes;
@@ -92,6 +96,7 @@ promises =
       number = number-laws;
       notice = notice-laws;
       reader = reader-laws;
+      spelling = spelling-laws;
       message = message-laws;
       worked = worked;
     }

@@ -58,6 +58,7 @@ use Rattle.promises.proofs.Given.{
   wrong-job,
 }
 use Rattle.promises.proofs.Eight.{eight}
+use Rattle.promises.proofs.WriteRefusals.{write-given}
 use Rattle.promises.proofs.LabelRefusals.{label-given, label-refusal, node-given, node-refusal}
 use Rattle.promises.proofs.Notices.{notice-given, notice-one, number-given}
 use Rattle.promises.proofs.Sizes.{dimension-given, dimension-one}
@@ -189,5 +190,6 @@ refusals = record {
   walk = λ n j s d m room lab. rw (← walk-refusal n j s d m room lab) (walk-given n j s d m room lab);
   number = number-given;
   notice = notice-given;
+  writing = write-given;
   dimension = dimension-given;
 }

@@ -9,6 +9,7 @@ use Rattle.labels.proofs.Functions as labels
 use Rattle.hop.proofs.Functions as hop
 use Rattle.walk.proofs.Functions as walk
 use Rattle.why.proofs.Functions as why
+use Rattle.writer.proofs.Functions as writer
 use Rattle.hcube.proofs.Functions as hcube
 use Rattle.promises.specs.Settled.{Settled, Unasked}
 
@@ -22,6 +23,7 @@ settled =
       hcube-why-hop = settles hcube.why-hop-says;
       hcube-notice-dimension = settles hcube.notice-dimension-says;
       hcube-read-notice = settles hcube.read-notice-says;
+      hcube-write-notice = settles hcube.write-notice-says;
       labels-label = settles labels.label-says;
       labels-label-refusal = settles labels.label-refusal-says;
       labels-settle = settles labels.settle-says;
@@ -33,6 +35,7 @@ settled =
       why-why-hop = settles why.why-hop-says;
       notice-dimension = settles notice.dimension-says;
       notice-read = settles notice.read-says;
+      writer-write = settles writer.write-says;
       notice-tail = settles notice.tail-says;
       groups-number-at = settles groups.number-at-says;
       reader-new = settles reader.new-says;
@@ -66,6 +69,7 @@ unasked =
       hcube-why-hop = hcube.why-hop-asks;
       hcube-notice-dimension = hcube.notice-dimension-asks;
       hcube-read-notice = hcube.read-notice-asks;
+      hcube-write-notice = hcube.write-notice-asks;
       labels-label = labels.label-asks;
       labels-label-refusal = labels.label-refusal-asks;
       labels-settle = labels.settle-asks;
@@ -77,6 +81,7 @@ unasked =
       why-why-hop = why.why-hop-asks;
       notice-dimension = notice.dimension-asks;
       notice-read = notice.read-asks;
+      writer-write = writer.write-asks;
       notice-tail = notice.tail-asks;
       groups-number-at = groups.number-at-asks;
       reader-new = reader.new-asks;

@@ -14,6 +14,7 @@ all-tied =
       hcube-why-hop = record { clauses = λ w. refl; asked = refl; post = refl };
       hcube-notice-dimension = record { clauses = λ w. refl; asked = refl; post = refl };
       hcube-read-notice = record { clauses = λ w. refl; asked = refl; post = refl };
+      hcube-write-notice = record { clauses = λ w. refl; asked = refl; post = refl };
       labels-label = record { clauses = λ w. refl; asked = refl; post = refl };
       labels-label-refusal = record { clauses = λ w. refl; asked = refl; post = refl };
       labels-start = record { clauses = λ w. refl; asked = refl; post = refl };
@@ -31,6 +32,7 @@ all-tied =
       why-why-hop = record { clauses = λ w. refl; asked = refl; post = refl };
       notice-dimension = record { clauses = λ w. refl; asked = refl; post = refl };
       notice-read = record { clauses = λ w. refl; asked = refl; post = refl };
+      writer-write = record { clauses = λ w. refl; asked = refl; post = refl };
       notice-tail = record { clauses = λ w. refl; asked = refl; post = refl };
       groups-number-at = record { clauses = λ w. refl; asked = refl; post = refl };
       reader-new = record { clauses = λ w. refl; post = λ κs a g r e. (reader.new-ensures w₀ κs a r e, refl) };
@@ -58,6 +60,7 @@ in-order =
       hcube-why-hop = λ κs a. refl;
       hcube-notice-dimension = λ κs a. refl;
       hcube-read-notice = λ κs a. refl;
+      hcube-write-notice = λ κs a. refl;
       labels-label = λ κs a. refl;
       hop-hop = λ κs a. refl;
       walk-walk = λ κs a. refl;
@@ -66,4 +69,5 @@ in-order =
       why-why-hop = λ κs a. refl;
       notice-dimension = λ κs a. refl;
       notice-read = λ κs a. refl;
+      writer-write = λ κs a. refl;
     }

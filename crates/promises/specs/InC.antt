@@ -18,6 +18,8 @@ use Rattle.why.specs.declared.HopReason.the-variants as reason
 use Rattle.why.specs.declared.NodeReason.{NodeReason}
 use Rattle.why.specs.declared.NodeReason.the-variants as because
 use Rattle.why.proofs.Functions as why
+use Rattle.writer.specs.declared.Wrote.the-variants as wrote
+use Rattle.writer.proofs.Functions as writer
 use Rattle.walk.specs.Walk.{rowBytes}
 use Rattle.walk.specs.declared.Ending.the-variants as ending
 use Rattle.walk.specs.declared.Walked.{Walked}
@@ -96,6 +98,13 @@ pub record InC : Type 0 where
   pub notice-refuses :
       {r k at : ℕ} {bytes before after after′ : List ℕ} → May hcube.read-notice (bytes, before) r after
       → May notice.read (bytes, before) (noticed.Refused k at) after′ → (r ≡ k * 16777216 + at) × (at < 65536)
+  -- "Writing a notice: kind 0, value is its length"
+  pub writes-length :
+      {n r len : ℕ} {faults before after after′ : List ℕ} → May hcube.write-notice (n, faults, before) r after
+      → May writer.write (n, faults, before) (wrote.Length len) after′ → r ≡ len
+  pub writes-refuses :
+      {n r k : ℕ} {faults before after after′ : List ℕ} → May hcube.write-notice (n, faults, before) r after
+      → May writer.write (n, faults, before) (wrote.Refused k) after′ → r ≡ k * 16777216
   -- "a lent buffer of exactly 34 bytes, two a node, low byte first": the node is the one that the walk has at that place
   pub row-nodes :
       {n j s d r : ℕ} {buffer before after : List ℕ} {w : Walked} → May hcube.walk (n, j, s, d, buffer, before) r after → refusalPart r ≡ 0

@@ -3,6 +3,7 @@ pub mod Refusals
 pub mod Demands
 pub mod Jobs
 pub mod Why
+pub mod Writes
 pub mod InC
 pub mod InRattle
 pub mod Answers

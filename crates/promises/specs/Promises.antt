@@ -6,6 +6,7 @@ use Rattle.jobs.specs.Laws.{JobLaws}
 use Rattle.groups.specs.Laws.{NumberLaws}
 use Rattle.notice.specs.Laws.{NoticeLaws}
 use Rattle.reader.specs.Laws.{ReaderLaws}
+use Rattle.spelling.specs.Laws.{SpellingLaws}
 use Rattle.rule.specs.Cabinet.{Cabinet, exchangesOf}
 use Rattle.rule.specs.Closed.{Largest}
 use Rattle.rule.specs.Exchanges.{Exchanges}
@@ -45,6 +46,7 @@ use Rattle.promises.specs.Settled.{Settled, Unasked}
 use Rattle.promises.specs.Tied.{AllTied, InOrder}
 use Rattle.promises.specs.Why.{Whys}
 use Rattle.promises.specs.Worked.{Worked}
+use Rattle.promises.specs.Writes.{Writes}
 
 pub record Promises : Type 2 where
   -- the contracts are the code's own, settle everything, ask nothing, and always allow an answer
@@ -64,6 +66,9 @@ pub record Promises : Type 2 where
   -- why a node has its label, and why a hop is taken
   pub rattle-whys : Whys library.rattle
   pub c-whys : Whys library.c
+  -- notices that are written
+  pub rattle-writes : Writes library.rattle
+  pub c-writes : Writes library.c
   -- what C and a caller in Rattle have in hand
   pub in-c : InC
   pub in-rattle : InRattle
@@ -101,5 +106,6 @@ pub record Promises : Type 2 where
   pub number : NumberLaws
   pub notice : NoticeLaws
   pub reader : ReaderLaws
+  pub spelling : SpellingLaws
   pub message : MessageLaws
   pub worked : Worked

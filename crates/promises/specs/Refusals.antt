@@ -11,6 +11,8 @@ use Rattle.cube.specs.Tables.{nodeBit}
 use Rattle.groups.specs.Number.{numberAt, refusalIn}
 use Rattle.groups.specs.declared.Number.the-variants.{Value}
 use Rattle.notice.specs.Notice as N
+use Rattle.spelling.specs.Spelled.{noticeBytes}
+use Rattle.writer.specs.Writing as T
 use Rattle.rule.specs.Cabinet.{Cabinet}
 use Rattle.labels.specs.Labelling as L
 use Rattle.hop.specs.Hop as H
@@ -175,6 +177,18 @@ NoticeGiven bytes table =
 abbrev pub DimensionGiven : (bytes : List ℕ) → (k v : ℕ) → Type 0
 DimensionGiven bytes = Due bytes 0 (DimensionWhen []) (1 ∷ []) (λ n at k v. (k ≡ 0) × (v ≡ n))
 
+-- ---- writing the notice of a table of an n-cube, into a buffer of `room` bytes: "1, 2, 3 as in labelling, then 13 exactly if the notice is longer than the
+-- buffer"
+
+pub data WriteWhen (n : ℕ) (faults : List ℕ) (room : ℕ) : ℕ → Type 0 where
+  write-1 : ¬ (Dimension n) → WriteWhen n faults room 1
+  write-2 : ¬ (TableLength n (length faults)) → WriteWhen n faults room 2
+  write-3 : Unused n faults → WriteWhen n faults room 3
+  write-13 : room < length (noticeBytes n faults) → WriteWhen n faults room 13
+
+abbrev pub WriteGiven : (n : ℕ) (faults : List ℕ) (room : ℕ) → ℕ → Type 0
+WriteGiven n faults room = Given (WriteWhen n faults room) (1 ∷ 2 ∷ 3 ∷ 13 ∷ [])
+
 -- ---- each is given then and not otherwise
 
 pub record Refusals : Type 1 where
@@ -190,4 +204,5 @@ pub record Refusals : Type 1 where
   pub walk : (n j s d m room : ℕ) (lab : ℕ → ℕ) → WalkGiven n j s d m room lab (W.refusalOf (W.walked n j s d m room lab .ending))
   pub number : (bytes : List ℕ) (at : ℕ) → NumberGiven bytes at (refusalIn (numberAt bytes at))
   pub notice : (bytes table : List ℕ) → NoticeGiven bytes table (N.refusalOf (N.noticed bytes table)) (N.placeOf (N.noticed bytes table))
+  pub writing : (n : ℕ) (faults : List ℕ) (room : ℕ) → WriteGiven n faults room (T.refusalOf (T.wrote n faults room))
   pub dimension : (bytes : List ℕ) → DimensionGiven bytes (refusalIn (N.dimensionAt bytes)) (N.dimensionValue (N.dimensionAt bytes))

@@ -11,6 +11,7 @@ use Rattle.labels.proofs.Functions as labels
 use Rattle.hop.proofs.Functions as hop
 use Rattle.walk.proofs.Functions as walk
 use Rattle.why.proofs.Functions as why
+use Rattle.writer.proofs.Functions as writer
 use Rattle.hcube.proofs.Functions as hcube
 
 module _ {T : Ended} {A X B : Type 0} (f : Function T A X B) where
@@ -29,6 +30,7 @@ pub record AsSeen : Type 0 where
   pub hcube-why-hop : Answered hcube.why-hop (λ κs r. r)
   pub hcube-notice-dimension : Answered hcube.notice-dimension (λ κs r. r)
   pub hcube-read-notice : Answered hcube.read-notice (λ κs r. r)
+  pub hcube-write-notice : Answered hcube.write-notice (λ κs r. r)
   pub labels-label : Answered labels.label (λ κs r. r)
   pub hop-hop : Answered hop.hop (λ κs r. r)
   pub walk-walk : Answered walk.walk (λ κs r. r)
@@ -37,11 +39,14 @@ pub record AsSeen : Type 0 where
   pub why-why-hop : Answered why.why-hop (λ κs r. r)
   pub notice-dimension : Answered notice.dimension (λ κs r. r)
   pub notice-read : Answered notice.read (λ κs r. r)
-  -- and what is left: the label buffer, the row, the fault table
+  pub writer-write : Answered writer.write (λ κs r. r)
+  -- and what is left: the label buffer, the row, the fault table, the buffer for a notice
   pub hcube-label-left : Leaves hcube.label (λ κs e. now (e .1 .1 .1 .1 .1 .1 .0))
   pub hcube-walk-left : Leaves hcube.walk (λ κs e. now (e .1 .1 .1 .1 .1 .0))
   pub hcube-why-node-left : Leaves hcube.why-node (λ κs e. now (e .1 .1 .1 .1 .1 .1 .1 .0))
   pub hcube-read-notice-left : Leaves hcube.read-notice (λ κs e. now (e .1 .0))
+  pub hcube-write-notice-left : Leaves hcube.write-notice (λ κs e. now (e .1 .1 .0))
   pub labels-label-left : Leaves labels.label (λ κs e. now (e .1 .1 .1 .1 .1 .1 .0))
   pub why-why-node-left : Leaves why.why-node (λ κs e. now (e .1 .1 .1 .1 .1 .1 .1 .0))
   pub notice-read-left : Leaves notice.read (λ κs e. now (e .1 .0))
+  pub writer-write-left : Leaves writer.write (λ κs e. now (e .1 .1 .0))

@@ -10,6 +10,7 @@ use Rattle.labels.proofs.Functions as labels
 use Rattle.hop.proofs.Functions as hop
 use Rattle.walk.proofs.Functions as walk
 use Rattle.why.proofs.Functions as why
+use Rattle.writer.proofs.Functions as writer
 use Rattle.hcube.proofs.Functions as hcube
 
 pub record Settled : Type 0 where
@@ -20,6 +21,7 @@ pub record Settled : Type 0 where
   pub hcube-why-hop : Settles hcube.why-hop
   pub hcube-notice-dimension : Settles hcube.notice-dimension
   pub hcube-read-notice : Settles hcube.read-notice
+  pub hcube-write-notice : Settles hcube.write-notice
   pub labels-label : Settles labels.label
   pub labels-label-refusal : Settles labels.label-refusal
   pub labels-settle : Settles labels.settle
@@ -31,6 +33,7 @@ pub record Settled : Type 0 where
   pub why-why-hop : Settles why.why-hop
   pub notice-dimension : Settles notice.dimension
   pub notice-read : Settles notice.read
+  pub writer-write : Settles writer.write
   -- the returned part: its bytes, and its place in the caller's memory. (The ghost name that the logic gives a reference is not settled: no
   -- program can see it.)
   pub notice-tail : Settles notice.tail
@@ -66,6 +69,7 @@ pub record Unasked : Type 2 where
   pub hcube-why-hop : AsksNothing hcube.why-hop
   pub hcube-notice-dimension : AsksNothing hcube.notice-dimension
   pub hcube-read-notice : AsksNothing hcube.read-notice
+  pub hcube-write-notice : AsksNothing hcube.write-notice
   pub labels-label : AsksNothing labels.label
   pub labels-label-refusal : AsksNothing labels.label-refusal
   pub labels-settle : AsksNothing labels.settle
@@ -77,6 +81,7 @@ pub record Unasked : Type 2 where
   pub why-why-hop : AsksNothing why.why-hop
   pub notice-dimension : AsksNothing notice.dimension
   pub notice-read : AsksNothing notice.read
+  pub writer-write : AsksNothing writer.write
   pub notice-tail : AsksNothing notice.tail
   pub groups-number-at : AsksNothing groups.number-at
   pub reader-new : AsksNothing reader.new

@@ -51,6 +51,8 @@ use Rattle.walk.proofs.walk_for as walk-walk-for
 use Rattle.why.proofs.Functions as why
 use Rattle.why.proofs.why_hop as why-why-hop
 use Rattle.why.proofs.why_node as why-why-node
+use Rattle.writer.proofs.Functions as writer
+use Rattle.writer.proofs.write as writer-write
 use Rattle.hcube.proofs.Functions as hcube
 use Rattle.hcube.proofs.hcube_hop as hcube-hop
 use Rattle.hcube.proofs.hcube_label as hcube-label
@@ -59,6 +61,7 @@ use Rattle.hcube.proofs.hcube_read_notice as hcube-read-notice
 use Rattle.hcube.proofs.hcube_walk as hcube-walk
 use Rattle.hcube.proofs.hcube_why_hop as hcube-why-hop
 use Rattle.hcube.proofs.hcube_why_node as hcube-why-node
+use Rattle.hcube.proofs.hcube_write_notice as hcube-write-notice
 
 module _ {T : Ended} {A X B : Type 0} (f : Function T A X B) (written : Written T) where
   -- a method that holds a borrow, of which the check makes no claims: these are its clauses, and the claim is what whoever has its `ensures` learns
@@ -88,6 +91,9 @@ pub record AllTied : Type 2 where
   pub hcube-read-notice :
       Tied hcube.read-notice (λ w. hcube-read-notice.clauses (w .𝓤) (w .H) (w .𝓖 .A) (w .𝓜 .mem) (w .𝓡 .run))
       hcube-read-notice.Reads.Asked hcube-read-notice.Reads.Post
+  pub hcube-write-notice :
+      Tied hcube.write-notice (λ w. hcube-write-notice.clauses (w .𝓤) (w .H) (w .𝓖 .A) (w .𝓜 .mem) (w .𝓡 .run))
+      hcube-write-notice.Reads.Asked hcube-write-notice.Reads.Post
   pub labels-label :
       Tied labels.label (λ w. labels-label.clauses (w .𝓤) (w .H) (w .𝓖 .A) (w .𝓜 .mem) (w .𝓡 .run))
       labels-label.Reads.Asked labels-label.Reads.Post
@@ -135,6 +141,9 @@ pub record AllTied : Type 2 where
   pub notice-read :
       Tied notice.read (λ w. notice-read.clauses (w .𝓤) (w .H) (w .𝓖 .A) (w .𝓜 .mem) (w .𝓡 .run))
       notice-read.Reads.Asked notice-read.Reads.Post
+  pub writer-write :
+      Tied writer.write (λ w. writer-write.clauses (w .𝓤) (w .H) (w .𝓖 .A) (w .𝓜 .mem) (w .𝓡 .run))
+      writer-write.Reads.Asked writer-write.Reads.Post
   pub notice-tail :
       Tied notice.tail (λ w. notice-tail.clauses (w .𝓤) (w .H) (w .𝓖 .A) (w .𝓜 .mem) (w .𝓡 .run))
       notice-tail.Reads.Asked notice-tail.Reads.Post
@@ -202,6 +211,7 @@ pub record InOrder : Type 0 where
   pub hcube-why-hop : Handed hcube.why-hop (λ κs a. (a .0, a .1 .0, a .1 .1 .0, a .1 .1 .1 .0, now (a .1 .1 .1 .1 .0)))
   pub hcube-notice-dimension : Handed hcube.notice-dimension (λ κs a. now (a .0))
   pub hcube-read-notice : Handed hcube.read-notice (λ κs a. (now (a .0), now (a .1 .0)))
+  pub hcube-write-notice : Handed hcube.write-notice (λ κs a. (a .0, now (a .1 .0), now (a .1 .1 .0)))
   pub labels-label :
       Handed labels.label (λ κs a.
       (a .0, a .1 .0, a .1 .1 .0, now (a .1 .1 .1 .0), now (a .1 .1 .1 .1 .0), now (a .1 .1 .1 .1 .1 .0), now (a .1 .1 .1 .1 .1 .1 .0)))
@@ -222,3 +232,4 @@ pub record InOrder : Type 0 where
   pub why-why-hop : Handed why.why-hop (λ κs a. (a .0, a .1 .0, a .1 .1 .0, a .1 .1 .1 .0, now (a .1 .1 .1 .1 .0)))
   pub notice-dimension : Handed notice.dimension (λ κs a. now (a .0))
   pub notice-read : Handed notice.read (λ κs a. (now (a .0), now (a .1 .0)))
+  pub writer-write : Handed writer.write (λ κs a. (a .0, now (a .1 .0), now (a .1 .1 .0)))

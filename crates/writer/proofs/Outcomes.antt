@@ -1,14 +1,15 @@
 -- An answer of writing, taken apart: a length is that of the notice of a table that is taken, and there was room for it; a refusal is the number that was given.
 use mathlib.Core.List.{List, [], _∷_, _++_}
-use mathlib.Core.Logic.{_≢_}
+use mathlib.Core.Bool.{true, false}
+use mathlib.Core.Logic.{⊎-elim, _≢_}
 use mathlib.Core.Path.{_≡_, refl, sym, ap, _∙_}
 use Prim.Native.Nat.{ℕ, _≤_}
 use native.Mathlib.Omega.{arith}
 use lib.Dec.{eqb, ltb}
 use lib.ListN.{length}
-use borrow.Author.Tests.{eqb-true, ltb-false}
-use Rattle.cube.specs.Refusal.{_⇒_}
-use Rattle.cube.proofs.Bools.{by-cases}
+use borrow.Author.Tests.{eqb-false, eqb-true, ltb-false}
+use Rattle.cube.specs.Refusal.{first, _⇒_}
+use Rattle.cube.proofs.Bools.{by-cases, either}
 use Rattle.cube.proofs.Refusal.{first-le, first-none}
 use Rattle.cube.proofs.Tables.{nodes-few}
 use Rattle.spelling.specs.Laws.{IsTable}
@@ -17,7 +18,7 @@ use Rattle.spelling.proofs.Laws.{spelling-laws}
 use Rattle.writer.specs.Writing.{onWrote, lengthOf, refusalOf, tableTests, writeRefusal, wrote}
 use Rattle.writer.specs.declared.Wrote.{Wrote}
 use Rattle.writer.specs.declared.Wrote.the-variants.{Length, Refused}
-use Rattle.writer.proofs.Refusal.{table-is, wrote-length}
+use Rattle.writer.proofs.Refusal.{has-room, table-first, table-is, table-taken, wrote-length}
 
 module _ (n : ℕ) (faults : List ℕ) (room : ℕ) where
   pub refusal-is : refusalOf (wrote n faults room) ≡ writeRefusal n faults room
@@ -38,6 +39,20 @@ module _ (n : ℕ) (faults : List ℕ) (room : ℕ) where
       let t = first-none 13 (tableTests n faults ++ ltb room (length (noticeBytes n faults)) ⇒ 13 ∷ []) refl e in
       (table-is n faults (t .0, (t .1 .0, (t .1 .1 .0, tt))), ltb-false room (length (noticeBytes n faults)) (t .1 .1 .1 .0))
 
+  -- no notice has more than 4,099 bytes, so a buffer of so many is not too short
+  few : IsTable n faults → length (noticeBytes n faults) ≤ 4099
+  few t = omega (arith, spelling-laws .short n faults t, nodes-few n (t .dimension .1))
+
+  pub room-enough : 4099 ≤ room → writeRefusal n faults room ≢ 13
+  room-enough h e =
+      ⊎-elim
+      (λ (z : eqb (first (tableTests n faults)) 0 ≡ true).
+      let t = table-taken n faults (eqb-true _ 0 z) in
+      omega (arith, e, has-room n faults room t (omega (arith, few t))))
+      (λ (z : eqb (first (tableTests n faults)) 0 ≡ false).
+      omega (arith, e, table-first n faults room (eqb-false _ 0 z), first-le 3 (tableTests n faults) refl))
+      (either (eqb (first (tableTests n faults)) 0))
+
   module _ {len : ℕ} (e : wrote n faults room ≡ Length len) where
     pub none-given : writeRefusal n faults room ≡ 0
     none-given = sym refusal-is ∙ ap refusalOf e
@@ -46,9 +61,7 @@ module _ (n : ℕ) (faults : List ℕ) (room : ℕ) where
     length-is = ap lengthOf (sym e ∙ sym (wrote-length n faults room none-given))
 
     pub length-few : len ≤ 4099
-    length-few =
-        let t = taken none-given .0 in
-        omega (arith, length-is, spelling-laws .short n faults t, nodes-few n (t .dimension .1))
+    length-few = omega (arith, length-is, few (taken none-given .0))
 
   module _ {k : ℕ} (e : wrote n faults room ≡ Refused k) where
     pub given-is : writeRefusal n faults room ≡ k

@@ -35,7 +35,7 @@ returns c =
     let a = c .before .args in (
       omega (arith, one c),
       over-one (a .at) (a .v) (a .out .now) (omega (arith, one c, c .before .pre .1))
-      ∙ ap (λ (g : List ℕ). overAt (a .at) g (a .out .now)) (sym (one-group (c .if1 .taken))),
+          ∙ ap (λ (g : List ℕ). overAt (a .at) g (a .out .now)) (sym (one-group (c .if1 .taken))),
     )
 
 add-out : tie.Need-add-out
@@ -69,7 +69,7 @@ returns-2 c =
     let a = c .before .args in (
       omega (arith, two c),
       over-two (a .at) (128 + a .v % 128) (a .v / 128) (a .out .now) (omega (arith, two c, c .before .pre .1))
-      ∙ ap (λ (g : List ℕ). overAt (a .at) g (a .out .now)) (sym (two-groups (c .if1 .left))),
+          ∙ ap (λ (g : List ℕ). overAt (a .at) g (a .out .now)) (sym (two-groups (c .if1 .left))),
     )
 
 pub put-number-spec : {M : Type 1} → statement M

@@ -45,7 +45,7 @@ sized c =
 -- the length that was added up is the notice's
 length-is : (c : tie.After-struct-known)
     → c .before .before .groups-len .result + c .before .groups-len2 .result + measured c .measure .result .bytes
-      ≡ length (noticeBytes (begun c .args .n) (begun c .args .faults .now))
+    ≡ length (noticeBytes (begun c .args .n) (begun c .args .faults .now))
 length-is c =
     omega (
       arith,
