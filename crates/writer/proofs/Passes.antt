@@ -6,11 +6,11 @@ use mathlib.Core.Path.{_≡_, refl, sym, ap, ap₂, _∙_}
 use Prim.Native.Nat.{ℕ, zero, suc, _+_, _*_, _-_, _/_, _%_, _≤_, _<_}
 use native.Mathlib.Omega.{arith}
 use lib.Dec.{ltb}
-use lib.ListN.{length, length-append}
+use lib.ListN.{getD, length, length-append, set}
 use borrow.Author.Tests.{le-ltb, lt-ltb}
 use Rattle.cube.specs.Over.{overAt}
 use Rattle.cube.proofs.Bools.{by-cases}
-use Rattle.cube.proofs.Over.{length-over, over-none, over-then}
+use Rattle.cube.proofs.Over.{length-over, over-none, over-one, over-then, over-two}
 use Rattle.groups.specs.Number.{groupsOf}
 use Rattle.spelling.specs.Spelled.{addressBytes, having}
 
@@ -27,6 +27,24 @@ two-groups {v} h = rw (le-ltb v 128 h)
 pub few-groups : (v : ℕ) → length (groupsOf v) ≤ 2
 unfolding groupsOf
 few-groups v = by-cases (λ (g : List ℕ). length g ≤ 2) (ltb v 128) (λ e. omega arith) (λ e. omega arith)
+
+pub some-group : (v : ℕ) → 1 ≤ length (groupsOf v)
+unfolding groupsOf
+some-group v = by-cases (λ (g : List ℕ). 1 ≤ length g) (ltb v 128) (λ e. omega arith) (λ e. omega arith)
+
+-- stored at their places, they are written there
+module _ (at v low : ℕ) (s : List ℕ) (first : low ≡ getD (groupsOf v) 0 0) (room : at + length (groupsOf v) ≤ length s) where
+  pub stored-one : v < 128 → set s at low ≡ overAt at (groupsOf v) s
+  stored-one h =
+      let e = one-group h in
+      let l : at + 1 ≤ length s = omega (arith, ap length e) in
+      rw (first, e) (over-one at v s l)
+
+  pub stored-two : 128 ≤ v → set (set s at low) (at + 1) (v / 128) ≡ overAt at (groupsOf v) s
+  stored-two h =
+      let e = two-groups h in
+      let l : at + 2 ≤ length s = omega (arith, ap length e) in
+      rw (first, e) (over-two at (128 + v % 128) (v / 128) s l)
 
 -- ---- the nodes that are left
 

@@ -7,7 +7,7 @@ ghost use Rattle.cube.specs.Tables.{nodeBit, tableLen};
 ghost use Rattle.groups.specs.Number.{groupsOf};
 ghost use Rattle.spelling.specs.Spelled.{addressBytes, faultyNodes, having, noticeBytes};
 ghost use Rattle.writer.specs.Writing.{bufferAfter, tableTests, wrote};
-ghost use lib.ListN.{length};
+ghost use lib.ListN.{getD, length};
 ghost use mathlib.Core.Path.{_≡_};
 use cube::is_dimension;
 use cube::node_bit;
@@ -74,19 +74,27 @@ fn measure(faults: &[u8], size: usize) -> Measured
     Measured { count, bytes }
 }
 
+// The first group of a number: its high bit is set when another follows.
+fn low_group(v: usize) -> u8
+    ensures { λ r. ⌜ r ≡ getD (groupsOf v) 0 0 ⌝ }
+{
+    if v < 128 {
+        return v as u8;
+    }
+    (128 + v % 128) as u8
+}
+
 // Writes a number at a place and answers the place behind it.
 fn put_number(out: &mut [u8], at: usize, v: usize) -> usize
     requires { ⌜ (v < 16384) × (at + length (groupsOf v) ≤ length (now out)) ⌝ }
     ensures next { λ r. ⌜ r ≡ at + length (groupsOf v) ⌝ }
     ensures bytes { λ _. ⌜ now (out .exit) ≡ overAt at (groupsOf v) (now (out .entry)) ⌝ }
 {
-    if v < 128 {
-        out[at] = v as u8;
-        return at + 1;
+    out[at] = low_group(v);
+    if 128 <= v {
+        out[at + 1] = (v / 128) as u8;
     }
-    out[at] = (128 + v % 128) as u8;
-    out[at + 1] = (v / 128) as u8;
-    at + 2
+    at + groups_len(v)
 }
 
 // Writes the addresses of the faulty nodes among the first so many, from a place on.
@@ -97,13 +105,13 @@ fn put_addresses(faults: &[u8], size: usize, out: &mut [u8], start: usize)
 {
     let mut at: usize = start;
     let mut base: usize = 0;
-    let mut k: usize = 0;
-    while k < size {
-        if node_bit(faults, k) {
-            at = put_number(out, at, k - base);
-            base = k + 1;
+    let mut node: usize = 0;
+    while node < size {
+        if node_bit(faults, node) {
+            at = put_number(out, at, node - base);
+            base = node + 1;
         }
-        k += 1;
+        node += 1;
     }
 }
 

@@ -9,10 +9,10 @@ use Rattle.writer.proofs.put_addresses.Statement.{statement}
 use Rattle.writer.proofs.put_addresses.Tie as tie
 
 abbrev Inv-loop : tie.InvT-loop
-Inv-loop faults size out₀ start at₀ base₀ k₀ out at base k = Writing (nodeBit faults) size out₀ start out at base k
+Inv-loop faults size out₀ start at₀ base₀ node₀ out at base k = Writing (nodeBit faults) size out₀ start out at base k
 
 abbrev μ-loop : tie.MeasureT-loop
-μ-loop faults size out₀ start at₀ base₀ k₀ out at base k = size - k
+μ-loop faults size out₀ start at₀ base₀ node₀ out at base k = size - k
 
 loop-holds : tie.Need-loop-holds Inv-loop μ-loop
 loop-holds c = write-start _ _ _ _
@@ -34,8 +34,8 @@ put-number-requires c κs =
 add-base : tie.Need-add-base Inv-loop μ-loop
 add-base c = omega (arith, c .before .before .before .before .before .before .before .before .before .before .pre .0)
 
-add-k : tie.Need-add-k Inv-loop μ-loop
-add-k c = omega (arith, c .before .before .before .before .before .before .pre .0)
+add-node : tie.Need-add-node Inv-loop μ-loop
+add-node c = omega (arith, c .before .before .before .before .before .before .pre .0)
 
 loop-less : tie.Need-loop-less Inv-loop μ-loop
 loop-less c = omega arith
@@ -67,7 +67,7 @@ put-addresses-spec =
     sub-put-number
     put-number-requires
     add-base
-    add-k
+    add-node
     loop-less
     loop-again
     same-length
