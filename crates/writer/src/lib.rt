@@ -90,9 +90,10 @@ fn put_number(out: &mut [u8], at: usize, v: usize) -> usize
     ensures next { λ r. ⌜ r ≡ at + length (groupsOf v) ⌝ }
     ensures bytes { λ _. ⌜ now (out .exit) ≡ overAt at (groupsOf v) (now (out .entry)) ⌝ }
 {
+    let second = at + 1;
     out[at] = low_group(v);
     if 128 <= v {
-        out[at + 1] = (v / 128) as u8;
+        out[second] = (v / 128) as u8;
     }
     at + groups_len(v)
 }

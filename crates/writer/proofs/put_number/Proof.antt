@@ -23,6 +23,9 @@ stored c =
     (λ w. w .1 ∙ stored-one (a .at) (a .v) _ (a .out .now) first room (omega (arith, w .0 .left)))
     (c .if1 .came)
 
+add-second : tie.Need-add-second
+add-second c = search needs
+
 low-group-requires : tie.Need-low-group-requires
 low-group-requires c κs = search needs
 
@@ -31,9 +34,6 @@ slice-write-out c = omega (arith, some-group (c .before .before .args .v), c .be
 
 cast-out : tie.Need-cast-out
 cast-out c = search needs
-
-add-out : tie.Need-add-out
-add-out c = search needs
 
 slice-write-out-2 : tie.Need-slice-write-out-2
 slice-write-out-2 c =
@@ -58,10 +58,10 @@ pub put-number-spec : {M : Type 1} → statement M
 put-number-spec =
     tie.close
     (tie.spec
+    add-second
     low-group-requires
     slice-write-out
     cast-out
-    add-out
     slice-write-out-2
     groups-len-requires
     add-result
