@@ -34,9 +34,9 @@ some-group v = by-cases (λ (g : List ℕ). 1 ≤ length g) (ltb v 128) (λ e. o
 
 -- stored at their places, they are written there
 module _ (at v low : ℕ) (s : List ℕ) (first : low ≡ getD (groupsOf v) 0 0) (room : at + length (groupsOf v) ≤ length s) where
-  pub stored-one : v < 128 → set s at low ≡ overAt at (groupsOf v) s
+  pub stored-one : ¬ (128 ≤ v) → set s at low ≡ overAt at (groupsOf v) s
   stored-one h =
-      let e = one-group h in
+      let e = one-group {v = v} (omega (arith, h)) in
       let l : at + 1 ≤ length s = omega (arith, ap length e) in
       rw (first, e) (over-one at v s l)
 

@@ -20,7 +20,7 @@ stored c =
     let first = c .before .low-group .ensures in
     let room = begun c .pre .1 in
     ⊎-elim (λ w. w .1 ∙ stored-two (a .at) (a .v) _ (a .out .now) first room (w .0 .taken))
-    (λ w. w .1 ∙ stored-one (a .at) (a .v) _ (a .out .now) first room (omega (arith, w .0 .left)))
+    (λ w. w .1 ∙ stored-one (a .at) (a .v) _ (a .out .now) first room (λ h. omega (arith, w .0 .left)))
     (c .if1 .came)
 
 add-second : tie.Need-add-second
