@@ -1,4 +1,4 @@
--- What a buffer holds after something was written into it: "bytes behind it keep their content".
+-- What a buffer holds after something was written into it: bytes before and behind it keep their content.
 use mathlib.Core.List.{List, _++_}
 use Prim.Native.Nat.{ℕ, _+_}
 use lib.ListN.{length, take, drop}
