@@ -59,5 +59,6 @@ void check_written_back(void);    /* written_back.c */
 void check_write_combinations(void); /* written_refused.c */
 void check_write_damaged(void);
 void check_write_dimensions(void);
+void check_write_left(void);
 
 #endif

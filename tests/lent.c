@@ -16,16 +16,24 @@ static uint32_t turn;
 
 static uint8_t guard[GUARD];
 
+static void protect(uint8_t *memory, int how)
+{
+    if (mprotect(memory, ROOM, how)) {
+        perror("mprotect");
+        exit(2);
+    }
+}
+
 static void open_memory(struct lent *lent)
 {
     uint8_t *all = mmap(NULL, ROOM + 2 * PAGE, PROT_NONE,
                         MAP_PRIVATE | MAP_ANONYMOUS, -1, 0);
-    if (all == MAP_FAILED ||
-        mprotect(all + PAGE, ROOM, PROT_READ | PROT_WRITE)) {
+    if (all == MAP_FAILED) {
         perror("mmap");
         exit(2);
     }
     lent->memory = all + PAGE;
+    protect(lent->memory, PROT_READ | PROT_WRITE);
     for (size_t k = 0; k < GUARD; k++)
         guard[k] = (uint8_t)(0xa5 ^ k * 29);
 }
@@ -44,6 +52,14 @@ void lend(struct lent *lent, const uint8_t *content, size_t len)
     lent->bytes = lent->high ? lent->memory + ROOM - len : lent->memory;
     memcpy(lent->bytes, content, len);
     memcpy(guard_of(lent), guard, GUARD);
+}
+
+void lend_to_read(struct lent *lent, const uint8_t *content, size_t len)
+{
+    if (lent->memory)
+        protect(lent->memory, PROT_READ | PROT_WRITE);
+    lend(lent, content, len);
+    protect(lent->memory, PROT_READ);
 }
 
 int lent_is(const struct lent *lent, const uint8_t *content)

@@ -21,8 +21,10 @@ struct lent {
     int high; /* the buffer ends where the memory ends */
 };
 
-/* Lends a copy of `content`. */
+/* Lends a copy of `content`; or one that may only be read, so that a write ends
+ * the process, even one that is taken back. A lent buffer is of one kind always. */
 void lend(struct lent *lent, const uint8_t *content, size_t len);
+void lend_to_read(struct lent *lent, const uint8_t *content, size_t len);
 /* Whether the buffer has this content now and its guard bytes are kept. */
 int lent_is(const struct lent *lent, const uint8_t *content);
 

@@ -176,6 +176,7 @@ static const struct group groups[] = {
     {"write_combinations", check_write_combinations},
     {"write_damaged", check_write_damaged},
     {"write_dimensions", check_write_dimensions},
+    {"write_left", check_write_left},
 };
 
 /* They speak of all that came before them, so that no word runs them alone. */

@@ -1,7 +1,8 @@
 /*
  * written_refused.c: writing a notice with all that it refuses, in every
- * combination; on random damage; and dimensions that would fit once narrowed. What
- * is due stands here once more, and is not asked of the reference.
+ * combination; on random damage; with dimensions that would fit once narrowed; and
+ * on buffers that cannot be written to. What is due stands here once more, as in
+ * combinations.c.
  */
 #include <string.h>
 
@@ -131,5 +132,62 @@ void check_write_dimensions(void)
     }
     for (uint32_t n = 40; n < 600; n++)
         no_dimension(n, 1 + n % 12);
+    end_group();
+}
+
+/* ---- buffers that may only be read: the table always, and what is to be written
+ * to where that is refused */
+
+static void leaves_alone(struct write_question asked, uint32_t answer)
+{
+    static struct lent table, shut, open;
+    struct write_question lent = asked;
+    struct lent *room = HCUBE_REFUSAL(answer) ? &shut : &open;
+    uint32_t got;
+    lend_to_read(&table, asked.faults, asked.faults_len);
+    if (room == &shut)
+        lend_to_read(room, asked.out, asked.out_len);
+    else
+        lend(room, asked.out, asked.out_len);
+    lent.faults = table.bytes;
+    lent.out = room->bytes;
+    got = ask_write(lent);
+    expect(got == answer, "write n=%u, room %u: %08x, not %08x", asked.n,
+           (unsigned)asked.out_len, got, answer);
+}
+
+static void all_left_alone(uint32_t n)
+{
+    static size_t places[MOST_PLACES];
+    static uint8_t notice[HCUBE_NOTICE_BYTES_MAX];
+    struct write_question asked = fit_write(n, faults, out);
+    size_t len;
+    random_faults(n, random_density(n), faults);
+    len = put_notice(n, faults, notice, places);
+    asked.out_len = len + random_below(3);
+    leaves_alone(asked, (uint32_t)len);
+    asked.out_len = len - 1;
+    leaves_alone(asked, REFUSED(13));
+    asked.out_len = random_below((uint32_t)len);
+    leaves_alone(asked, REFUSED(13));
+    asked.out_len = len;
+    asked.n += 16;
+    leaves_alone(asked, REFUSED(1));
+    asked.n = n;
+    asked.faults_len += random_below(2) ? 1 : -(size_t)1;
+    leaves_alone(asked, REFUSED(2));
+    if (n > 2)
+        return;
+    asked.faults_len = 1;
+    faults[0] |= (uint8_t)(1u << ((1u << n) + random_below(8 - (1u << n))));
+    leaves_alone(asked, REFUSED(3));
+}
+
+void check_write_left(void)
+{
+    begin_group("writing, what is only to be read left alone");
+    random_bytes(out, sizeof out);
+    for (unsigned k = 0; k < 600; k++)
+        all_left_alone(1 + k % 12);
     end_group();
 }
