@@ -21,10 +21,12 @@ struct lent {
     int high; /* the buffer ends where the memory ends */
 };
 
-/* Lends a copy of `content`; or one that may only be read, so that a write ends
- * the process, even one that is taken back. A lent buffer is of one kind always. */
+/* Lends a copy of `content`. */
 void lend(struct lent *lent, const uint8_t *content, size_t len);
-void lend_to_read(struct lent *lent, const uint8_t *content, size_t len);
+/* The same, but the bytes from this place on may only be read: a write to one ends
+ * the process, also where it is taken back. A struct is used for either alone. */
+void lend_to_read(struct lent *lent, const uint8_t *content, size_t len,
+                  size_t from);
 /* Whether the buffer has this content now and its guard bytes are kept. */
 int lent_is(const struct lent *lent, const uint8_t *content);
 

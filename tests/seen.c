@@ -142,7 +142,9 @@ void saw_write(struct write_question asked, uint32_t answer,
     if (HCUBE_REFUSAL(answer))
         return;
     SEEN(cube[WRITE][0], asked.n);
-    for (uint32_t at = 1, k = 0; at < HCUBE_VALUE(answer); at += groups, k++) {
+    /* of a long notice the first numbers */
+    for (uint32_t at = 1, k = 0; at < HCUBE_VALUE(answer) && k < 100;
+         at += groups, k++) {
         groups = out[at] < 128 ? 1 : 2;
         SEEN(groups[k < 2 ? k : 2], groups);
     }

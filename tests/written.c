@@ -98,21 +98,23 @@ static void put_row(uint32_t n, uint32_t first, uint32_t distance, uint32_t most
         put_node(faults, k);
 }
 
-/* Whether one of many in the cubes between small ones and the largest is left out. */
-static int is_left_out(uint32_t n)
+/* One of very many: in small cubes as above, in the largest once, in this much room,
+ * and in those between some of them. */
+static void one_of_many(uint32_t n, size_t room)
 {
-    return n > 8 && n < 12 && random_below(8) > 0;
+    if (n <= 8 || random_below(16) == 0)
+        is_written(n);
+    else if (n == 12)
+        write_into(n, room);
 }
 
 /* One node alone, and all but one: each, or in large cubes some of them. */
 static void one_node(uint32_t n)
 {
     for (uint32_t k = 0; k < 1u << n; k++) {
-        if (is_left_out(n))
-            continue;
         clear();
         put_node(faults, k);
-        is_written(n);
+        one_of_many(n, 4);
         if (n > 8 && k % 128 != 127 && k % 129 != 0)
             continue;
         memset(faults, 0xff, ref_fault_bytes(n));
@@ -129,10 +131,8 @@ static void distances(uint32_t n)
 {
     uint32_t nodes = 1u << n;
     for (uint32_t distance = 1; distance < nodes; distance++) {
-        if (is_left_out(n))
-            continue;
         put_row(n, random_below(nodes - distance), distance, 2);
-        is_written(n);
+        one_of_many(n, 6);
     }
     for (uint32_t distance = 126; distance <= 131; distance++)
         for (uint32_t first = 125; first <= 130; first++) {
@@ -142,14 +142,15 @@ static void distances(uint32_t n)
 }
 
 /* Each count, or in large cubes those around which it gets another high group: of
- * the first nodes, of the last ones, and of any. */
+ * the first nodes, of the last ones, and of any. Each of the largest cube besides. */
 static void counts(uint32_t n)
 {
     uint32_t nodes = 1u << n;
     for (uint32_t count = 0; count <= nodes; count++) {
+        put_row(n, 0, 1, count);
+        one_of_many(n, 3 + count);
         if (n > 8 && (count + 2) % 128 > 4)
             continue;
-        put_row(n, 0, 1, count);
         is_written(n);
         put_row(n, nodes - count, 1, count);
         is_written(n);

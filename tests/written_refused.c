@@ -135,22 +135,18 @@ void check_write_dimensions(void)
     end_group();
 }
 
-/* ---- buffers that may only be read: the table always, and what is to be written
- * to where that is refused */
+/* ---- bytes that may only be read: the table, and of what is written to those
+ * behind the notice, or all of them where it is refused */
 
 static void leaves_alone(struct write_question asked, uint32_t answer)
 {
-    static struct lent table, shut, open;
+    static struct lent table, room;
     struct write_question lent = asked;
-    struct lent *room = HCUBE_REFUSAL(answer) ? &shut : &open;
     uint32_t got;
-    lend_to_read(&table, asked.faults, asked.faults_len);
-    if (room == &shut)
-        lend_to_read(room, asked.out, asked.out_len);
-    else
-        lend(room, asked.out, asked.out_len);
+    lend_to_read(&table, asked.faults, asked.faults_len, 0);
+    lend_to_read(&room, asked.out, asked.out_len, HCUBE_VALUE(answer));
     lent.faults = table.bytes;
-    lent.out = room->bytes;
+    lent.out = room.bytes;
     got = ask_write(lent);
     expect(got == answer, "write n=%u, room %u: %08x, not %08x", asked.n,
            (unsigned)asked.out_len, got, answer);
@@ -164,7 +160,7 @@ static void all_left_alone(uint32_t n)
     size_t len;
     random_faults(n, random_density(n), faults);
     len = put_notice(n, faults, notice, places);
-    asked.out_len = len + random_below(3);
+    asked.out_len = len + random_below(random_below(2) ? 3 : 5000);
     leaves_alone(asked, (uint32_t)len);
     asked.out_len = len - 1;
     leaves_alone(asked, REFUSED(13));
