@@ -90,69 +90,80 @@ static void clear(void)
     memset(faults, 0, sizeof faults);
 }
 
-/* Nodes from first on, each so far from the one before, as many as there are. */
-static void put_row(uint32_t n, uint32_t first, uint32_t distance, uint32_t most)
+/* Count nodes from first on, each so far from the one before. */
+static void put_row(uint32_t first, uint32_t distance, uint32_t count)
 {
     clear();
-    for (uint32_t k = first; k < 1u << n && most > 0; k += distance, most--)
-        put_node(faults, k);
+    for (uint32_t k = 0; k < count; k++)
+        put_node(faults, first + k * distance);
 }
 
-/* One of very many: in small cubes as above, in the largest once, in this much room,
- * and in those between some of them. */
-static void one_of_many(uint32_t n, size_t room)
+/* Such a row of nodes, and its notice, which is as short to say. In cubes between
+ * the small ones and the largest only some are tried. */
+static void row_is_written(uint32_t n, uint32_t first, uint32_t distance,
+                           uint32_t count)
 {
-    if (n <= 8 || random_below(16) == 0)
-        is_written(n);
-    else if (n == 12)
-        write_into(n, room);
+    size_t len = put_number(n, put);
+    if (n > 8 && n < 12 && random_below(16) > 0)
+        return;
+    len += put_number(count, put + len);
+    for (uint32_t k = 0; k < count; k++)
+        len += put_number(k == 0 ? first : distance - 1, put + len);
+    put_row(first, distance, count);
+    expect(write_into(n, len + random_below(3)) == len,
+           "n = %u, %u nodes from %u on, by %u: not %u bytes", n, count, first,
+           distance, (unsigned)len);
+    expect(!memcmp(out, put, len), "n = %u, %u nodes from %u on, by %u", n, count,
+           first, distance);
 }
 
-/* One node alone, and all but one: each, or in large cubes some of them. */
-static void one_node(uint32_t n)
+/* All but one. */
+static void all_but(uint32_t n, uint32_t k)
 {
-    for (uint32_t k = 0; k < 1u << n; k++) {
-        clear();
-        put_node(faults, k);
-        one_of_many(n, 4);
-        if (n > 8 && k % 128 != 127 && k % 129 != 0)
-            continue;
-        memset(faults, 0xff, ref_fault_bytes(n));
-        if (n < 3)
-            faults[0] = (uint8_t)((1u << (1u << n)) - 1);
-        faults[k / 8] ^= (uint8_t)(1u << (k % 8));
-        is_written(n);
+    put_row(0, 1, 1u << n);
+    faults[k / 8] ^= (uint8_t)(1u << (k % 8));
+    is_written(n);
+}
+
+/* One node; all but one; two at each distance; as many as each count, the first
+ * ones. */
+static void each_number(uint32_t n)
+{
+    uint32_t nodes = 1u << n;
+    row_is_written(n, 0, 1, 0);
+    for (uint32_t k = 0; k < nodes; k++) {
+        row_is_written(n, k, 1, 1);
+        if (n <= 8 || k % 128 == 127 || k % 129 == 0)
+            all_but(n, k);
+        if (k > 0)
+            row_is_written(n, random_below(nodes - k), k, 2);
+        row_is_written(n, 0, 1, k + 1);
     }
 }
 
-/* Two nodes at each distance; and rows of them at those around which a number gets
- * its second group. */
+/* Rows of nodes at the distances around which a number gets its second group. */
 static void distances(uint32_t n)
 {
     uint32_t nodes = 1u << n;
-    for (uint32_t distance = 1; distance < nodes; distance++) {
-        put_row(n, random_below(nodes - distance), distance, 2);
-        one_of_many(n, 6);
-    }
-    for (uint32_t distance = 126; distance <= 131; distance++)
-        for (uint32_t first = 125; first <= 130; first++) {
-            put_row(n, first == 125 ? 0 : first, distance, nodes);
+    for (uint32_t distance = 126; distance <= 131; distance++) {
+        put_row(0, distance, (nodes - 1) / distance + 1);
+        is_written(n);
+        for (uint32_t first = 126; first <= 130 && first < nodes; first++) {
+            put_row(first, distance, (nodes - 1 - first) / distance + 1);
             is_written(n);
         }
+    }
 }
 
 /* Each count, or in large cubes those around which it gets another high group: of
- * the first nodes, of the last ones, and of any. Each of the largest cube besides. */
+ * the last nodes, and of any. */
 static void counts(uint32_t n)
 {
     uint32_t nodes = 1u << n;
     for (uint32_t count = 0; count <= nodes; count++) {
-        put_row(n, 0, 1, count);
-        one_of_many(n, 3 + count);
         if (n > 8 && (count + 2) % 128 > 4)
             continue;
-        is_written(n);
-        put_row(n, nodes - count, 1, count);
+        put_row(nodes - count, 1, count);
         is_written(n);
         clear();
         for (uint32_t k = 0, left = count; k < nodes; k++)
@@ -168,7 +179,7 @@ void check_written_shapes(void)
 {
     begin_group("notices of one node, two nodes, and each count written");
     for (uint32_t n = 1; n <= 12; n++) {
-        one_node(n);
+        each_number(n);
         distances(n);
         counts(n);
     }
