@@ -1,4 +1,4 @@
-/* check_notice.c: the same for what is read from a notice, and written as one. */
+/* check_notice.c: what check.c does, for notices that are read and written. */
 #include "check.h"
 
 #include <string.h>

@@ -1,5 +1,5 @@
 /*
- * written.c: writing a notice against the reference, which check.c asks: every
+ * written.c: writing a notice against the reference, and as it is said here: every
  * small table, tables of every shape and density, and buffers of every length.
  */
 #include <string.h>
