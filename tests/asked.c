@@ -115,6 +115,16 @@ void keep_notice(const uint8_t *bytes, size_t len, const uint8_t *faults,
     keep_bytes("faults", faults, faults_len);
 }
 
+void keep_write(struct write_question asked)
+{
+    if (!last)
+        return;
+    snprintf(last->call, sizeof last->call, "hcube_write_notice, n %u", asked.n);
+    last->count = 0;
+    keep_bytes("faults", asked.faults, asked.faults_len);
+    keep_bytes("out", asked.out, asked.out_len);
+}
+
 static void print_bytes(const uint8_t *bytes, size_t len)
 {
     for (size_t k = 0; k < len; k++)

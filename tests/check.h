@@ -31,5 +31,6 @@ uint64_t check_notice(const uint8_t *bytes, size_t len,
 /* The same, over a fault table of random bytes that is not kept. */
 uint64_t check_notice_alone(const uint8_t *bytes, size_t len,
                             size_t faults_len);
+uint32_t check_write(struct write_question asked);
 
 #endif

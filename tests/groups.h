@@ -4,6 +4,7 @@
 
 void check_worked_numbers(void);  /* worked.c */
 void check_worked_why(void);      /* worked_why.c */
+void check_worked_notices(void);  /* worked_notice.c */
 void check_most_exchanges(void);  /* exchanges.c */
 void check_one_exchange(void);
 void check_ceilings(void);
@@ -51,5 +52,13 @@ void check_places(void);          /* places.c */
 void check_cut_answers(void);
 void check_long_notices(void);    /* long_notices.c */
 void check_last_place(void);
+void check_written(void);         /* written.c */
+void check_written_shapes(void);
+void check_written_rooms(void);
+void check_written_back(void);    /* written_back.c */
+void check_write_combinations(void); /* written_refused.c */
+void check_write_damaged(void);
+void check_write_dimensions(void);
+void check_write_left(void);
 
 #endif

@@ -23,9 +23,12 @@
     HCUBE_VERSION % 100 != HCUBE_VERSION_PATCH
 #error the version is not made of its parts
 #endif
+#if HCUBE_VERSION < 10200
+#error the version is older than the newest function
+#endif
 #if HCUBE_DIMENSION_MAX != 12 || HCUBE_NODES_MAX != 4096 || \
     HCUBE_LABEL_BYTES_MAX != 8192 || HCUBE_FAULT_BYTES_MAX != 512 || \
-    HCUBE_ROW_BYTES != 34
+    HCUBE_NOTICE_BYTES_MAX != 4099 || HCUBE_ROW_BYTES != 34
 #error the sizes of the largest cube are wrong
 #endif
 HOLDS(most_nodes, HCUBE_NODES_MAX == HCUBE_NODES(HCUBE_DIMENSION_MAX));
@@ -33,6 +36,9 @@ HOLDS(most_labels,
       HCUBE_LABEL_BYTES_MAX == HCUBE_LABEL_BYTES(HCUBE_DIMENSION_MAX));
 HOLDS(most_faults,
       HCUBE_FAULT_BYTES_MAX == HCUBE_FAULT_BYTES(HCUBE_DIMENSION_MAX));
+/* Dimension, a count of two groups, and a byte for each node. */
+HOLDS(longest_notice,
+      HCUBE_NOTICE_BYTES_MAX == 3 + HCUBE_NODES(HCUBE_DIMENSION_MAX));
 
 HOLDS(answer_refusal, HCUBE_REFUSAL(0x08000000u) == HCUBE_TOO_MANY_HOPS);
 HOLDS(answer_kind, HCUBE_KIND(0x0002000bu) == HCUBE_HALTED);
@@ -139,7 +145,8 @@ HOLDS(refusals_1, HCUBE_ACCEPTED == 0 && HCUBE_BAD_DIMENSION == 1 &&
 HOLDS(refusals_6, HCUBE_FAULTY_SOURCE == 6 && HCUBE_FAULTY_TARGET == 7 &&
                       HCUBE_TOO_MANY_HOPS == 8 && HCUBE_CUT_SHORT == 9);
 HOLDS(refusals_10, HCUBE_BAD_GROUP == 10 && HCUBE_BAD_COUNT == 11 &&
-                       HCUBE_BAD_ADDRESS == 12 && HCUBE_BAD_JOB == 19);
+                       HCUBE_BAD_ADDRESS == 12 && HCUBE_NO_ROOM == 13 &&
+                       HCUBE_BAD_JOB == 19);
 
 /* Every macro that takes something, with variables of each type that a caller
  * may have there. */
@@ -149,7 +156,7 @@ size_t sizes_as_size(size_t n, size_t job);
 uint32_t parts_32(uint32_t answer);
 uint64_t parts_64(uint64_t answer);
 uint64_t call_all(const uint8_t *bytes, uint8_t *faults, uint8_t *labels,
-                  uint8_t *row);
+                  uint8_t *row, uint8_t *out);
 const char *words(const uint8_t *row, uint32_t walked, uint32_t hopped);
 
 #define SIZES(n, job)                                                          \
@@ -187,7 +194,7 @@ uint64_t parts_64(uint64_t answer)
 }
 
 uint64_t call_all(const uint8_t *bytes, uint8_t *faults, uint8_t *labels,
-                  uint8_t *row)
+                  uint8_t *row, uint8_t *out)
 {
     static const uint8_t none[HCUBE_FAULT_BYTES_MAX] = {0};
     uint32_t n = HCUBE_VALUE(hcube_notice_dimension(bytes, 12));
@@ -200,6 +207,8 @@ uint64_t call_all(const uint8_t *bytes, uint8_t *faults, uint8_t *labels,
     all += hcube_hop(n, 1, 0, 1, labels, size);
     all += parts_32(hcube_why_hop(n, 1, 0, 1, labels, size));
     all += hcube_walk(n, 1, 0, 1, labels, size, row, HCUBE_ROW_BYTES);
+    all += parts_32(
+        hcube_write_notice(n, faults, table, out, HCUBE_NOTICE_BYTES_MAX));
     return all + parts_64(read) + parts_64(why);
 }
 

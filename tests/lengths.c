@@ -1,7 +1,7 @@
 /*
- * lengths.c: labelling, hop and walk, and the questions that say why, on
- * buffers of every kind of length, and what is refused since a length is right
- * in its low 32 bits alone.
+ * lengths.c: labelling, hop and walk, the questions that say why, and writing a
+ * notice, on buffers of every kind of length, and what is refused since a length
+ * is right in its low 32 bits alone.
  */
 #define _DEFAULT_SOURCE /* MAP_ANONYMOUS, MAP_NORESERVE */
 #include <string.h>
@@ -65,6 +65,27 @@ static void lengths_of_label(uint32_t n, unsigned first, unsigned second)
     }
 }
 
+/* Every kind of length of both buffers; and each length of the table from 0 on that
+ * is not the right one, with room for the notice and without. */
+static void lengths_of_write(uint32_t n)
+{
+    struct write_question asked = fit_write(n, tables[0], row);
+    size_t exact = asked.faults_len, whole = HCUBE_VALUE(check_write(asked));
+    for (unsigned k = 0; k < LENGTHS * LENGTHS; k++) {
+        asked.faults_len = length_number(k % LENGTHS, exact);
+        asked.out_len = length_number(k / LENGTHS, whole);
+        if (asked.faults_len == exact || asked.out_len < 65536)
+            check_write(asked);
+    }
+    for (asked.faults_len = 0; asked.faults_len < 600; asked.faults_len++) {
+        if (asked.faults_len == exact)
+            continue;
+        asked.out_len = asked.faults_len % 2 ? HCUBE_NOTICE_BYTES_MAX : 1;
+        expect(check_write(asked) == REFUSED(2), "write n=%u, a table of %u", n,
+               (unsigned)asked.faults_len);
+    }
+}
+
 /* Labelling, and why a node has its label. */
 static void is_too_long(struct label_question asked, const char *what)
 {
@@ -120,6 +141,26 @@ static void lengths_with(uint8_t *big, size_t beyond)
            "notice's table");
 }
 
+/* Writing the notice of node 5 of n = 3: a table that is too long is refused, and
+ * what is too long for a notice has room for it. */
+static void write_with(uint8_t *big, size_t beyond)
+{
+    static const uint8_t five[1] = {1 << 5};
+    uint8_t small[4] = {0};
+    struct write_question asked = fit_write(3, big, small);
+    asked.faults_len += beyond;
+    asked.out_len = sizeof small;
+    expect(ask_write(asked) == REFUSED(2), "writer's table");
+    asked = fit_write(3, five, big);
+    for (unsigned k = 0; k < 4; k++) {
+        asked.out_len = beyond + k;
+        expect(ask_write(asked) == 3, "room 2^32 + %u", k);
+    }
+    asked.out_len = beyond / 2;
+    expect(ask_write(asked) == 3, "room 2^31");
+    expect(!memcmp(big, "\x03\x01\x05\x00", 4), "another notice of node 5");
+}
+
 static void lengths_beyond_32_bits(void)
 {
     size_t beyond = (size_t)1 << 32;
@@ -132,6 +173,8 @@ static void lengths_beyond_32_bits(void)
         memset(big, 0, 4096);
         label_with(big, beyond);
         lengths_with(big, beyond);
+        memset(big, 0, 4096);
+        write_with(big, beyond);
     }
     munmap(big, beyond + 4096);
 }
@@ -146,6 +189,7 @@ void check_lengths(void)
             random_faults(n, 200, tables[k]);
         lengths_of(n, 0);
         lengths_of(n, 1);
+        lengths_of_write(n);
         for (unsigned k = 0; k < 16; k++)
             if (k % 4 < k / 4)
                 lengths_of_label(n, k % 4, k / 4);

@@ -16,16 +16,24 @@ static uint32_t turn;
 
 static uint8_t guard[GUARD];
 
+static void protect(uint8_t *memory, size_t len, int how)
+{
+    if (mprotect(memory, len, how)) {
+        perror("mprotect");
+        exit(2);
+    }
+}
+
 static void open_memory(struct lent *lent)
 {
     uint8_t *all = mmap(NULL, ROOM + 2 * PAGE, PROT_NONE,
                         MAP_PRIVATE | MAP_ANONYMOUS, -1, 0);
-    if (all == MAP_FAILED ||
-        mprotect(all + PAGE, ROOM, PROT_READ | PROT_WRITE)) {
+    if (all == MAP_FAILED) {
         perror("mmap");
         exit(2);
     }
     lent->memory = all + PAGE;
+    protect(lent->memory, ROOM, PROT_READ | PROT_WRITE);
     for (size_t k = 0; k < GUARD; k++)
         guard[k] = (uint8_t)(0xa5 ^ k * 29);
 }
@@ -35,15 +43,34 @@ static uint8_t *guard_of(const struct lent *lent)
     return lent->high ? lent->bytes - GUARD : lent->bytes + lent->len;
 }
 
+/* Its bytes and its guard are put where they stand now. */
+static void put_bytes(struct lent *lent, const uint8_t *content, size_t len)
+{
+    lent->len = len;
+    memcpy(lent->bytes, content, len);
+    memcpy(guard_of(lent), guard, GUARD);
+}
+
 void lend(struct lent *lent, const uint8_t *content, size_t len)
 {
     if (!lent->memory)
         open_memory(lent);
     lent->high = ++turn * 2654435769u >> 31;
-    lent->len = len;
     lent->bytes = lent->high ? lent->memory + ROOM - len : lent->memory;
-    memcpy(lent->bytes, content, len);
-    memcpy(guard_of(lent), guard, GUARD);
+    put_bytes(lent, content, len);
+}
+
+/* From the second page on the memory is read alone. */
+void lend_to_read(struct lent *lent, const uint8_t *content, size_t len,
+                  size_t from)
+{
+    if (!lent->memory)
+        open_memory(lent);
+    protect(lent->memory + PAGE, ROOM - PAGE, PROT_READ | PROT_WRITE);
+    lent->high = 1; /* the guard stands before it */
+    lent->bytes = lent->memory + PAGE - from;
+    put_bytes(lent, content, len);
+    protect(lent->memory + PAGE, ROOM - PAGE, PROT_READ);
 }
 
 int lent_is(const struct lent *lent, const uint8_t *content)

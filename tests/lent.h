@@ -23,6 +23,10 @@ struct lent {
 
 /* Lends a copy of `content`. */
 void lend(struct lent *lent, const uint8_t *content, size_t len);
+/* The same, but the bytes from this place on may only be read: a write to one ends
+ * the process, also where it is taken back. A struct is used for either alone. */
+void lend_to_read(struct lent *lent, const uint8_t *content, size_t len,
+                  size_t from);
 /* Whether the buffer has this content now and its guard bytes are kept. */
 int lent_is(const struct lent *lent, const uint8_t *content);
 

@@ -110,6 +110,10 @@ static void check_endings_seen(void)
     }
     CAME_UP("notice of n", cube[NOTICE][0], 1, 12);
     CAME_UP("dimension n", cube[DIMENSION][0], 1, 12);
+    CAME_UP("written n", cube[WRITE][0], 1, 12);
+    CAME_UP("groups of a count written", groups[0], 1, 2);
+    CAME_UP("groups of a first address written", groups[1], 1, 2);
+    CAME_UP("groups of a later address written", groups[2], 1, 2);
     end_group();
 }
 
@@ -117,6 +121,7 @@ static void check_endings_seen(void)
 static const struct group groups[] = {
     {"worked_numbers", check_worked_numbers},
     {"worked_why", check_worked_why},
+    {"worked_notices", check_worked_notices},
     {"orders", check_orders},
     {"label_combinations", check_label_combinations},
     {"job_combinations", check_job_combinations},
@@ -164,6 +169,14 @@ static const struct group groups[] = {
     {"cut_answers", check_cut_answers},
     {"long_notices", check_long_notices},
     {"last_place", check_last_place},
+    {"written", check_written},
+    {"written_shapes", check_written_shapes},
+    {"written_rooms", check_written_rooms},
+    {"written_back", check_written_back},
+    {"write_combinations", check_write_combinations},
+    {"write_damaged", check_write_damaged},
+    {"write_dimensions", check_write_dimensions},
+    {"write_left", check_write_left},
 };
 
 /* They speak of all that came before them, so that no word runs them alone. */

@@ -1,6 +1,7 @@
 /*
  * orders.c: for hop, why it is taken, and walk, inputs to which two refusals
- * apply at once, and what asks those of labelling too (orders_label.c).
+ * apply at once, and what asks those of labelling (orders_label.c) and of writing
+ * a notice (orders_notice.c) too.
  */
 #include "orders.h"
 
@@ -206,5 +207,6 @@ void check_orders(void)
     check_order(HOP, hop_answer, hop_orders, COUNT(hop_orders));
     check_order(WHY_HOP, why_hop_answer, hop_orders, COUNT(hop_orders));
     check_order(WALK, walk_answer, walk_orders, COUNT(walk_orders));
+    check_write_orders();
     end_group();
 }

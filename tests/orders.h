@@ -21,15 +21,18 @@ struct order {
                          * no label */
     int faults_more, draining_more, closed_more; /* beyond what fits */
     int labels_more, row_more;
+    int out_more; /* beyond what is enough for every notice */
 };
 
 /* Asks all, and expects that each pair of the refusals of this question, any
- * but those of a notice, is among them. */
+ * but those of a notice that is read, is among them. */
 void check_order(unsigned question,
                  uint64_t (*answer_to)(const struct order *, uint32_t job),
                  const struct order *orders, size_t count);
 
-/* Labelling, and why a node has its label, in orders_label.c. */
+/* Labelling, and why a node has its label, in orders_label.c; writing a notice in
+ * orders_notice.c. */
 void check_label_orders(void);
+void check_write_orders(void);
 
 #endif

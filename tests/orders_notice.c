@@ -1,12 +1,13 @@
 /*
- * orders_notice.c: for the notice reader, inputs to which two refusals apply at once.
- * They are tested from left to right.
+ * orders_notice.c: for the notice reader, and for writing a notice, inputs to which
+ * two refusals apply at once. The reader tests from left to right.
  */
 #include <string.h>
 
 #include "cases.h"
 #include "check.h"
 #include "groups.h"
+#include "orders.h"
 
 static uint8_t bytes[512], read[512];
 
@@ -78,4 +79,72 @@ void check_notice_orders(void)
                (unsigned)notice_orders[k].place, notice_orders[k].second);
     }
     end_group();
+}
+
+/* ---- writing. 1 and 3 meet only where n is right once narrowed. The shortest
+ * notice has 2 bytes, so that a byte of room is too little for any. */
+
+#define NO_BYTE (-HCUBE_NOTICE_BYTES_MAX)
+#define A_BYTE (1 - HCUBE_NOTICE_BYTES_MAX)
+
+static const struct order write_orders[] = {
+    {.first = 1, .second = 2, .n = 0, .faults_more = 1},
+    {.first = 1, .second = 2, .n = 0, .faults_more = -1},
+    {.first = 1, .second = 2, .n = 13, .faults_more = -1},
+    {.first = 1, .second = 2, .n = 13, .faults_more = -512},
+    {.first = 1, .second = 2, .n = 260, .faults_more = 1},
+    {.first = 1, .second = 2, .n = 260, .faults_more = -2},
+    {.first = 1, .second = 3, .n = 0, .fault_byte = 255},
+    {.first = 1, .second = 3, .n = 257, .fault_byte = 4},
+    {.first = 1, .second = 3, .n = 258, .fault_byte = 16},
+    {.first = 1, .second = 3, .n = 258, .fault_byte = 255},
+    {.first = 1, .second = 13, .n = 0, .out_more = NO_BYTE},
+    {.first = 1, .second = 13, .n = 0, .out_more = A_BYTE},
+    {.first = 1, .second = 13, .n = 13, .out_more = NO_BYTE},
+    {.first = 1, .second = 13, .n = 13, .fault_byte = 255},
+    {.first = 1, .second = 13, .n = 260, .out_more = A_BYTE},
+    {.first = 1, .second = 13, .n = 268, .fault_byte = 255, .out_more = -1},
+    {.first = 2, .second = 3, .n = 1, .fault_byte = 4, .faults_more = 1},
+    {.first = 2, .second = 3, .n = 1, .fault_byte = 128, .faults_more = 1},
+    {.first = 2, .second = 3, .n = 2, .fault_byte = 16, .faults_more = 1},
+    {.first = 2, .second = 3, .n = 2, .fault_byte = 255, .faults_more = 3},
+    {.first = 2, .second = 3, .n = 1, .fault_byte = 255, .faults_more = -1},
+    {.first = 2, .second = 3, .n = 2, .fault_byte = 255, .faults_more = -1},
+    {.first = 2, .second = 13, .n = 1, .faults_more = -1, .out_more = A_BYTE},
+    {.first = 2, .second = 13, .n = 1, .faults_more = 1, .out_more = NO_BYTE},
+    {.first = 2, .second = 13, .n = 4, .faults_more = 1, .out_more = A_BYTE},
+    {.first = 2, .second = 13, .n = 4, .faults_more = -1, .out_more = A_BYTE},
+    {.first = 2, .second = 13, .n = 4, .faults_more = -2, .out_more = NO_BYTE},
+    {.first = 2, .second = 13, .n = 12, .fault_byte = 255, .faults_more = 1,
+     .out_more = -1},
+    {.first = 2, .second = 13, .n = 12, .fault_byte = 255, .faults_more = -1,
+     .out_more = -3000},
+    {.first = 3, .second = 13, .n = 1, .fault_byte = 4, .out_more = NO_BYTE},
+    {.first = 3, .second = 13, .n = 1, .fault_byte = 4, .out_more = A_BYTE},
+    {.first = 3, .second = 13, .n = 1, .fault_byte = 128, .out_more = A_BYTE},
+    {.first = 3, .second = 13, .n = 1, .fault_byte = 255,
+     .out_more = A_BYTE + 2},
+    {.first = 3, .second = 13, .n = 2, .fault_byte = 16, .out_more = NO_BYTE},
+    {.first = 3, .second = 13, .n = 2, .fault_byte = 128, .out_more = A_BYTE},
+    {.first = 3, .second = 13, .n = 2, .fault_byte = 255,
+     .out_more = A_BYTE + 4},
+};
+
+/* It names no job. */
+static uint64_t write_answer(const struct order *order, uint32_t job)
+{
+    static uint8_t faults[2048], out[HCUBE_NOTICE_BYTES_MAX];
+    struct write_question asked = fit_write(order->n & 255, faults, out);
+    (void)job;
+    memset(faults, order->fault_byte, sizeof faults);
+    random_bytes(out, HCUBE_NOTICE_BYTES_MAX);
+    asked.n = order->n;
+    asked.faults_len += (size_t)order->faults_more;
+    asked.out_len += (size_t)order->out_more;
+    return check_write(asked);
+}
+
+void check_write_orders(void)
+{
+    check_order(WRITE, write_answer, write_orders, COUNT(write_orders));
 }

@@ -15,6 +15,7 @@ const struct question questions[QUESTIONS] = {
     [WHY_HOP] = {"why a hop", {1, 19, 2, 5, 4, 6}},
     [NOTICE] = {"notice", {9, 10, 1, 2, 11, 12}},
     [DIMENSION] = {"dimension", {9, 10, 1}},
+    [WRITE] = {"write", {1, 2, 3, 13}},
 };
 
 static const uint8_t none[MOST_LENT];
@@ -103,6 +104,16 @@ struct walk_question fit_walk(uint32_t n, uint32_t s, uint32_t d,
     return asked;
 }
 
+struct write_question fit_write(uint32_t n, const uint8_t *faults, uint8_t *out)
+{
+    struct write_question asked = {.n = n,
+                                   .faults = faults,
+                                   .faults_len = ref_fault_bytes(n),
+                                   .out = out,
+                                   .out_len = HCUBE_NOTICE_BYTES_MAX};
+    return asked;
+}
+
 void keep_half(struct label_question asked, uint8_t *half)
 {
     memcpy(half, asked.labels + HCUBE_HALF(asked.n, asked.job),
@@ -159,6 +170,13 @@ uint64_t ask_notice(const uint8_t *bytes, size_t len, uint8_t *faults,
 {
     keep_notice(bytes, len, faults, faults_len);
     return hcube_read_notice(bytes, len, faults, faults_len);
+}
+
+uint32_t ask_write(struct write_question asked)
+{
+    keep_write(asked);
+    return hcube_write_notice(asked.n, asked.faults, asked.faults_len, asked.out,
+                              asked.out_len);
 }
 
 uint32_t row_place(const uint8_t *row, uint32_t k)

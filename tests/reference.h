@@ -1,6 +1,6 @@
 /*
  * reference.h: the rules of docs/RULES.md once more, in plain C, to hold the
- * library and the listing program against. The first seven functions have the
+ * library and the listing program against. The first eight functions have the
  * same interface as the library's.
  */
 #ifndef REFERENCE_H
@@ -40,6 +40,8 @@ uint32_t ref_why_hop(uint32_t n, uint32_t job, uint32_t c, uint32_t d,
 uint32_t ref_notice_dimension(const uint8_t *bytes, size_t len);
 uint64_t ref_read_notice(const uint8_t *bytes, size_t len,
                          uint8_t *faults, size_t faults_len);
+uint32_t ref_write_notice(uint32_t n, const uint8_t *faults, size_t faults_len,
+                          uint8_t *out, size_t out_len);
 
 /* Reads the number at *place and moves the place behind it. 0, or the refusal,
  * and then the place still is where that number begins. */

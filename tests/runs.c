@@ -85,7 +85,7 @@ static void print_end(const struct run *run)
     int status = run->status;
     printf("FAIL library %s: ", run->left->title);
     if (status == 128 + SIGSEGV || status == 128 + SIGBUS)
-        printf("memory outside a lent buffer was touched");
+        printf("memory outside a lent buffer was touched, or one to read written");
     else if (status == 128 + SIGALRM)
         printf("no end after %u seconds", MOST_SECONDS);
     else

@@ -133,3 +133,19 @@ void saw_dimension(uint32_t answer)
     if (HCUBE_REFUSAL(answer) == 0)
         SEEN(cube[DIMENSION][0], HCUBE_VALUE(answer));
 }
+
+void saw_write(struct write_question asked, uint32_t answer,
+               const uint8_t *out)
+{
+    uint32_t groups;
+    SEEN(refusal[WRITE][0], HCUBE_REFUSAL(answer));
+    if (HCUBE_REFUSAL(answer))
+        return;
+    SEEN(cube[WRITE][0], asked.n);
+    /* of a long notice the first numbers */
+    for (uint32_t at = 1, k = 0; at < HCUBE_VALUE(answer) && k < 100;
+         at += groups, k++) {
+        groups = out[at] < 128 ? 1 : 2;
+        SEEN(groups[k < 2 ? k : 2], groups);
+    }
+}

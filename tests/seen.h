@@ -8,8 +8,8 @@
 
 #include "questions.h"
 
-/* By whose call it is: job 0, job 1, or a number that is no job. A notice and its
- * dimension have no job and count as job 0. */
+/* By whose call it is: job 0, job 1, or a number that is no job. A notice, its
+ * dimension and writing one have no job and count as job 0. */
 enum { NO_JOB = 2, WHOSE };
 
 struct seen {
@@ -33,6 +33,8 @@ struct seen {
     unsigned long beside_safe[2][3];   /* safe nodes, by faulty neighbours and
                                         * by those that are not safe */
     unsigned long why_scan[NO_SCAN];   /* that took a hop, as it says itself */
+    unsigned long groups[3][3]; /* of numbers written, by how many each has: the
+                                 * count, the first address, later ones */
     unsigned long tables[8]; /* nodes labelled to n = 5, by the tables that they
                               * are in: 1 faults, 2 draining, 4 closed */
 };
@@ -47,5 +49,8 @@ void saw_why_hop(struct hop_question asked, uint32_t answer);
 void saw_walk(struct walk_question asked, uint32_t answer);
 void saw_notice(uint64_t answer);
 void saw_dimension(uint32_t answer);
+/* `out` is what writing a notice left. */
+void saw_write(struct write_question asked, uint32_t answer,
+               const uint8_t *out);
 
 #endif

@@ -235,21 +235,6 @@ static void none_and_all(void)
     }
 }
 
-/* 200 is C8 01, as the only faulty node of n = 8. */
-static void groups(void)
-{
-    static const uint8_t good[] = {8, 1, 0xc8, 1};
-    static const uint8_t zero[] = {0x81, 0}, high[] = {0x81, 0x81};
-    uint8_t faults[32];
-    memset(faults, 0xee, sizeof faults);
-    expect(check_notice(good, 4, faults, 32) == 0x8000100000004u,
-           "C8 01 is 200");
-    expect(faults[25] == 1, "node 200 is faulty");
-    expect(check_notice(zero, 2, faults, 32) == NOTICE_REFUSED(10, 0), "81 00");
-    expect(check_notice(high, 2, faults, 32) == NOTICE_REFUSED(10, 0), "81 81");
-    expect(check_notice(zero, 1, faults, 32) == NOTICE_REFUSED(9, 0), "81");
-}
-
 void check_worked_numbers(void)
 {
     begin_group("worked numbers");
@@ -263,6 +248,5 @@ void check_worked_numbers(void)
     small_cubes();
     swinging();
     none_and_all();
-    groups();
     end_group();
 }
