@@ -35,14 +35,10 @@ static uint32_t read_once(int side)
     return (uint32_t)answer * 31 + (uint32_t)(answer >> 32);
 }
 
-/* Byte for byte: the whole buffer, and the table that the notice is of. */
-static void prepare(void)
+/* Byte for byte what the archive writes, and the table that it is the notice of. */
+static void expect_bytes(void)
 {
     static uint8_t first[sizeof notice];
-    fault_bytes = HCUBE_FAULT_BYTES(n);
-    notice_bytes = HCUBE_VALUE(write_once(ARCHIVE));
-    expect_alike(write_once, "write");
-    expect_alike(read_once, "read");
     for (int side = ARCHIVE; side < SIDES; side++) {
         memset(notice, UNTOUCHED, sizeof notice);
         write_once(side);
@@ -53,6 +49,15 @@ static void prepare(void)
         read_once(side);
         expect(memcmp(faults, table, fault_bytes) == 0, "read");
     }
+}
+
+static void prepare(void)
+{
+    fault_bytes = HCUBE_FAULT_BYTES(n);
+    notice_bytes = HCUBE_VALUE(write_once(ARCHIVE));
+    expect_alike(write_once, "write");
+    expect_bytes();
+    expect_alike(read_once, "read");
 }
 
 void print_notice_row(const char *name)
