@@ -1,6 +1,7 @@
 /*
  * bench.c: times of the archive as a ratio to the same algorithm in plain C, on
- * tables with and without draining and closed nodes, for either job.
+ * tables with and without draining and closed nodes, for either job; and of
+ * notices.
  *
  *   bench REPETITIONS
  */
@@ -125,6 +126,20 @@ static void print_scaling(void)
     }
 }
 
+/* Last, so that the tables above are those of earlier runs. */
+static void print_notices(void)
+{
+    static const unsigned counts[] = {0, 41, 410, HCUBE_NODES_MAX};
+    char name[32];
+    printf("\nnotices\n n table             bytes      write ratio         read "
+           "ratio\n");
+    for (unsigned k = 0; k < COUNT(counts); k++) {
+        set_random(counts[k], 0, 0);
+        snprintf(name, sizeof name, "%u faults", counts[k]);
+        print_notice_row(name);
+    }
+}
+
 static void print_head(const char *name)
 {
     static const char *const columns[] = {"label", "hop", "walk", "why label",
@@ -154,6 +169,7 @@ int main(int count, char **words)
     print_head("\njob 1, nothing draining or closed\n");
     job = 1;
     print_table();
+    print_notices();
     print_highest();
     return 0;
 }

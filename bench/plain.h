@@ -1,6 +1,7 @@
 /*
- * plain.h: labelling, hop, walk and the questions that say why in plain C,
- * compiled by two compilers (gcc_, clang_); and what its two files share.
+ * plain.h: labelling, hop, walk, the questions that say why, writing a notice and
+ * reading one in plain C, compiled by two compilers (gcc_, clang_); and what its
+ * three files share.
  */
 #ifndef PLAIN_H
 #define PLAIN_H
@@ -26,7 +27,12 @@
                               size_t closed_len, uint8_t *labels,              \
                               size_t labels_len);                              \
     uint32_t prefix##why_hop(uint32_t n, uint32_t job, uint32_t c, uint32_t d, \
-                             const uint8_t *labels, size_t labels_len);
+                             const uint8_t *labels, size_t labels_len);        \
+    uint32_t prefix##write_notice(uint32_t n, const uint8_t *faults,           \
+                                  size_t faults_len, uint8_t *out,             \
+                                  size_t out_len);                             \
+    uint64_t prefix##read_notice(const uint8_t *bytes, size_t len,             \
+                                 uint8_t *faults, size_t faults_len);
 
 DECLARE(gcc_)
 DECLARE(clang_)

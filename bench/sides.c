@@ -1,6 +1,6 @@
 /*
  * sides.c: label, hop, walk and the questions that say why, as the archive and
- * the two C builds answer them.
+ * the two C builds answer them. The notice is in notices.c.
  */
 #include "sides.h"
 
@@ -15,7 +15,6 @@
 
 #define PAIRS 512u
 #define WHYS 8u /* nodes whose label is asked about; one of them is measured */
-#define UNTOUCHED 0xff
 
 uint32_t n, rule, job;
 uint8_t faults[MOST_TABLE], draining[MOST_TABLE], closed[MOST_TABLE];
@@ -88,7 +87,7 @@ static uint32_t why_hop_all(int side)
 
 /* ---- the three sides answer alike, or the times say nothing */
 
-static void expect(int alike, const char *name)
+void expect(int alike, const char *name)
 {
     if (alike)
         return;
@@ -96,7 +95,7 @@ static void expect(int alike, const char *name)
     exit(1);
 }
 
-static void expect_alike(asked *question, const char *name)
+void expect_alike(asked *question, const char *name)
 {
     uint32_t answer = question(ARCHIVE);
     expect(answer == question(GCC) && answer == question(CLANG), name);

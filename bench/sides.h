@@ -1,5 +1,5 @@
 /*
- * sides.h: what the three sides are asked, and a row of their times. The input is
+ * sides.h: what the three sides are asked, and rows of their times. The input is
  * set in these variables; the tables have room for every dimension.
  */
 #ifndef SIDES_H
@@ -7,7 +7,10 @@
 
 #include <stdint.h>
 
+#include "times.h"
+
 #define MOST_TABLE 512
+#define UNTOUCHED 0xff /* what a buffer holds before */
 
 extern uint32_t n, rule, job;
 extern uint8_t faults[MOST_TABLE], draining[MOST_TABLE], closed[MOST_TABLE];
@@ -15,8 +18,14 @@ extern uint8_t faults[MOST_TABLE], draining[MOST_TABLE], closed[MOST_TABLE];
 /* A random node of the cube. */
 uint32_t random_node(void);
 
-/* Ends the run where the three sides do not answer alike, since the times would
- * say nothing then; else measures and prints a row. */
+/* Ends the run where the sides differ in this, since the times would say nothing
+ * then; the second asks each of them. */
+void expect(int alike, const char *name);
+void expect_alike(asked *question, const char *name);
+
+/* Measures and prints a row, if the three sides answer alike: of the questions
+ * about labels (sides.c), and of the notice of `faults` (notices.c). */
 void print_row(const char *name);
+void print_notice_row(const char *name);
 
 #endif

@@ -10,8 +10,9 @@ for k in 1 5 6 7 9 10 11 12; do echo "$k $(words $k)"; done >wanted
 page | sed -n 's/^| \([0-9][0-9]*\) | \([^|]*\) | .*/\1 \2/p' >got
 cmp wanted got
 result $? "README.md: $(wc -l <got) refusals in words"
-page | awk '/^    tools\/list/ { n++; sub(/^    tools\/list/, ""); print >("example." n); next }
-    /^    / && n { sub(/^    /, ""); print >("example." n ".wanted") }'
+page | awk '/^    tools\// { on = /^    tools\/list/ } # the examples of tools/notice are those of tests/notice
+    /^    tools\/list/ { n++; sub(/^    tools\/list/, ""); print >("example." n); next }
+    /^    / && on { sub(/^    /, ""); print >("example." n ".wanted") }'
 for example in example.?; do
     # shellcheck disable=SC2046
     "$list" $(cat "$example") >got 2>&1
@@ -40,7 +41,7 @@ result $? "a full disk: $(cat err)"
 # A copy of the repository, where blanks are in every path; a link to its tool; and a
 # stand-in for rt, which notes that it was asked, copies the program, and wants no input.
 mkdir -p bin 'a copy/tools' 'a copy/tests' 'a copy/crates' 'a folder'
-cp "$root/tools/list" 'a copy/tools'
+cp "$root/tools/list" "$root/tools/hex.sh" 'a copy/tools'
 cp "$root/tests/host.sh" "$root/tests/work.sh" 'a copy/tests'
 cp -r "$root/include" 'a copy'
 ln -s '../a copy/tools/list' 'a folder/linked list'

@@ -2,7 +2,7 @@
 /*
  * An example of a kernel module that calls the functions of hcube.h; the calls are in stored.c. At load it labels each
  * stored cube for both jobs in one buffer, asks why each node of either has its label, and hop, why that hop, and walk
- * for all pairs, reads the stored notices, compares with the stored answers and prints one line.
+ * for all pairs, reads the stored notices, writes others, compares with the stored answers and prints one line.
  */
 #include <linux/init.h>
 #include <linux/kernel.h>
@@ -50,7 +50,7 @@ static size_t __init wrong_answers(const struct hcube_cube *cube, uint8_t *label
 static int __init hcube_example_init(void)
 {
 	uint8_t *labels = kmalloc(HCUBE_LABEL_BYTES(12), GFP_KERNEL); /* too much for the kernel's stack */
-	size_t k, whys = 0, pairs = 0, wrong;
+	size_t k, whys = 0, pairs = 0, wrong, writings;
 	int error;
 
 	if (!labels)
@@ -58,14 +58,18 @@ static int __init hcube_example_init(void)
 	wrong = hcube_wrong_notices();
 	if (wrong)
 		pr_err("hcube_example: %zu notices wrong\n", wrong);
+	writings = hcube_wrong_writings();
+	if (writings)
+		pr_err("hcube_example: %zu notices written wrong\n", writings);
+	wrong += writings;
 	for (k = 0; k < hcube_stored_count; k++) {
 		wrong += wrong_answers(&hcube_stored[k], labels);
 		whys += HCUBE_JOBS * hcube_whys(&hcube_stored[k]);
 		pairs += HCUBE_JOBS * hcube_pairs(&hcube_stored[k]);
 	}
 	kfree(labels);
-	pr_info("hcube_example: %zu cubes labelled for two jobs, %zu nodes, %zu pairs and %zu notices compared, %zu wrong\n",
-		hcube_stored_count, whys, pairs, hcube_notice_count, wrong);
+	pr_info("hcube_example: %zu cubes labelled for two jobs, %zu nodes, %zu pairs, %zu notices read and %zu written compared, %zu wrong\n",
+		hcube_stored_count, whys, pairs, hcube_notice_count, hcube_writing_count, wrong);
 	error = wrong ? -EIO : hcube_jobs_compare();
 	return error ? error : hcube_hammer_start();
 }

@@ -2,9 +2,9 @@
 /*
  * The load of kernel/test; a driver needs nothing of it. Whoever writes a number of milliseconds to /proc/hcube_demo,
  * which has the module's name, has all stored answers compared again and again for that long, in his own process and
- * with interrupts on. Meanwhile a timer interrupts every 100 microseconds and compares four things itself: a pair, of
+ * with interrupts on. Meanwhile a timer interrupts every 100 microseconds and compares five things itself: a pair, of
  * each cube and of either job in turn; one of the job that the process is not at work for, in the very buffer that it
- * is at work in; a node of that job there, which labels it once more; and a notice.
+ * is at work in; a node of that job there, which labels it once more; a notice that is read; and one that is written.
  */
 #include <linux/atomic.h>
 #include <linux/hrtimer.h>
@@ -22,7 +22,7 @@
 #define HAMMER_FILE KBUILD_MODNAME
 #define HAMMER_PERIOD ns_to_ktime(100 * 1000)
 
-static atomic64_t pairs, interrupts, beside, whys, whys_beside, notices, wrong;
+static atomic64_t pairs, interrupts, beside, whys, whys_beside, notices, writings, wrong;
 
 struct hammer {
 	struct hrtimer timer;
@@ -80,6 +80,8 @@ static enum hrtimer_restart interrupted(struct hrtimer *timer)
 	compare_beside(hammer);
 	if (!hcube_notice_is_right(&hcube_notices[hammer->turn % hcube_notice_count]))
 		atomic64_inc(&wrong);
+	if (!hcube_writing_is_right(&hcube_writings[hammer->turn % hcube_writing_count]))
+		atomic64_inc(&wrong);
 	atomic64_inc(&interrupts);
 	hrtimer_forward_now(timer, HAMMER_PERIOD);
 	return HRTIMER_RESTART;
@@ -114,6 +116,8 @@ static void compare(const struct hcube_cube *cube, uint32_t job, uint8_t *labels
 	atomic64_add(hcube_pairs(cube), &pairs);
 	atomic64_add(hcube_wrong_notices(), &wrong);
 	atomic64_add(hcube_notice_count, &notices);
+	atomic64_add(hcube_wrong_writings(), &wrong);
+	atomic64_add(hcube_writing_count, &writings);
 }
 
 /* Each job in turn, while the timer asks the other one. */
@@ -171,10 +175,11 @@ int hcube_hammer_start(void)
 void hcube_hammer_stop(void)
 {
 	remove_proc_entry(HAMMER_FILE, NULL);
-	pr_info("hcube_hammer: %lld pairs compared, %lld in interrupts, %lld beside the other job at work, %lld nodes compared, %lld beside the other job at work, %lld notices compared, %lld in interrupts, %lld wrong\n",
+	pr_info("hcube_hammer: %lld pairs compared, %lld in interrupts, %lld beside the other job at work, %lld nodes compared, %lld beside the other job at work, %lld notices read, %lld in interrupts, %lld written, %lld in interrupts, %lld wrong\n",
 		(long long)(atomic64_read(&pairs) + atomic64_read(&interrupts) + atomic64_read(&beside)),
 		(long long)atomic64_read(&interrupts), (long long)atomic64_read(&beside),
 		(long long)(atomic64_read(&whys) + atomic64_read(&whys_beside)), (long long)atomic64_read(&whys_beside),
 		(long long)(atomic64_read(&notices) + atomic64_read(&interrupts)), (long long)atomic64_read(&interrupts),
+		(long long)(atomic64_read(&writings) + atomic64_read(&interrupts)), (long long)atomic64_read(&interrupts),
 		(long long)atomic64_read(&wrong));
 }

@@ -1,7 +1,8 @@
 // SPDX-License-Identifier: GPL-2.0-only OR MIT
 /*
- * Writes notices.h, the notices that the module reads, with the answers of tests/reference_notice.c: that of each
- * stored cube, and each of these with one thing wrong, at each of its numbers in turn. It runs where the module is built.
+ * Writes notices.h: the notices that the module reads, with the answers of tests/reference_notice.c, and the fault tables
+ * whose notices it writes, with those of reference_write.c. They are those of each stored cube, and each of these with
+ * one thing wrong, of a notice at each of its numbers in turn. It runs where the module is built.
  */
 #include "cubes.h"
 #include "reference.h"
@@ -42,7 +43,7 @@ static const struct cube more[] = {
 	{ .name = "all", .n = 2, .faults = { 4, { 0, 1, 2, 3 } } },
 };
 
-static unsigned int answered[256]; /* how many notices have each refusal */
+static unsigned int answered[256], written[256]; /* how many notices and tables have each refusal */
 
 static void put(struct notice *notice, const uint8_t *bytes, size_t len)
 {
@@ -140,33 +141,97 @@ static void print_notices(const struct cube *cube)
 	}
 }
 
-/* Whether there are accepted notices, and some with each refusal; says how many. */
-static int all_came_up(void)
+static void print_writing(uint32_t n, const uint8_t *table, size_t table_len, size_t room)
 {
-	static const uint8_t refusals[] = { 0, 9, 10, 1, 2, 11, 12 };
+	uint8_t bytes[NOTICE_BYTES];
+	uint32_t answer;
+
+	memset(bytes, UNTOUCHED, sizeof bytes);
+	answer = ref_write_notice(n, table, table_len, bytes, room);
+	written[answer >> 24]++;
+	printf("{%uu, ", n);
+	print_bytes(table, TABLE_BYTES);
+	printf(", %zu, %zu, %uu, ", table_len, room, answer);
+	print_bytes(bytes, sizeof bytes);
+	printf("},\n");
+}
+
+/* With room for nothing, for a byte less than all, for all, and for more. */
+static void print_rooms(uint32_t n, const uint8_t *table, size_t table_len, size_t notice_len)
+{
+	print_writing(n, table, table_len, 0);
+	print_writing(n, table, table_len, notice_len - 1);
+	print_writing(n, table, table_len, notice_len);
+	print_writing(n, table, table_len, notice_len + 2);
+}
+
+static void print_writings(const struct cube *cube)
+{
+	static const uint32_t others[] = { 0, 13, 0x80000001 }; /* are no dimensions */
+	uint8_t table[TABLE_BYTES] = { 0 };
+	size_t len = ref_fault_bytes(cube->n), notice_len, k;
+	struct row row = row_of(cube);
+	struct notice notice = { .len = 0 };
+
+	put_numbers(&notice, row.values, row.count);
+	notice_len = notice.len;
+	for (k = 0; k < (size_t)cube->faults.count; k++)
+		table[cube->faults.nodes[k] / 8] |= 1 << cube->faults.nodes[k] % 8;
+	print_rooms(cube->n, table, len, notice_len);
+	for (k = 0; k < sizeof others / sizeof others[0]; k++)
+		print_rooms(others[k], table, len, notice_len);
+	print_rooms(cube->n, table, 0, notice_len);
+	print_rooms(cube->n, table, len - 1, notice_len);
+	print_rooms(cube->n, table, len + 1, notice_len);
+	for (k = (size_t)1 << cube->n; k < 8; k++) { /* bits that a table of this cube has no node for */
+		table[0] ^= 1 << k;
+		print_rooms(cube->n, table, len, notice_len);
+		table[0] ^= 1 << k;
+	}
+}
+
+/* Whether some have each of these refusals, 0 for none; says how many. */
+static int came_up(const char *what, const unsigned int *counts, const uint8_t *refusals, size_t count)
+{
 	int is_all = 1;
 	size_t k;
 
-	for (k = 0; k < sizeof refusals; k++) {
-		printf("/* refusal %d: %u notices */\n", refusals[k], answered[refusals[k]]);
-		is_all &= answered[refusals[k]] >= 20;
+	for (k = 0; k < count; k++) {
+		printf("/* refusal %d: %u %s */\n", refusals[k], counts[refusals[k]], what);
+		is_all &= counts[refusals[k]] >= 20;
 	}
 	return is_all;
 }
 
-int main(void)
+static int all_came_up(void)
+{
+	static const uint8_t of_notices[] = { 0, 9, 10, 1, 2, 11, 12 }, of_tables[] = { 0, 1, 2, 3, 13 };
+
+	return came_up("notices", answered, of_notices, sizeof of_notices) &
+	       came_up("tables", written, of_tables, sizeof of_tables);
+}
+
+/* For the cubes and those besides. */
+static void print_all(void (*print)(const struct cube *cube))
 {
 	size_t k;
 
+	for (k = 0; k < CUBES; k++)
+		print(&cubes[k]);
+	for (k = 0; k < sizeof more / sizeof more[0]; k++)
+		print(&more[k]);
+	printf("};\n");
+}
+
+int main(void)
+{
 	printf("/* SPDX-License-Identifier: GPL-2.0-only OR MIT */\n/* Written by make_notices. */\n");
 	printf("static const struct hcube_notice notices[] = {\n");
-	for (k = 0; k < CUBES; k++)
-		print_notices(&cubes[k]);
-	for (k = 0; k < sizeof more / sizeof more[0]; k++)
-		print_notices(&more[k]);
-	printf("};\n");
+	print_all(print_notices);
+	printf("static const struct hcube_writing writings[] = {\n");
+	print_all(print_writings);
 	if (all_came_up())
 		return 0;
-	fprintf(stderr, "make_notices: a refusal came up in fewer than 20 notices\n");
+	fprintf(stderr, "make_notices: a refusal came up in fewer than 20 notices or tables\n");
 	return 1;
 }

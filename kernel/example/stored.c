@@ -1,7 +1,7 @@
 // SPDX-License-Identifier: GPL-2.0-only OR MIT
 /*
- * Calls the functions of hcube.h on the stored cubes and notices, and compares with the stored answers. It calls
- * nothing else of the module.
+ * Calls the functions of hcube.h on the stored cubes, notices and tables, and compares with the stored answers. It
+ * calls nothing else of the module.
  */
 #include <linux/kernel.h>
 #include <linux/string.h>
@@ -15,6 +15,8 @@ const struct hcube_cube *const hcube_stored = hcube_cubes;
 const size_t hcube_stored_count = ARRAY_SIZE(hcube_cubes);
 const struct hcube_notice *const hcube_notices = notices;
 const size_t hcube_notice_count = ARRAY_SIZE(notices);
+const struct hcube_writing *const hcube_writings = writings;
+const size_t hcube_writing_count = ARRAY_SIZE(writings);
 
 uint32_t hcube_label_stored(const struct hcube_cube *cube, uint32_t job, const struct hcube_closing *closing,
 			    uint8_t *labels)
@@ -115,5 +117,24 @@ size_t hcube_wrong_notices(void)
 
 	for (k = 0; k < hcube_notice_count; k++)
 		wrong += !hcube_notice_is_right(&hcube_notices[k]);
+	return wrong;
+}
+
+bool hcube_writing_is_right(const struct hcube_writing *writing)
+{
+	uint8_t bytes[STORED_NOTICE_BYTES];
+
+	memset(bytes, HCUBE_UNTOUCHED, sizeof(bytes));
+	return hcube_write_notice(writing->n, writing->table, writing->table_len, bytes, writing->room) ==
+		       writing->written &&
+	       memcmp(bytes, writing->bytes, sizeof(bytes)) == 0;
+}
+
+size_t hcube_wrong_writings(void)
+{
+	size_t wrong = 0, k;
+
+	for (k = 0; k < hcube_writing_count; k++)
+		wrong += !hcube_writing_is_right(&hcube_writings[k]);
 	return wrong;
 }

@@ -49,10 +49,22 @@ struct hcube_notice {
 	uint8_t table[STORED_TABLE_BYTES]; /* what the table holds then; a byte that is not written keeps HCUBE_UNTOUCHED */
 };
 
+/* A fault table, good or bad, whose notice is written, and the answer. */
+struct hcube_writing {
+	uint32_t n;
+	uint8_t table[STORED_TABLE_BYTES];
+	size_t table_len; /* of the table that is lent */
+	size_t room; /* of the buffer that is lent */
+	uint32_t written; /* what hcube_write_notice answers */
+	uint8_t bytes[STORED_NOTICE_BYTES]; /* what the buffer holds then; a byte that is not written keeps HCUBE_UNTOUCHED */
+};
+
 extern const struct hcube_cube *const hcube_stored;
 extern const size_t hcube_stored_count;
 extern const struct hcube_notice *const hcube_notices;
 extern const size_t hcube_notice_count;
+extern const struct hcube_writing *const hcube_writings;
+extern const size_t hcube_writing_count;
 
 /* Ends may be one above the last node, which is refused. */
 static inline size_t hcube_pairs(const struct hcube_cube *cube)
@@ -106,5 +118,11 @@ bool hcube_notice_is_right(const struct hcube_notice *notice);
 
 /* How many of all notices are not. */
 size_t hcube_wrong_notices(void);
+
+/* Writes the notice, and says whether the answer and every byte of the buffer and behind it are as stored. */
+bool hcube_writing_is_right(const struct hcube_writing *writing);
+
+/* How many of all that are written are not. */
+size_t hcube_wrong_writings(void);
 
 #endif
