@@ -103,6 +103,18 @@ find_archive() {
     [ -f "$ARCHIVE" ] || give_up "ARCHIVE is no file: $ARCHIVE"
 }
 
+# Makes `program` the C program of a tool, compiled with the archive. It is made anew for
+# each call, but in the folder PROGRAMS, where set, it is kept: a test makes it once.
+find_program() { # TOOL
+    find_compiler
+    find_archive
+    program=${PROGRAMS:-$work}/$1
+    # shellcheck disable=SC2086
+    [ -n "${PROGRAMS:-}" ] && [ -f "$program" ] ||
+        run_child $CC -std=c99 -O2 -Wall -Wextra -Werror -Iinclude -o "$program" "tools/$1.c" "$ARCHIVE" $c_flags ||
+        give_up "tools/$1.c could not be compiled"
+}
+
 # The same for LISTING, the listing program.
 find_listing() {
     if [ -z "${LISTING:-}" ]; then
