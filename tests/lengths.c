@@ -158,7 +158,10 @@ static void write_with(uint8_t *big, size_t beyond)
     }
     asked.out_len = beyond / 2;
     expect(ask_write(asked) == 3, "room 2^31");
-    expect(!memcmp(big, "\x03\x01\x05\x00", 4), "another notice of node 5");
+    expect(!memcmp(big, "\x03\x01\x05", 3), "another notice of node 5");
+    for (size_t k = 3; k < 2 * HCUBE_NOTICE_BYTES_MAX; k++)
+        expect(big[k] == 0 && big[beyond - k] == 0, "behind the notice: %u",
+               (unsigned)k);
 }
 
 static void lengths_beyond_32_bits(void)
@@ -174,6 +177,7 @@ static void lengths_beyond_32_bits(void)
         label_with(big, beyond);
         lengths_with(big, beyond);
         memset(big, 0, 4096);
+        memset(big + beyond, 0, 4096);
         write_with(big, beyond);
     }
     munmap(big, beyond + 4096);

@@ -9,9 +9,10 @@
 
 #define PAGE 65536u /* at least the page of any machine */
 #define GUARD 64u
-#define ROOM ((MOST_LENT + GUARD + PAGE - 1) / PAGE * PAGE)
+#define ROOM ((MOST_LENT + 2 * GUARD + PAGE - 1) / PAGE * PAGE)
 
-/* Which side a buffer stands at changes from call to call, in no short row. */
+/* Which side a buffer stands at changes from call to call, in no short row. At the
+ * low side it stands some bytes further in every second time, at any address. */
 static uint32_t turn;
 
 static uint8_t guard[GUARD];
@@ -53,10 +54,13 @@ static void put_bytes(struct lent *lent, const uint8_t *content, size_t len)
 
 void lend(struct lent *lent, const uint8_t *content, size_t len)
 {
+    uint32_t place = ++turn * 2654435769u;
     if (!lent->memory)
         open_memory(lent);
-    lent->high = ++turn * 2654435769u >> 31;
+    lent->high = place >> 31;
     lent->bytes = lent->high ? lent->memory + ROOM - len : lent->memory;
+    if (!lent->high && place >> 30)
+        lent->bytes += place % GUARD;
     put_bytes(lent, content, len);
 }
 

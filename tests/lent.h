@@ -15,7 +15,7 @@
 #define MOST_LENT (1u << 17)
 
 struct lent {
-    uint8_t *memory; /* MOST_LENT + GUARD bytes between two closed pages */
+    uint8_t *memory; /* MOST_LENT and two guards, between closed pages */
     uint8_t *bytes;
     size_t len;
     int high; /* the buffer ends where the memory ends */

@@ -143,7 +143,8 @@ static void leaves_alone(struct write_question asked, uint32_t answer)
     static struct lent table, room;
     struct write_question lent = asked;
     uint32_t got;
-    lend_to_read(&table, asked.faults, asked.faults_len, 0);
+    lend_to_read(&table, asked.faults, asked.faults_len,
+                 random_below(2) ? 0 : random_below(64));
     lend_to_read(&room, asked.out, asked.out_len, HCUBE_VALUE(answer));
     lent.faults = table.bytes;
     lent.out = room.bytes;

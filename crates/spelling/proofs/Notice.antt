@@ -28,7 +28,7 @@ use Rattle.spelling.specs.Laws.{Bytes, IsTable, ReadsBack}
 use Rattle.spelling.proofs.Numbers.{number-here, behind-here, number-spelled}
 use Rattle.spelling.proofs.Addresses.{ReadHere, read-here, addresses-spelled}
 use Rattle.spelling.proofs.Having.{having-count, having-is}
-use Rattle.spelling.proofs.Tables.{nodes-rise, table-again}
+use Rattle.spelling.proofs.Tables.{bytes-bits, bytes-zeros, nodes-rise, table-again}
 
 -- ---- the notice of a table, before any other bytes
 
@@ -121,6 +121,10 @@ module _ (s before : List ℕ) (n m taken : ℕ) (e : noticed s before ≡ Notic
   is-table =
       let w = notice-laws .written s before n m taken e in
       record { dimension = notice-laws .accepted s before n m taken e .dimension; sized = w .sized; unused = w .unused }
+
+  pub table-bytes : Bytes (tableAfter s before)
+  unfolding tableAfter
+  table-bytes = rw e (bytes-bits (replicate (length before) 0) (addressesOf s) (bytes-zeros (length before)))
 
   module _ (bytes : Bytes s) where
     bytes-from : (k : ℕ) → Bytes (drop k s)

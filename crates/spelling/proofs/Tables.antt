@@ -34,12 +34,12 @@ bytes-set (y ∷ t) zero x b h (suc i) = b (suc i)
 bytes-set (y ∷ t) (suc j) x b h zero = b zero
 bytes-set (y ∷ t) (suc j) x b h (suc i) = bytes-set t j x (λ k. b (suc k)) h i
 
-bytes-zeros : (m : ℕ) → Bytes (replicate m 0)
+pub bytes-zeros : (m : ℕ) → Bytes (replicate m 0)
 bytes-zeros zero i = omega arith
 bytes-zeros (suc m) zero = omega arith
 bytes-zeros (suc m) (suc i) = bytes-zeros m i
 
-bytes-bits : (t l : List ℕ) → Bytes t → Bytes (withBits t l)
+pub bytes-bits : (t l : List ℕ) → Bytes t → Bytes (withBits t l)
 unfolding withBit withBits
 bytes-bits t [] b = b
 bytes-bits t (a ∷ l) b =

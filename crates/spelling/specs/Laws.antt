@@ -34,6 +34,7 @@ pub record SpellingLaws : Type 0 where
   pub reads-back : (n : ℕ) (faults rest : List ℕ) → IsTable n faults → ReadsBack n faults (noticeBytes n faults ++ rest) (length (noticeBytes n faults))
   -- "writing what an accepted notice gave yields the bytes that it took"
   pub is-table : (s before : List ℕ) (n m taken : ℕ) → noticed s before ≡ Notice n m taken → IsTable n (tableAfter s before)
+  pub bytes : (s before : List ℕ) (n m taken : ℕ) → noticed s before ≡ Notice n m taken → Bytes (tableAfter s before)
   pub spelled : (s before : List ℕ) (n m taken : ℕ) → Bytes s → noticed s before ≡ Notice n m taken → noticeBytes n (tableAfter s before) ≡ take taken s
   -- "so each table has one notice"
   pub one-notice :
