@@ -1,15 +1,13 @@
 -- Writing a notice, of any library that is faithful to the definitions: what was written is the notice of the table over the front of the buffer, so it reads
 -- back; and what an accepted notice gave is spelled as the bytes that it took.
 use mathlib.Core.List.{List, _++_}
-use mathlib.Core.Path.{_≡_, refl, sym, ap, subst, _∙_}
-use Prim.Native.Nat.{ℕ, _≤_, _<_}
+use mathlib.Core.Path.{_≡_, sym, ap, subst, _∙_}
+use Prim.Native.Nat.{ℕ, _≤_}
 use native.Mathlib.Omega.{arith}
 use lib.ListN.{drop, length, take, take-append-drop}
 use lib.Seq.{drop-at, length-take-le, take-at}
 use Rattle.cube.specs.Over.{over}
 use Rattle.cube.proofs.Over.{length-over, over-front}
-use Rattle.cube.proofs.Tables.{nodes-few}
-use Rattle.notice.specs.Notice.{tableAfter}
 use Rattle.notice.specs.declared.Noticed.the-variants as noticed
 use Rattle.notice.proofs.Laws.{notice-laws}
 use Rattle.spelling.specs.Laws.{Bytes, IsTable, ReadsBack}
@@ -17,7 +15,7 @@ use Rattle.spelling.specs.Spelled.{noticeBytes}
 use Rattle.spelling.proofs.Laws.{spelling-laws}
 use Rattle.writer.specs.Writing as T
 use Rattle.writer.specs.declared.Wrote.the-variants.{Length, Refused}
-use Rattle.writer.proofs.Outcomes.{given-is, given-some, length-is, none-given, room-enough, taken}
+use Rattle.writer.proofs.Outcomes.{few, given-is, given-some, length-is, none-given, room-enough, taken}
 use Rattle.writer.proofs.Refusal.{buffer-kept, buffer-written, has-room, no-room, wrote-length, wrote-refused}
 use Rattle.promises.specs.Library.{Library, rattle, c}
 use Rattle.promises.specs.Refusals.{TableLength, WriteGiven}
@@ -94,6 +92,11 @@ module _ (lib : Library) (F : Faithful lib) where
         let f = F .reads r in
         subst (IsTable n) (sym (f .1)) (spelling-laws .is-table bytes old n m taken (sym (f .0)))
 
+  -- ---- all of it
+
+  number : {n k : ℕ} {faults before after : List ℕ} → lib .writes n faults before (Refused k) after → T.writeRefusal n faults (length before) ≡ k
+  number {n} {k} {faults} {before} m = given-is n faults (length before) (sym (F .writes m .0))
+
   pub writes : Writes lib
   writes =
       record {
@@ -101,8 +104,7 @@ module _ (lib : Library) (F : Faithful lib) where
             subst (λ y. WriteGiven n faults (length before) (T.refusalOf y)) (sym (F .writes m .0)) (refusals .writing n faults (length before));
         kept = λ {n} {k} {faults} {before} m.
             let f = F .writes m in
-            let e = sym (f .0) in
-            f .1 ∙ sym (buffer-kept n faults before (given-is n faults (length before) e) (given-some n faults (length before) e));
+            f .1 ∙ sym (buffer-kept n faults before (number m) (given-some n faults (length before) (sym (f .0))));
         behind = behind;
         within = λ m. (put m .room, sized m);
         reads-back = λ {n} {len} {faults} {before} {after} {bytes} {old} m same t r. F .reads r .0 ∙ back m bytes same .answer old (as-long m old t);
@@ -117,7 +119,9 @@ module _ (lib : Library) (F : Faithful lib) where
         one-notice = λ {n} {m} {m′} {taken} {taken′} {bytes} {bytes′} {old} {old′} {faults} b b′ r r′. sym (again b r) ∙ again b′ r′;
         short = λ {n} {len} {faults} m. let p = put m in omega (arith, p .long, spelling-laws .short n faults (p .table));
         enough = λ {n} {k} {faults} {before} m h e.
-            room-enough n faults (length before) h (given-is n faults (length before) (sym (F .writes m .0)) ∙ e);
+            room-enough n faults (length before) (λ t. omega (arith, spelling-laws .short n faults t, h)) (number m ∙ e);
+        enough-for-all = λ {n} {k} {faults} {before} m h e.
+            room-enough n faults (length before) (λ t. omega (arith, few n faults (length before) t, h)) (number m ∙ e);
       }
 
 pub rattle-writes : Writes rattle

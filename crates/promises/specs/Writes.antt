@@ -47,6 +47,7 @@ pub record Writes (lib : Library) : Type 0 where
       {n m m′ taken taken′ : ℕ} {bytes bytes′ old old′ faults : List ℕ} → Bytes bytes → Bytes bytes′
       → lib .reads bytes old (noticed.Notice n m taken) faults → lib .reads bytes′ old′ (noticed.Notice n m′ taken′) faults
       → take taken bytes ≡ take taken′ bytes′
-  -- "it has at most 2^n + 3 bytes, 4,099 at n = 12": a buffer of so many is never too short
+  -- "it has at most 2^n + 3 bytes, 4,099 at n = 12": a buffer of so many is never too short, nor one of 4,099 for any n
   pub short : {n len : ℕ} {faults before after : List ℕ} → lib .writes n faults before (Length len) after → len ≤ 2 ^ n + 3
-  pub enough : {n k : ℕ} {faults before after : List ℕ} → lib .writes n faults before (Refused k) after → 4099 ≤ length before → k ≢ 13
+  pub enough : {n k : ℕ} {faults before after : List ℕ} → lib .writes n faults before (Refused k) after → 2 ^ n + 3 ≤ length before → k ≢ 13
+  pub enough-for-all : {n k : ℕ} {faults before after : List ℕ} → lib .writes n faults before (Refused k) after → 4099 ≤ length before → k ≢ 13

@@ -10,6 +10,7 @@ use Rattle.notice.specs.declared.Noticed.the-variants.{Notice}
 use Rattle.notice.proofs.Laws.{notice-laws}
 use Rattle.spelling.specs.Spelled.{noticeBytes}
 use Rattle.spelling.specs.Laws.{Bytes, IsTable, SpellingLaws}
+use Rattle.spelling.proofs.Bytes.{notice-bytes}
 use Rattle.spelling.proofs.Notice.{reads-back, is-table, spelled, table-bytes}
 use Rattle.spelling.proofs.Worked.{listing, none, far, longest}
 
@@ -25,7 +26,8 @@ pub spelling-laws : SpellingLaws
 spelling-laws = record {
   reads-back = reads-back;
   is-table = is-table;
-  bytes = table-bytes;
+  table-bytes = table-bytes;
+  notice-bytes = notice-bytes;
   spelled = λ s before n m taken bytes e. spelled s before n m taken e bytes;
   one-notice = one-notice;
   short = short;

@@ -4,4 +4,5 @@ pub mod Having
 pub mod Tables
 pub mod Notice
 pub mod Worked
+pub mod Bytes
 pub mod Laws

@@ -34,8 +34,10 @@ pub record SpellingLaws : Type 0 where
   pub reads-back : (n : ℕ) (faults rest : List ℕ) → IsTable n faults → ReadsBack n faults (noticeBytes n faults ++ rest) (length (noticeBytes n faults))
   -- "writing what an accepted notice gave yields the bytes that it took"
   pub is-table : (s before : List ℕ) (n m taken : ℕ) → noticed s before ≡ Notice n m taken → IsTable n (tableAfter s before)
-  pub bytes : (s before : List ℕ) (n m taken : ℕ) → noticed s before ≡ Notice n m taken → Bytes (tableAfter s before)
+  pub table-bytes : (s before : List ℕ) (n m taken : ℕ) → noticed s before ≡ Notice n m taken → Bytes (tableAfter s before)
   pub spelled : (s before : List ℕ) (n m taken : ℕ) → Bytes s → noticed s before ≡ Notice n m taken → noticeBytes n (tableAfter s before) ≡ take taken s
+  -- a notice is of bytes, as the table that was read is: so what is asked of either can be met
+  pub notice-bytes : (n : ℕ) (faults : List ℕ) → IsTable n faults → Bytes (noticeBytes n faults)
   -- "so each table has one notice"
   pub one-notice :
       (s s′ before before′ : List ℕ) (n m m′ taken taken′ : ℕ) → Bytes s → Bytes s′

@@ -39,19 +39,19 @@ module _ (n : ℕ) (faults : List ℕ) (room : ℕ) where
       let t = first-none 13 (tableTests n faults ++ ltb room (length (noticeBytes n faults)) ⇒ 13 ∷ []) refl e in
       (table-is n faults (t .0, (t .1 .0, (t .1 .1 .0, tt))), ltb-false room (length (noticeBytes n faults)) (t .1 .1 .1 .0))
 
-  -- no notice has more than 4,099 bytes, so a buffer of so many is not too short
-  few : IsTable n faults → length (noticeBytes n faults) ≤ 4099
-  few t = omega (arith, spelling-laws .short n faults t, nodes-few n (t .dimension .1))
-
-  pub room-enough : 4099 ≤ room → writeRefusal n faults room ≢ 13
+  -- where each notice has room, the buffer is not too short; and none has more than 4,099 bytes
+  pub room-enough : (IsTable n faults → length (noticeBytes n faults) ≤ room) → writeRefusal n faults room ≢ 13
   room-enough h e =
       ⊎-elim
       (λ (z : eqb (first (tableTests n faults)) 0 ≡ true).
       let t = table-taken n faults (eqb-true _ 0 z) in
-      omega (arith, e, has-room n faults room t (omega (arith, few t))))
+      omega (arith, e, has-room n faults room t (h t)))
       (λ (z : eqb (first (tableTests n faults)) 0 ≡ false).
       omega (arith, e, table-first n faults room (eqb-false _ 0 z), first-le 3 (tableTests n faults) refl))
       (either (eqb (first (tableTests n faults)) 0))
+
+  pub few : IsTable n faults → length (noticeBytes n faults) ≤ 4099
+  few t = omega (arith, spelling-laws .short n faults t, nodes-few n (t .dimension .1))
 
   module _ {len : ℕ} (e : wrote n faults room ≡ Length len) where
     pub none-given : writeRefusal n faults room ≡ 0

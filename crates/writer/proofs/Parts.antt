@@ -1,16 +1,41 @@
 -- The three parts of a notice, dimension, count and addresses: their lengths make up its length, and written one behind the other they are the notice.
-use mathlib.Core.List.{List, _++_}
+use mathlib.Core.Bool.{Bool}
+use mathlib.Core.List.{List, [], _∷_, _++_}
 use mathlib.Core.Path.{_≡_, sym, ap, ap₂, _∙_}
-use Prim.Native.Nat.{ℕ, _+_, _*_, _^_, _≤_}
+use Prim.Native.Nat.{ℕ, zero, suc, _+_, _*_, _-_, _^_, _≤_}
 use native.Mathlib.Omega.{arith}
 use lib.ListN.{length, length-append}
 use Rattle.cube.specs.Over.{over, overAt}
 use Rattle.cube.specs.Tables.{nodeBit, tableLen}
+use Rattle.cube.proofs.Bools.{by-cases}
 use Rattle.cube.proofs.Over.{length-over, over-front, over-then}
 use Rattle.cube.proofs.Tables.{nodes-few, table-room}
 use Rattle.groups.specs.Number.{groupsOf}
 use Rattle.spelling.specs.Spelled.{addressBytes, faultyNodes, having, noticeBytes}
-use Rattle.writer.proofs.Refusal.{few-bytes, few-nodes}
+use Rattle.writer.proofs.Passes.{few-groups}
+
+-- ---- they are short
+
+few-having : (p : ℕ → Bool) (left k : ℕ) → length (having left k p) ≤ left
+unfolding having
+few-having p zero k = omega arith
+few-having p (suc left) k =
+    let h = few-having p left (k + 1) in
+    by-cases (λ (l : List ℕ). length l ≤ suc left) (p k) (λ e. omega (arith, h)) (λ e. omega (arith, h))
+
+few-addresses : (base : ℕ) (l : List ℕ) → length (addressBytes base l) ≤ 2 * length l
+unfolding addressBytes
+few-addresses base [] = omega arith
+few-addresses base (x ∷ l) =
+    omega (arith, few-addresses (x + 1) l, few-groups (x - base), length-append (groupsOf (x - base)) (addressBytes (x + 1) l))
+
+few-nodes : (p : ℕ → Bool) (size : ℕ) → length (having size 0 p) ≤ size
+few-nodes p size = few-having p size 0
+
+few-bytes : (p : ℕ → Bool) (size : ℕ) → length (addressBytes 0 (having size 0 p)) ≤ 2 * size
+few-bytes p size = omega (arith, few-addresses 0 (having size 0 p), few-having p size 0)
+
+-- ---- a cube that was measured
 
 -- an n-cube, a table of its length, its nodes and how many of them are faulty
 pub record Sized (n : ℕ) (faults : List ℕ) (size count : ℕ) : Type 0 where

@@ -1,25 +1,21 @@
 -- What writing goes by: the refusals of the table come first, and then whether the notice has room. Answer and buffer follow from the number.
-use mathlib.Core.Bool.{Bool, cond}
-use mathlib.Core.List.{List, [], _∷_, _++_}
+use mathlib.Core.Bool.{cond}
+use mathlib.Core.List.{List, [], _∷_}
 use mathlib.Core.Logic.{_≢_}
-use mathlib.Core.Path.{_≡_, refl, sym, ap, _∙_}
-use Prim.Native.Nat.{ℕ, zero, suc, _+_, _*_, _-_, _≤_, _<_}
-use native.Mathlib.Omega.{arith}
-use lib.Dec.{eqb, ltb}
-use lib.ListN.{length, length-append}
-use borrow.Author.Tests.{eqb-true, eq-eqb, le-leb, le-ltb, lt-ltb, ltb-false, ne-eqb, not-false}
+use mathlib.Core.Path.{_≡_, refl, sym, _∙_}
+use Prim.Native.Nat.{ℕ, _≤_, _<_}
+use lib.Dec.{ltb}
+use lib.ListN.{length}
+use borrow.Author.Tests.{eqb-true, eq-eqb, le-leb, le-ltb, lt-ltb, ne-eqb, not-false}
 use Rattle.cube.specs.Over.{over}
 use Rattle.cube.specs.Refusal.{first, _⇒_}
 use Rattle.cube.specs.Tables.{isDimension, tableLen}
-use Rattle.cube.proofs.Bools.{by-cases, either}
 use Rattle.cube.proofs.Refusal.{None, first-none, first-passes, first-stops}
 use Rattle.cube.proofs.Tables.{dimension-is}
-use Rattle.groups.specs.Number.{groupsOf}
 use Rattle.spelling.specs.Laws.{IsTable}
-use Rattle.spelling.specs.Spelled.{addressBytes, having, noticeBytes}
+use Rattle.spelling.specs.Spelled.{noticeBytes}
 use Rattle.writer.specs.Writing.{bufferAfter, tableTests, writeRefusal, wrote}
 use Rattle.writer.specs.declared.Wrote.the-variants.{Length, Refused}
-use Rattle.writer.proofs.Passes.{few-groups}
 
 -- ---- a table that is not refused
 
@@ -72,24 +68,3 @@ module _ (n : ℕ) (faults out : List ℕ) where
   pub buffer-written : writeRefusal n faults (length out) ≡ 0 → over (noticeBytes n faults) out ≡ bufferAfter n faults out
   unfolding bufferAfter
   buffer-written e = rw (sym (wrote-length n faults (length out) e))
-
--- ---- the parts of a notice are short
-
-few-having : (p : ℕ → Bool) (left k : ℕ) → length (having left k p) ≤ left
-unfolding having
-few-having p zero k = omega arith
-few-having p (suc left) k =
-    let h = few-having p left (k + 1) in
-    by-cases (λ (l : List ℕ). length l ≤ suc left) (p k) (λ e. omega (arith, h)) (λ e. omega (arith, h))
-
-few-addresses : (base : ℕ) (l : List ℕ) → length (addressBytes base l) ≤ 2 * length l
-unfolding addressBytes
-few-addresses base [] = omega arith
-few-addresses base (x ∷ l) =
-    omega (arith, few-addresses (x + 1) l, few-groups (x - base), length-append (groupsOf (x - base)) (addressBytes (x + 1) l))
-
-pub few-nodes : (p : ℕ → Bool) (size : ℕ) → length (having size 0 p) ≤ size
-few-nodes p size = few-having p size 0
-
-pub few-bytes : (p : ℕ → Bool) (size : ℕ) → length (addressBytes 0 (having size 0 p)) ≤ 2 * size
-few-bytes p size = omega (arith, few-addresses 0 (having size 0 p), few-having p size 0)

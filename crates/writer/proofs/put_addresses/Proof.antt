@@ -1,6 +1,6 @@
 -- `put_addresses` goes through the nodes and puts each faulty one's address behind those before: its loop keeps `Writing`.
 use mathlib.Core.Logic.{⊎-elim}
-use mathlib.Core.Path.{_≡_, sym, _∙_}
+use mathlib.Core.Path.{sym, _∙_}
 use Prim.Native.Nat.{_-_}
 use native.Mathlib.Omega.{arith}
 use Rattle.cube.specs.Tables.{nodeBit}
