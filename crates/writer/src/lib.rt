@@ -139,7 +139,8 @@ pub fn write(n: usize, faults: &[u8], out: &mut [u8]) -> Wrote
         return Wrote::Refused(refusal);
     }
     let found = measure(faults, nodes(n));
-    let length = groups_len(n) + groups_len(found.count) + found.bytes;
+    let head = groups_len(n) + groups_len(found.count);
+    let length = head + found.bytes;
     if out.len() < length {
         return Wrote::Refused(13);
     }

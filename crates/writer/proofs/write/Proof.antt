@@ -83,13 +83,13 @@ groups-len-requires c κs = search needs
 groups-len-requires-2 : tie.Need-groups-len-requires-2
 groups-len-requires-2 c κs = search needs
 
-add-length : tie.Need-add-length
-add-length c =
+add-head : tie.Need-add-head
+add-head c =
     let m = c .before .before in
     omega (arith, c .before .groups-len .ensures, c .groups-len2 .ensures, few-groups (start (taken m) .args .n), few-groups (m .measure .result .count))
 
-add-length-2 : tie.Need-add-length-2
-add-length-2 c =
+add-length : tie.Need-add-length
+add-length c =
     let m = measured c in
     omega (
       arith,
@@ -136,8 +136,8 @@ write-spec =
     measure-requires
     groups-len-requires
     groups-len-requires-2
+    add-head
     add-length
-    add-length-2
     returns-2
     put-notice-requires
     same-length
