@@ -34,8 +34,8 @@
  * - The call writes to no const buffer, to no byte outside its buffers, and to
  *   no byte of the other job's half.
  * - Refusals are tested in the order in which they are listed; the first that
- *   applies is the answer, with zero in every other field; only a refused
- *   notice has a value, the place of the number concerned. On a refusal
+ *   applies is the answer, with zero in every other field; only where a notice
+ *   is read has it a value, the place of the number concerned. On a refusal
  *   the call changes no byte of any buffer.
  * - Every input has one answer. There is no state, no allocation, no lock.
  *
