@@ -34,6 +34,14 @@ void put_anything(uint8_t *bytes, size_t len)
     memcpy(bytes, row + random_below((uint32_t)(sizeof row - len)), len);
 }
 
+uint32_t any_dimension(void)
+{
+    static const uint32_t bad[] = {0, 13, 16, 255, 256, 257, 260, 268,
+                                   65536 + 4, 0x80000001u, 0xffffffffu};
+    return random_below(12) ? 1 + random_below(12)
+                            : bad[random_below(COUNT(bad))];
+}
+
 static void put_job(uint32_t n, uint32_t job, const uint8_t *half,
                     uint8_t *buffer)
 {

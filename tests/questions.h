@@ -88,6 +88,9 @@ const uint8_t *buffer_of(uint32_t n, uint32_t job, const uint8_t *half);
 /* Any bytes: labels, others, or both. */
 void put_anything(uint8_t *bytes, size_t len);
 
+/* Mostly a dimension, now and then one of the numbers that might be taken for one. */
+uint32_t any_dimension(void);
+
 /* Each asks the library alone, with the buffers themselves. */
 uint32_t ask_label(struct label_question asked);
 uint32_t ask_hop(struct hop_question asked);

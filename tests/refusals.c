@@ -17,14 +17,6 @@ static uint8_t labels[MOST_LENT], row[MOST_LENT];
 
 /* ---- random damage */
 
-static uint32_t any_dimension(void)
-{
-    static const uint32_t bad[] = {0, 13, 16, 255, 256, 257, 260, 65536 + 4,
-                                   0x80000001u, 0xffffffffu};
-    return random_below(12) ? 1 + random_below(12)
-                            : bad[random_below(COUNT(bad))];
-}
-
 static uint32_t any_rule(void)
 {
     static const uint32_t bad[] = {0, 1, 4, 5, 130, 131, 256 + 2, 65536 + 3,

@@ -72,14 +72,6 @@ void check_write_combinations(void)
 
 /* ---- random damage */
 
-static uint32_t any_dimension(void)
-{
-    static const uint32_t bad[] = {0, 13, 16, 255, 256, 257, 268, 65536 + 4,
-                                   0x80000001u, 0xffffffffu};
-    return random_below(12) ? 1 + random_below(12)
-                            : bad[random_below(COUNT(bad))];
-}
-
 static void damaged_write(void)
 {
     uint32_t n = any_dimension(), fitting = 1 + (n - 1) % 12;

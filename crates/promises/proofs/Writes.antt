@@ -114,8 +114,8 @@ module _ (lib : Library) (F : Faithful lib) where
             let x = F .writes w .0 ∙ sym (wrote-length n faults (length before) z) ∙ ap Length (again-long b r) in
             (x, front (subst (λ y. lib .writes n faults before y after) x w) ∙ again b r);
         no-room = λ {n} {m} {taken} {bytes} {old} {faults} {before} b r w h.
-            F .writes w .0
-            ∙ sym (wrote-refused n faults (length before) (no-room n faults (length before) (again-table b r) (omega (arith, again-long b r))) (λ z. omega arith));
+            let z = no-room n faults (length before) (again-table b r) (omega (arith, again-long b r)) in
+            F .writes w .0 ∙ sym (wrote-refused n faults (length before) z (λ e. omega arith));
         one-notice = λ {n} {m} {m′} {taken} {taken′} {bytes} {bytes′} {old} {old′} {faults} b b′ r r′. sym (again b r) ∙ again b′ r′;
         short = λ {n} {len} {faults} m. let p = put m in omega (arith, p .long, spelling-laws .short n faults (p .table));
         enough = λ {n} {k} {faults} {before} m h e.

@@ -1,5 +1,5 @@
--- Writing a notice (RULES, Tables and the notice), of whatever the contracts allow: what was written is read back, what was read is written again, the refusals,
--- and the bytes of the buffer. lib is the library, as Rattle or as C calls it. Proved in proofs/Writes.antt.
+-- Writing a notice (RULES, Tables and the notice), of whatever the contracts allow: what was written is read back, what was read is written again, the
+-- refusals, and the bytes of the buffer. lib is the library, as Rattle or as C calls it. Proved in proofs/Writes.antt.
 use mathlib.Core.List.{List}
 use mathlib.Core.Logic.{_≢_}
 use mathlib.Core.Path.{_≡_}
@@ -24,7 +24,9 @@ pub record Writes (lib : Library) : Type 0 where
   pub kept : {n k : ℕ} {faults before after : List ℕ} → lib .writes n faults before (Refused k) after → after ≡ before
   -- "bytes of the buffer behind the notice keep their content"; the notice is in the buffer, whose length stays
   pub behind : {n len : ℕ} {faults before after : List ℕ} → lib .writes n faults before (Length len) after → drop len after ≡ drop len before
-  pub within : {n len : ℕ} {faults before after : List ℕ} → lib .writes n faults before (Length len) after → (len ≤ length before) × (length after ≡ length before)
+  pub within :
+      {n len : ℕ} {faults before after : List ℕ} → lib .writes n faults before (Length len) after
+      → (len ≤ length before) × (length after ≡ length before)
   -- "reading what was written, whatever stands behind it, gives back the dimension, the count and the table, and takes as many bytes as the length": the
   -- bytes that are read begin as those that were written
   pub reads-back :

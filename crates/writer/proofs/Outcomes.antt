@@ -1,4 +1,4 @@
--- An answer of writing, taken apart: a length is that of the notice of a table that is taken, and there was room for it; a refusal is the number that was given.
+-- An answer of writing, taken apart: a length is that of the notice of a table that is taken, and there was room for it; a refusal is the number given.
 use mathlib.Core.List.{List, [], _∷_, _++_}
 use mathlib.Core.Bool.{true, false}
 use mathlib.Core.Logic.{⊎-elim, _≢_}
@@ -15,7 +15,7 @@ use Rattle.cube.proofs.Tables.{nodes-few}
 use Rattle.spelling.specs.Laws.{IsTable}
 use Rattle.spelling.specs.Spelled.{noticeBytes}
 use Rattle.spelling.proofs.Laws.{spelling-laws}
-use Rattle.writer.specs.Writing.{onWrote, lengthOf, refusalOf, tableTests, writeRefusal, wrote}
+use Rattle.writer.specs.Writing.{onWrote, lengthOf, refusalOf, faultTests, writeRefusal, wrote}
 use Rattle.writer.specs.declared.Wrote.{Wrote}
 use Rattle.writer.specs.declared.Wrote.the-variants.{Length, Refused}
 use Rattle.writer.proofs.Refusal.{has-room, table-first, table-is, table-taken, wrote-length}
@@ -30,25 +30,25 @@ module _ (n : ℕ) (faults : List ℕ) (room : ℕ) where
 
   refusal-few : writeRefusal n faults room ≤ 13
   unfolding writeRefusal
-  refusal-few = first-le 13 (tableTests n faults ++ ltb room (length (noticeBytes n faults)) ⇒ 13 ∷ []) refl
+  refusal-few = first-le 13 (faultTests n faults ++ ltb room (length (noticeBytes n faults)) ⇒ 13 ∷ []) refl
 
   -- nothing is refused
   pub taken : writeRefusal n faults room ≡ 0 → IsTable n faults × (length (noticeBytes n faults) ≤ room)
   unfolding writeRefusal
   taken e =
-      let t = first-none 13 (tableTests n faults ++ ltb room (length (noticeBytes n faults)) ⇒ 13 ∷ []) refl e in
+      let t = first-none 13 (faultTests n faults ++ ltb room (length (noticeBytes n faults)) ⇒ 13 ∷ []) refl e in
       (table-is n faults (t .0, (t .1 .0, (t .1 .1 .0, tt))), ltb-false room (length (noticeBytes n faults)) (t .1 .1 .1 .0))
 
   -- where each notice has room, the buffer is not too short; and none has more than 4,099 bytes
   pub room-enough : (IsTable n faults → length (noticeBytes n faults) ≤ room) → writeRefusal n faults room ≢ 13
   room-enough h e =
       ⊎-elim
-      (λ (z : eqb (first (tableTests n faults)) 0 ≡ true).
+      (λ (z : eqb (first (faultTests n faults)) 0 ≡ true).
       let t = table-taken n faults (eqb-true _ 0 z) in
       omega (arith, e, has-room n faults room t (h t)))
-      (λ (z : eqb (first (tableTests n faults)) 0 ≡ false).
-      omega (arith, e, table-first n faults room (eqb-false _ 0 z), first-le 3 (tableTests n faults) refl))
-      (either (eqb (first (tableTests n faults)) 0))
+      (λ (z : eqb (first (faultTests n faults)) 0 ≡ false).
+      omega (arith, e, table-first n faults room (eqb-false _ 0 z), first-le 3 (faultTests n faults) refl))
+      (either (eqb (first (faultTests n faults)) 0))
 
   pub few : IsTable n faults → length (noticeBytes n faults) ≤ 4099
   few t = omega (arith, spelling-laws .short n faults t, nodes-few n (t .dimension .1))

@@ -14,34 +14,34 @@ use Rattle.cube.proofs.Refusal.{None, first-none, first-passes, first-stops}
 use Rattle.cube.proofs.Tables.{dimension-is}
 use Rattle.spelling.specs.Laws.{IsTable}
 use Rattle.spelling.specs.Spelled.{noticeBytes}
-use Rattle.writer.specs.Writing.{bufferAfter, tableTests, writeRefusal, wrote}
+use Rattle.writer.specs.Writing.{bufferAfter, faultTests, writeRefusal, wrote}
 use Rattle.writer.specs.declared.Wrote.the-variants.{Length, Refused}
 
 -- ---- a table that is not refused
 
 module _ (n : ℕ) (faults : List ℕ) where
-  pub table-is : None (tableTests n faults) → IsTable n faults
+  pub table-is : None (faultTests n faults) → IsTable n faults
   table-is t =
       record { dimension = dimension-is n (not-false _ (t .0)); sized = eqb-true _ _ (not-false _ (t .1 .0)); unused = t .1 .1 .0 }
 
-  pub table-taken : first (tableTests n faults) ≡ 0 → IsTable n faults
-  table-taken e = table-is (first-none 3 (tableTests n faults) refl e)
+  pub table-taken : first (faultTests n faults) ≡ 0 → IsTable n faults
+  table-taken e = table-is (first-none 3 (faultTests n faults) refl e)
 
-  pub is-taken : IsTable n faults → first (tableTests n faults) ≡ 0
+  pub is-taken : IsTable n faults → first (faultTests n faults) ≡ 0
   unfolding first isDimension
   is-taken t =
       rw (le-leb 1 n (t .dimension .0), le-leb n 12 (t .dimension .1), eq-eqb (length faults) (tableLen n) (t .sized), t .unused)
 
   -- its refusals come first,
-  pub table-first : (room : ℕ) → first (tableTests n faults) ≢ 0 → writeRefusal n faults room ≡ first (tableTests n faults)
+  pub table-first : (room : ℕ) → first (faultTests n faults) ≢ 0 → writeRefusal n faults room ≡ first (faultTests n faults)
   unfolding writeRefusal
-  table-first room h = first-stops (tableTests n faults) (ltb room (length (noticeBytes n faults)) ⇒ 13 ∷ []) h
+  table-first room h = first-stops (faultTests n faults) (ltb room (length (noticeBytes n faults)) ⇒ 13 ∷ []) h
 
   -- and then the room decides
   pub room-then : (room : ℕ) → IsTable n faults → writeRefusal n faults room ≡ cond (ltb room (length (noticeBytes n faults))) 13 0
   unfolding writeRefusal first
   room-then room t =
-      first-passes (tableTests n faults) (ltb room (length (noticeBytes n faults)) ⇒ 13 ∷ []) (first-none 3 (tableTests n faults) refl (is-taken t))
+      first-passes (faultTests n faults) (ltb room (length (noticeBytes n faults)) ⇒ 13 ∷ []) (first-none 3 (faultTests n faults) refl (is-taken t))
 
   pub no-room : (room : ℕ) → IsTable n faults → room < length (noticeBytes n faults) → writeRefusal n faults room ≡ 13
   no-room room t h = room-then room t ∙ rw (lt-ltb room (length (noticeBytes n faults)) h)

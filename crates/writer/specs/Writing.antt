@@ -13,12 +13,12 @@ use Rattle.writer.specs.declared.Wrote.{Wrote}
 use Rattle.writer.specs.declared.Wrote.the-variants.{Length, Refused}
 
 -- "1, 2, 3 as in labelling",
-abbrev pub tableTests : (n : ℕ) (faults : List ℕ) → List Test
-tableTests n faults = not (isDimension n) ⇒ 1 ∷ not (eqb (length faults) (tableLen n)) ⇒ 2 ∷ unusedSet n faults ⇒ 3 ∷ []
+abbrev pub faultTests : (n : ℕ) (faults : List ℕ) → List Test
+faultTests n faults = not (isDimension n) ⇒ 1 ∷ not (eqb (length faults) (tableLen n)) ⇒ 2 ∷ unusedSet n faults ⇒ 3 ∷ []
 
 -- "then 13 exactly if the notice is longer than the buffer", which has room for so many bytes
 unfoldable pub writeRefusal : (n : ℕ) (faults : List ℕ) (room : ℕ) → ℕ
-writeRefusal n faults room = first (tableTests n faults ++ ltb room (length (noticeBytes n faults)) ⇒ 13 ∷ [])
+writeRefusal n faults room = first (faultTests n faults ++ ltb room (length (noticeBytes n faults)) ⇒ 13 ∷ [])
 
 -- what is answered: the length of the notice, or the refusal
 unfoldable pub wrote : (n : ℕ) (faults : List ℕ) (room : ℕ) → Wrote

@@ -6,7 +6,7 @@ ghost use Rattle.cube.specs.Refusal.{first};
 ghost use Rattle.cube.specs.Tables.{nodeBit, tableLen};
 ghost use Rattle.groups.specs.Number.{groupsOf};
 ghost use Rattle.spelling.specs.Spelled.{addressBytes, faultyNodes, having, noticeBytes};
-ghost use Rattle.writer.specs.Writing.{bufferAfter, tableTests, wrote};
+ghost use Rattle.writer.specs.Writing.{bufferAfter, faultTests, wrote};
 ghost use lib.ListN.{getD, length};
 ghost use mathlib.Core.Path.{_≡_};
 use cube::is_dimension;
@@ -29,7 +29,7 @@ struct Measured {
 
 // The refusal of a fault table of an n-cube, and 0 where there is none.
 fn table_refusal(n: usize, faults: &[u8]) -> u32
-    ensures { λ r. ⌜ r ≡ first (tableTests n (now (faults .entry))) ⌝ }
+    ensures { λ r. ⌜ r ≡ first (faultTests n (now (faults .entry))) ⌝ }
 {
     if !is_dimension(n) {
         return 1;

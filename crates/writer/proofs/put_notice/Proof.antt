@@ -42,7 +42,8 @@ put-number-requires-2 c κs =
     let a = c .before .before .before in
     let m = sized-1 a in (
       omega (arith, count-few (sized m)),
-      second-room (sized m) (begun m .args .out .now) (room m) (a .put-number .result) (a .put-number .last .0) (a .put-number .ensures .0) (a .put-number .ensures .1),
+      second-room (sized m) (begun m .args .out .now) (room m)
+          (a .put-number .result) (a .put-number .last .0) (a .put-number .ensures .0) (a .put-number .ensures .1),
     )
 
 put-addresses-requires : tie.Need-put-addresses-requires

@@ -1,4 +1,4 @@
--- `table_refusal` tests in the order of `tableTests`.
+-- `table_refusal` tests in the order of `faultTests`.
 use mathlib.Core.Path.{_≡_, sym, _∙_}
 use mathlib.Core.Bool.{true}
 use native.Mathlib.Omega.{arith}
@@ -15,7 +15,10 @@ use Rattle.writer.proofs.table_refusal.Tie as tie
 dimension : (c : tie.Else1) → isDimension (c .before .before .before .args .n) ≡ true
 dimension c = sym (c .before .is-dimension .ensures) ∙ not-false _ (c .if1 .left)
 
-sized : (c : tie.Else2) → eqb (length (c .before .before .before .before .before .args .faults .now)) (tableLen (c .before .before .before .before .before .args .n)) ≡ true
+abbrev begun : tie.Else2 → tie.Start
+begun c = c .before .before .before .before .before
+
+sized : (c : tie.Else2) → eqb (length (begun c .args .faults .now)) (tableLen (begun c .args .n)) ≡ true
 sized c = eq-eqb _ _ (c .if2 .left ∙ c .before .table-len .ensures)
 
 is-dimension-requires : tie.Need-is-dimension-requires

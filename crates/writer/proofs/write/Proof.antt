@@ -104,7 +104,8 @@ add-length c =
 returns-2 : tie.Need-returns-2
 returns-2 c =
     let a = begun (c .before) .args in
-    let k = no-room (a .n) (a .faults .now) (length (a .out .now)) (table (taken (measured (c .before)))) (omega (arith, length-is (c .before), c .if2 .taken)) in (
+    let t = table (taken (measured (c .before))) in
+    let k = no-room (a .n) (a .faults .now) (length (a .out .now)) t (omega (arith, length-is (c .before), c .if2 .taken)) in (
       wrote-refused (a .n) (a .faults .now) (length (a .out .now)) k (λ z. omega arith),
       buffer-kept (a .n) (a .faults .now) (a .out .now) k (λ z. omega arith),
     )
