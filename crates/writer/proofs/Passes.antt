@@ -6,7 +6,7 @@ use mathlib.Core.Path.{_≡_, sym, ap, ap₂, _∙_}
 use Prim.Native.Nat.{ℕ, suc, _+_, _*_, _-_, _/_, _%_, _≤_, _<_}
 use native.Mathlib.Omega.{arith}
 use lib.Dec.{ltb}
-use lib.ListN.{getD, length, length-append, set}
+use lib.ListN.{length, length-append, set}
 use borrow.Author.Tests.{le-ltb, lt-ltb}
 use Rattle.cube.specs.Over.{overAt}
 use Rattle.cube.proofs.Bools.{by-cases}
@@ -32,19 +32,20 @@ pub some-group : (v : ℕ) → 1 ≤ length (groupsOf v)
 unfolding groupsOf
 some-group v = by-cases (λ (g : List ℕ). 1 ≤ length g) (ltb v 128) (λ e. omega arith) (λ e. omega arith)
 
--- stored at their places, they are written there
-module _ (at v low : ℕ) (s : List ℕ) (first : low ≡ getD (groupsOf v) 0 0) (room : at + length (groupsOf v) ≤ length s) where
-  pub stored-one : ¬ (128 ≤ v) → set s at low ≡ overAt at (groupsOf v) s
+-- stored at their places, they are written there, and the next place is behind them
+module _ (at v : ℕ) (s : List ℕ) (room : at + length (groupsOf v) ≤ length s) where
+  pub stored-one : v < 128 → (at + 1 ≡ at + length (groupsOf v)) × (set s at v ≡ overAt at (groupsOf v) s)
   stored-one h =
-      let e = one-group {v = v} (omega (arith, h)) in
+      let e = one-group h in
       let l : at + 1 ≤ length s = omega (arith, ap length e) in
-      rw (first, e) (over-one at v s l)
+      (omega (arith, ap length e), rw e (over-one at v s l))
 
-  pub stored-two : 128 ≤ v → set (set s at low) (at + 1) (v / 128) ≡ overAt at (groupsOf v) s
+  pub stored-two : 128 ≤ v
+      → (at + 2 ≡ at + length (groupsOf v)) × (set (set s at (128 + v % 128)) (at + 1) (v / 128) ≡ overAt at (groupsOf v) s)
   stored-two h =
       let e = two-groups h in
       let l : at + 2 ≤ length s = omega (arith, ap length e) in
-      rw (first, e) (over-two at (128 + v % 128) (v / 128) s l)
+      (omega (arith, ap length e), rw e (over-two at (128 + v % 128) (v / 128) s l))
 
 -- ---- the nodes that are left
 

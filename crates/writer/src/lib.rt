@@ -7,7 +7,7 @@ ghost use Rattle.cube.specs.Tables.{nodeBit, tableLen};
 ghost use Rattle.groups.specs.Number.{groupsOf};
 ghost use Rattle.spelling.specs.Spelled.{addressBytes, faultyNodes, having, noticeBytes};
 ghost use Rattle.writer.specs.Writing.{bufferAfter, faultTests, wrote};
-ghost use lib.ListN.{getD, length};
+ghost use lib.ListN.{length};
 ghost use mathlib.Core.Path.{_≡_};
 use cube::is_dimension;
 use cube::node_bit;
@@ -74,16 +74,6 @@ fn measure(faults: &[u8], size: usize) -> Measured
     Measured { count, bytes }
 }
 
-// The first group of a number: its high bit is set when another follows.
-fn low_group(v: usize) -> u8
-    ensures { λ r. ⌜ r ≡ getD (groupsOf v) 0 0 ⌝ }
-{
-    if v < 128 {
-        return v as u8;
-    }
-    (128 + v % 128) as u8
-}
-
 // Writes a number at a place and answers the place behind it.
 fn put_number(out: &mut [u8], at: usize, v: usize) -> usize
     requires { ⌜ (v < 16384) × (at + length (groupsOf v) ≤ length (now out)) ⌝ }
@@ -91,11 +81,13 @@ fn put_number(out: &mut [u8], at: usize, v: usize) -> usize
     ensures bytes { λ _. ⌜ now (out .exit) ≡ overAt at (groupsOf v) (now (out .entry)) ⌝ }
 {
     let second = at + 1;
-    out[at] = low_group(v);
-    if 128 <= v {
-        out[second] = (v / 128) as u8;
+    if v < 128 {
+        out[at] = v as u8;
+        return second;
     }
-    at + groups_len(v)
+    out[at] = (128 + v % 128) as u8;
+    out[second] = (v / 128) as u8;
+    at + 2
 }
 
 // Writes the addresses of the faulty nodes among the first so many, from a place on.
