@@ -1,4 +1,4 @@
--- `put_number` makes the test by which `groupsOf` chooses, and stores the groups that it has.
+-- `put_number` makes the test by which `groupsOf` chooses, and stores the groups that it has: the one, or the low and the high one.
 use mathlib.Core.Path.{ap}
 use Prim.Native.Nat.{_+_, _%_}
 use native.Mathlib.Omega.{arith}
@@ -11,43 +11,45 @@ use Rattle.writer.proofs.put_number.Tie as tie
 add-second : tie.Need-add-second
 add-second c = search needs
 
-cast-out : tie.Need-cast-out
-cast-out c = search needs
+cast-one : tie.Need-cast-out
+cast-one c = search needs
 
-slice-write-out : tie.Need-slice-write-out
-slice-write-out c = omega (arith, some-group (c .before .args .v), c .before .pre .1)
+write-one : tie.Need-slice-write-out
+write-one c = omega (arith, some-group (c .before .args .v), c .before .pre .1)
 
-same-length : tie.Need-same-length
-same-length c = search needs
+same-length-one : tie.Need-same-length
+same-length-one c = search needs
 
-returns : tie.Need-returns
-returns c =
+returns-one : tie.Need-returns
+returns-one c =
     let b = c .before in
     stored-one (b .args .at) (b .args .v) (b .args .out .now) (b .pre .1) (c .if1 .taken)
 
-add-out : tie.Need-add-out
-add-out c = search needs
+add-low : tie.Need-add-out
+add-low c = search needs
 
-cast-out-2 : tie.Need-cast-out-2
-cast-out-2 c = search needs
+cast-low : tie.Need-cast-out-2
+cast-low c = search needs
 
-slice-write-out-2 : tie.Need-slice-write-out-2
-slice-write-out-2 c = omega (arith, some-group (c .before .args .v), c .before .pre .1)
+write-low : tie.Need-slice-write-out-2
+write-low c = omega (arith, some-group (c .before .args .v), c .before .pre .1)
 
-cast-out-3 : tie.Need-cast-out-3
-cast-out-3 c = search needs
+cast-high : tie.Need-cast-out-3
+cast-high c = search needs
 
-slice-write-out-3 : tie.Need-slice-write-out-3
-slice-write-out-3 c = omega (arith, c .before .pre .1, ap length (two-groups (c .if1 .left)), length-set (c .before .args .out .now) (c .before .args .at) (128 + c .before .args .v % 128))
+write-high : tie.Need-slice-write-out-3
+write-high c =
+    let b = c .before in
+    omega (arith, b .pre .1, ap length (two-groups (c .if1 .left)), length-set (b .args .out .now) (b .args .at) (128 + b .args .v % 128))
 
 add-result : tie.Need-add-result
 add-result c = search needs
 
-same-length-2 : tie.Need-same-length-2
-same-length-2 c = search needs
+same-length-two : tie.Need-same-length-2
+same-length-two c = search needs
 
-returns-2 : tie.Need-returns-2
-returns-2 c =
+returns-two : tie.Need-returns-2
+returns-two c =
     let b = c .before in
     stored-two (b .args .at) (b .args .v) (b .args .out .now) (b .pre .1) (c .if1 .left)
 
@@ -56,15 +58,15 @@ put-number-spec =
     tie.close
     (tie.spec
     add-second
-    cast-out
-    slice-write-out
-    same-length
-    returns
-    add-out
-    cast-out-2
-    slice-write-out-2
-    cast-out-3
-    slice-write-out-3
+    cast-one
+    write-one
+    same-length-one
+    returns-one
+    add-low
+    cast-low
+    write-low
+    cast-high
+    write-high
     add-result
-    same-length-2
-    returns-2)
+    same-length-two
+    returns-two)
