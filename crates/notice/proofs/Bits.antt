@@ -72,7 +72,7 @@ unfolding withBits
 length-bits t [] = refl
 length-bits t (a ∷ l) = length-bits (withBit t a) l ∙ length-with t a
 
-bits-with : (t : List ℕ) (base : ℕ) (l : List ℕ) (k : ℕ) → rising base (8 * length t) l ≡ true → nodeBit (withBits t l) k ≡ (nodeBit t k || among l k)
+pub bits-with : (t : List ℕ) (base : ℕ) (l : List ℕ) (k : ℕ) → rising base (8 * length t) l ≡ true → nodeBit (withBits t l) k ≡ (nodeBit t k || among l k)
 unfolding withBits among
 bits-with t base [] k e = sym (or-false (nodeBit t k))
 bits-with t base (a ∷ l) k e =

@@ -4,14 +4,17 @@ use mathlib.Core.List.{List}
 use mathlib.Core.Path.{refl, ap₂}
 use Prim.Native.Nat.{ℕ, _+_}
 use denote.Ref.{now}
-use lib.ListN.{drop}
+use lib.ListN.{drop, length, replicate}
 use Rattle.cube.specs.Contracts.{AsksNothing, Function, Nothing}
 use Rattle.cube.proofs.Contracts.{Says}
 use Rattle.groups.specs.declared.Number.{Number}
+use Rattle.notice.specs.Addresses.{withBit}
 use Rattle.notice.specs.Notice.{dimensionAt, noticed, tableAfter, tailAt}
 use Rattle.notice.specs.declared.Noticed.{Noticed}
+use Rattle.notice.proofs.clear as clear-claims
 use Rattle.notice.proofs.dimension as dimension-claims
 use Rattle.notice.proofs.read as read-claims
+use Rattle.notice.proofs.set_bit
 use Rattle.notice.proofs.tail as tail-claims
 
 abbrev pub dimension : Function dimension-claims.ended (List ℕ) Number Nothing
@@ -65,3 +68,34 @@ tail-asks = record { asked = λ κs a. tt; empty = λ w κs a. (tt, refl) }
 
 pub tail-says : Says tail (λ i. (drop (tailAt (i .0)) (i .0), (i .1 .0, i .1 .1 + tailAt (i .0)))) (λ i. tt)
 tail-says = record { says = λ κs a r e p. (ap₂ (λ (s : List ℕ) (q : ℕ × ℕ). (s, q)) (p .0) (p .1), refl) }
+
+abbrev pub clear : Function clear-claims.ended (List ℕ) Nothing (List ℕ)
+clear =
+    record {
+      clauses = λ w. clear-claims.clauses (w .𝓤) (w .H) (w .𝓖 .A) (w .𝓜 .mem) (w .𝓡 .run);
+      asked = clear-claims.Reads.Asked;
+      post = clear-claims.Reads.Post;
+      handed = λ κs a. now (a .0);
+      answered = λ κs r. tt;
+      left = λ κs e. now (e .0);
+    }
+
+pub clear-asks : AsksNothing clear
+clear-asks = record { asked = λ κs a. tt; empty = λ w κs a. (tt, refl) }
+
+pub clear-says : Says clear (λ i. tt) (λ i. replicate (length i) 0)
+clear-says = record { says = λ κs a r e p. (refl, p) }
+
+abbrev pub set-bit : Function set_bit.ended (List ℕ × ℕ) Nothing (List ℕ)
+set-bit =
+    record {
+      clauses = λ w. set_bit.clauses (w .𝓤) (w .H) (w .𝓖 .A) (w .𝓜 .mem) (w .𝓡 .run);
+      asked = set_bit.Reads.Asked;
+      post = set_bit.Reads.Post;
+      handed = λ κs a. (now (a .0), a .1 .0);
+      answered = λ κs r. tt;
+      left = λ κs e. now (e .0);
+    }
+
+pub set-bit-says : Says set-bit (λ i. tt) (λ i. withBit (i .0) (i .1))
+set-bit-says = record { says = λ κs a r e p. (refl, p) }

@@ -28,7 +28,7 @@ use Rattle.notice.proofs.Refusals.{rest-within}
 use Rattle.notice.proofs.Opened.{ReadRest, opened-dimension, opened-rest, read-rest, addresses-are}
 
 -- the part of a slice from a place on
-part-drop : (s : List ℕ) (k : ℕ) → take (length s - k) (drop k s) ≡ drop k s
+pub part-drop : (s : List ℕ) (k : ℕ) → take (length s - k) (drop k s) ≡ drop k s
 part-drop s k = take-all (length s - k) (drop k s) (omega (arith, length-drop k s))
 
 -- ---- what follows the dimension: the count's refusals, and then those of the addresses, on the bytes behind it

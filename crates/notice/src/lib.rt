@@ -105,7 +105,7 @@ fn check_rest(bytes: &[u8], n: usize, at: usize) -> Rest
 }
 
 // Sets every bit of a fault table to 0.
-fn clear(faults: &mut [u8])
+pub fn clear(faults: &mut [u8])
     ensures { λ _. ⌜ now (faults .exit) ≡ replicate (length (now (faults .entry))) 0 ⌝ }
 {
     let mut i: usize = 0;
@@ -116,7 +116,7 @@ fn clear(faults: &mut [u8])
 }
 
 // Sets node k's bit.
-fn set_bit(faults: &mut [u8], k: usize)
+pub fn set_bit(faults: &mut [u8], k: usize)
     requires { ⌜ k / 8 < length (now faults) ⌝ }
     ensures { λ _. ⌜ now (faults .exit) ≡ withBit (now (faults .entry)) k ⌝ }
 {

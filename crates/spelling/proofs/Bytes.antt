@@ -19,14 +19,14 @@ use Rattle.spelling.specs.Spelled.{addressBytes, faultyNodes, noticeByte
 use Rattle.spelling.proofs.Having.{having-count}
 use Rattle.spelling.proofs.Tables.{nodes-rise}
 
-bytes-none : Bytes []
+pub bytes-none : Bytes []
 bytes-none i = omega arith
 
-bytes-cons : (x : ℕ) (l : List ℕ) → x < 256 → Bytes l → Bytes (x ∷ l)
+pub bytes-cons : (x : ℕ) (l : List ℕ) → x < 256 → Bytes l → Bytes (x ∷ l)
 bytes-cons x l h b zero = h
 bytes-cons x l h b (suc i) = b i
 
-bytes-both : (l m : List ℕ) → Bytes l → Bytes m → Bytes (l ++ m)
+pub bytes-both : (l m : List ℕ) → Bytes l → Bytes m → Bytes (l ++ m)
 bytes-both [] m b c = c
 bytes-both (x ∷ l) m b c = bytes-cons x (l ++ m) (b 0) (bytes-both l m (λ i. b (suc i)) c)
 

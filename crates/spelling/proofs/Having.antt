@@ -39,11 +39,11 @@ among-other a l k d = rw (ne-eqb k a d)
 -- ---- the numbers that have p
 
 module _ (size : ℕ) (p : ℕ → Bool) where
-  having-yes : (left k : ℕ) → p k ≡ true → having (suc left) k p ≡ k ∷ having left (k + 1) p
+  pub having-yes : (left k : ℕ) → p k ≡ true → having (suc left) k p ≡ k ∷ having left (k + 1) p
   unfolding having
   having-yes left k e = rw e
 
-  having-no : (left k : ℕ) → p k ≡ false → having (suc left) k p ≡ having left (k + 1) p
+  pub having-no : (left k : ℕ) → p k ≡ false → having (suc left) k p ≡ having left (k + 1) p
   unfolding having
   having-no left k e = rw e
 

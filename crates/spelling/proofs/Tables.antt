@@ -27,7 +27,7 @@ use Rattle.spelling.proofs.Having.{having-among, having-rises}
 
 -- ---- setting bits leaves bytes
 
-bytes-set : (t : List ℕ) (j x : ℕ) → Bytes t → x < 256 → Bytes (set t j x)
+pub bytes-set : (t : List ℕ) (j x : ℕ) → Bytes t → x < 256 → Bytes (set t j x)
 bytes-set [] j x b h i = b i
 bytes-set (y ∷ t) zero x b h zero = h
 bytes-set (y ∷ t) zero x b h (suc i) = b (suc i)
@@ -55,7 +55,7 @@ bit-at t i j h =
     let r : (i * 8 + j) % 8 ≡ j = omega arith in
     rw (q, r)
 
-same-table : (t u : List ℕ) → length t ≡ length u → Bytes t → Bytes u → ((k : ℕ) → k < 8 * length t → nodeBit t k ≡ nodeBit u k) → t ≡ u
+pub same-table : (t u : List ℕ) → length t ≡ length u → Bytes t → Bytes u → ((k : ℕ) → k < 8 * length t → nodeBit t k ≡ nodeBit u k) → t ≡ u
 same-table t u e b c same =
     ext-getD 0 t u e
     (λ i h. bits-same 8 (getD t i 0) (getD u i 0) (b i) (c i) (λ j l. sym (bit-at t i j l) ∙ same (i * 8 + j) (omega arith) ∙ bit-at u i j l))

@@ -1,0 +1,12 @@
+pub mod Split
+pub mod Decimal
+pub mod Runs
+pub mod Entries
+pub mod Beyond
+pub mod Text
+pub mod Tables
+pub mod Length
+pub mod Counted
+pub mod Shortest
+pub mod Worked
+pub mod Laws
