@@ -1,4 +1,4 @@
--- What writing goes by: the refusals of the table come first, and then whether the notice has room. Answer and buffer follow from the number.
+-- What writing goes by: the refusals of the table come first, and then whether the bytes to be written have room. Answer and buffer follow from the number.
 use mathlib.Core.Bool.{cond}
 use mathlib.Core.List.{List, [], _∷_}
 use mathlib.Core.Logic.{_≢_}
@@ -13,8 +13,7 @@ use Rattle.cube.specs.Tables.{isDimension, tableLen}
 use Rattle.cube.proofs.Refusal.{None, first-none, first-passes, first-stops}
 use Rattle.cube.proofs.Tables.{dimension-is}
 use Rattle.spelling.specs.Laws.{IsTable}
-use Rattle.spelling.specs.Spelled.{noticeBytes}
-use Rattle.writer.specs.Writing.{bufferAfter, faultTests, writeRefusal, wrote}
+use Rattle.writer.specs.Writing.{afterBytes, faultTests, roomRefusal, wroteBytes}
 use Rattle.writer.specs.declared.Wrote.the-variants.{Length, Refused}
 
 -- ---- a table that is not refused
@@ -32,39 +31,40 @@ module _ (n : ℕ) (faults : List ℕ) where
   is-taken t =
       rw (le-leb 1 n (t .dimension .0), le-leb n 12 (t .dimension .1), eq-eqb (length faults) (tableLen n) (t .sized), t .unused)
 
-  -- its refusals come first,
-  pub table-first : (room : ℕ) → first (faultTests n faults) ≢ 0 → writeRefusal n faults room ≡ first (faultTests n faults)
-  unfolding writeRefusal
-  table-first room h = first-stops (faultTests n faults) (ltb room (length (noticeBytes n faults)) ⇒ 13 ∷ []) h
+-- ---- the bytes w are to be written
+
+module _ (n : ℕ) (faults w : List ℕ) (room : ℕ) where
+  -- the refusals of the table come first,
+  pub table-first : first (faultTests n faults) ≢ 0 → roomRefusal n faults w room ≡ first (faultTests n faults)
+  unfolding roomRefusal
+  table-first h = first-stops (faultTests n faults) (ltb room (length w) ⇒ 13 ∷ []) h
 
   -- and then the room decides
-  pub room-then : (room : ℕ) → IsTable n faults → writeRefusal n faults room ≡ cond (ltb room (length (noticeBytes n faults))) 13 0
-  unfolding writeRefusal first
-  room-then room t =
-      first-passes (faultTests n faults) (ltb room (length (noticeBytes n faults)) ⇒ 13 ∷ []) (first-none 3 (faultTests n faults) refl (is-taken t))
+  room-then : IsTable n faults → roomRefusal n faults w room ≡ cond (ltb room (length w)) 13 0
+  unfolding roomRefusal first
+  room-then t = first-passes (faultTests n faults) (ltb room (length w) ⇒ 13 ∷ []) (first-none 3 (faultTests n faults) refl (is-taken n faults t))
 
-  pub no-room : (room : ℕ) → IsTable n faults → room < length (noticeBytes n faults) → writeRefusal n faults room ≡ 13
-  no-room room t h = room-then room t ∙ rw (lt-ltb room (length (noticeBytes n faults)) h)
+  pub no-room : IsTable n faults → room < length w → roomRefusal n faults w room ≡ 13
+  no-room t h = room-then t ∙ rw (lt-ltb room (length w) h)
 
-  pub has-room : (room : ℕ) → IsTable n faults → length (noticeBytes n faults) ≤ room → writeRefusal n faults room ≡ 0
-  has-room room t h = room-then room t ∙ rw (le-ltb room (length (noticeBytes n faults)) h)
+  pub has-room : IsTable n faults → length w ≤ room → roomRefusal n faults w room ≡ 0
+  has-room t h = room-then t ∙ rw (le-ltb room (length w) h)
 
--- ---- answer and buffer, by the number
-
-module _ (n : ℕ) (faults : List ℕ) (room : ℕ) where
-  pub wrote-refused : {k : ℕ} → writeRefusal n faults room ≡ k → k ≢ 0 → Refused k ≡ wrote n faults room
-  unfolding wrote
+  -- the answer, by the number
+  pub wrote-refused : {k : ℕ} → roomRefusal n faults w room ≡ k → k ≢ 0 → Refused k ≡ wroteBytes n faults w room
+  unfolding wroteBytes
   wrote-refused {k} e h = rw (e, ne-eqb k 0 h)
 
-  pub wrote-length : writeRefusal n faults room ≡ 0 → Length (length (noticeBytes n faults)) ≡ wrote n faults room
-  unfolding wrote
+  pub wrote-length : roomRefusal n faults w room ≡ 0 → Length (length w) ≡ wroteBytes n faults w room
+  unfolding wroteBytes
   wrote-length e = rw e
 
-module _ (n : ℕ) (faults out : List ℕ) where
-  pub buffer-kept : {k : ℕ} → writeRefusal n faults (length out) ≡ k → k ≢ 0 → out ≡ bufferAfter n faults out
-  unfolding bufferAfter
-  buffer-kept e h = rw (sym (wrote-refused n faults (length out) e h))
+-- and the buffer
+module _ (n : ℕ) (faults w out : List ℕ) where
+  pub buffer-kept : {k : ℕ} → roomRefusal n faults w (length out) ≡ k → k ≢ 0 → out ≡ afterBytes n faults w out
+  unfolding afterBytes
+  buffer-kept e h = rw (sym (wrote-refused n faults w (length out) e h))
 
-  pub buffer-written : writeRefusal n faults (length out) ≡ 0 → over (noticeBytes n faults) out ≡ bufferAfter n faults out
-  unfolding bufferAfter
-  buffer-written e = rw (sym (wrote-length n faults (length out) e))
+  pub buffer-written : roomRefusal n faults w (length out) ≡ 0 → over w out ≡ afterBytes n faults w out
+  unfolding afterBytes
+  buffer-written e = rw (sym (wrote-length n faults w (length out) e))

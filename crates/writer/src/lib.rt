@@ -28,7 +28,7 @@ struct Measured {
 }
 
 // The refusal of a fault table of an n-cube, and 0 where there is none.
-fn table_refusal(n: usize, faults: &[u8]) -> u32
+pub fn table_refusal(n: usize, faults: &[u8]) -> u32
     ensures { λ r. ⌜ r ≡ first (faultTests n (now (faults .entry))) ⌝ }
 {
     if !is_dimension(n) {

@@ -65,10 +65,11 @@ table-refusal-requires c κs = search needs
 returns : tie.Need-returns
 returns c =
     let a = c .before .before .before .before .args in
+    let w = noticeBytes (a .n) (a .faults .now) in
     let e = c .before .table-refusal .ensures in
-    let k = table-first (a .n) (a .faults .now) (length (a .out .now)) (λ z. c .if1 .taken (e ∙ z)) ∙ sym e in (
-      wrote-refused (a .n) (a .faults .now) (length (a .out .now)) k (c .if1 .taken),
-      buffer-kept (a .n) (a .faults .now) (a .out .now) k (c .if1 .taken),
+    let k = table-first (a .n) (a .faults .now) w (length (a .out .now)) (λ z. c .if1 .taken (e ∙ z)) ∙ sym e in (
+      wrote-refused (a .n) (a .faults .now) w (length (a .out .now)) k (c .if1 .taken),
+      buffer-kept (a .n) (a .faults .now) w (a .out .now) k (c .if1 .taken),
     )
 
 nodes-requires : tie.Need-nodes-requires
@@ -104,10 +105,11 @@ add-length c =
 returns-2 : tie.Need-returns-2
 returns-2 c =
     let a = begun (c .before) .args in
+    let w = noticeBytes (a .n) (a .faults .now) in
     let t = table (taken (measured (c .before))) in
-    let k = no-room (a .n) (a .faults .now) (length (a .out .now)) t (omega (arith, length-is (c .before), c .if2 .taken)) in (
-      wrote-refused (a .n) (a .faults .now) (length (a .out .now)) k (λ z. omega arith),
-      buffer-kept (a .n) (a .faults .now) (a .out .now) k (λ z. omega arith),
+    let k = no-room (a .n) (a .faults .now) w (length (a .out .now)) t (omega (arith, length-is (c .before), c .if2 .taken)) in (
+      wrote-refused (a .n) (a .faults .now) w (length (a .out .now)) k (λ z. omega arith),
+      buffer-kept (a .n) (a .faults .now) w (a .out .now) k (λ z. omega arith),
     )
 
 put-notice-requires : tie.Need-put-notice-requires
@@ -122,9 +124,10 @@ returns-3 : tie.Need-returns-3
 returns-3 c =
     let e = c .before .before .before .before in
     let a = begun (e .before) .args in
-    let k = has-room (a .n) (a .faults .now) (length (a .out .now)) (table (taken (measured (e .before)))) (room e) in (
-      ap Length (length-is (e .before)) ∙ wrote-length (a .n) (a .faults .now) (length (a .out .now)) k,
-      c .before .before .put-notice .ensures ∙ buffer-written (a .n) (a .faults .now) (a .out .now) k,
+    let w = noticeBytes (a .n) (a .faults .now) in
+    let k = has-room (a .n) (a .faults .now) w (length (a .out .now)) (table (taken (measured (e .before)))) (room e) in (
+      ap Length (length-is (e .before)) ∙ wrote-length (a .n) (a .faults .now) w (length (a .out .now)) k,
+      c .before .before .put-notice .ensures ∙ buffer-written (a .n) (a .faults .now) w (a .out .now) k,
     )
 
 pub write-spec : {M : Type 1} → statement M
