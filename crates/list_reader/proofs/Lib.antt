@@ -1,0 +1,12 @@
+pub mod Parts
+pub mod Order
+pub mod Entries
+pub mod Counted
+pub mod Steps
+pub mod Again
+pub mod Nodes
+pub mod Filled
+pub mod Passes
+pub mod Tables
+pub mod Outcomes
+pub mod Functions
