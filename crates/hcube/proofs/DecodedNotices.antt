@@ -1,20 +1,29 @@
--- A notice, its dimension by itself, and what writing one answers come out of their numbers as they were put in.
+-- A notice, its dimension by itself, what writing one answers, and what reading and writing a list text answers, come out of their numbers as they were put
+-- in.
 use mathlib.Core.List.{List}
 use mathlib.Core.Path.{_≡_, refl, _∙_}
-use Prim.Native.Nat.{ℕ, _<_}
+use Prim.Native.Nat.{ℕ, _≤_, _<_}
 use native.Mathlib.Omega.{arith}
 use borrow.Author.Tests.{ne-eqb}
+use lib.ListN.{length}
 use Rattle.groups.specs.Number.{refusalIn}
 use Rattle.notice.specs.Notice as N
 use Rattle.notice.specs.declared.Noticed.{Noticed}
 use Rattle.notice.specs.declared.Noticed.the-variants as noticed
 use Rattle.notice.proofs.Agree.{parts}
 use Rattle.notice.proofs.Refusals.{refused-notice}
-use Rattle.writer.specs.Writing.{wrote}
+use Rattle.spelling.specs.Laws.{IsTable}
+use Rattle.spelling.specs.Spelled.{noticeBytes}
+use Rattle.writer.specs.Writing as T
 use Rattle.writer.specs.declared.Wrote.{Wrote}
 use Rattle.writer.specs.declared.Wrote.the-variants as written
-use Rattle.writer.proofs.Outcomes.{given-few, given-some, length-few}
-use Rattle.hcube.specs.Answers.{dimensionNumber, noticeNumber, packed, packedNotice, writtenNumber}
+use Rattle.writer.proofs.Outcomes.{given-few, given-some, length-few, notice-few}
+use Rattle.ranges.specs.Written.{listText}
+use Rattle.ranges.proofs.Laws.{ranges-laws}
+use Rattle.list_reader.specs.Reading.{listRefusal}
+use Rattle.list_reader.proofs.Outcomes.{refusal-few}
+use Rattle.list_writer.specs.Lists.{wroteList}
+use Rattle.hcube.specs.Answers.{dimensionNumber, listNumber, noticeNumber, packed, packedNotice, writtenNumber}
 use Rattle.hcube.specs.Decoded.{noticedFrom, refusalPart, valuePart, wroteFrom}
 use Rattle.hcube.proofs.Parts.{above, count-is, dimension-is, refusal-is, value-is}
 use Rattle.hcube.proofs.Small.{dimension-small}
@@ -48,14 +57,36 @@ notice-decoded bytes before = go (N.noticed bytes before) refl
         let c : valuePart (packedNotice 0 0 (packed k 0 at)) ≡ at = omega (arith, p .number .1, p .near) in
         rw (r, c, ne-eqb k 0 (λ z. omega (arith, p .number .0)))
 
-pub written-decoded : (n : ℕ) (faults : List ℕ) (room : ℕ) → wroteFrom (writtenNumber (wrote n faults room)) ≡ wrote n faults room
-unfolding wroteFrom
-written-decoded n faults room = go (wrote n faults room) refl
-  where
-    go : (a : Wrote) → wrote n faults room ≡ a → wroteFrom (writtenNumber a) ≡ a
-    go (written.Length len) e =
-        let h : len < 65536 = omega (arith, length-few n faults room e) in
-        rw (refusal-is 0 0 len (omega arith) (omega arith) h, value-is 0 0 len h)
-    go (written.Refused k) e =
-        let h : k < 256 = omega (arith, given-few n faults room e) in
-        rw (refusal-is k 0 0 h (omega arith) (omega arith), ne-eqb k 0 (given-some n faults room e))
+-- what writing the bytes w answers, where they are few
+module _ (n : ℕ) (faults w : List ℕ) (room : ℕ) (few : IsTable n faults → length w ≤ 65535) where
+  written-fits : (T.refusalOf (T.wroteBytes n faults w room) < 256) × (T.lengthOf (T.wroteBytes n faults w room) < 65536)
+  written-fits = go (T.wroteBytes n faults w room) refl
+    where
+      go : (a : Wrote) → T.wroteBytes n faults w room ≡ a → (T.refusalOf a < 256) × (T.lengthOf a < 65536)
+      go (written.Length len) e = (omega arith, omega (arith, length-few n faults w room e few))
+      go (written.Refused k) e = (omega (arith, given-few n faults w room e), omega arith)
+
+  bytes-decoded : wroteFrom (writtenNumber (T.wroteBytes n faults w room)) ≡ T.wroteBytes n faults w room
+  unfolding wroteFrom
+  bytes-decoded = go (T.wroteBytes n faults w room) refl written-fits
+    where
+      go : (a : Wrote) → T.wroteBytes n faults w room ≡ a → (T.refusalOf a < 256) × (T.lengthOf a < 65536) → wroteFrom (writtenNumber a) ≡ a
+      go (written.Length len) e f = rw (refusal-is 0 0 len (omega arith) (omega arith) (f .1), value-is 0 0 len (f .1))
+      go (written.Refused k) e f = rw (refusal-is k 0 0 (f .0) (omega arith) (omega arith), ne-eqb k 0 (given-some n faults w room e))
+
+-- of a notice, and of a list text
+module _ (n : ℕ) (faults : List ℕ) (room : ℕ) where
+  pub notice-fits : (T.refusalOf (T.wrote n faults room) < 256) × (T.lengthOf (T.wrote n faults room) < 65536)
+  notice-fits = written-fits n faults (noticeBytes n faults) room (λ t. omega (arith, notice-few n faults t))
+
+  pub written-decoded : wroteFrom (writtenNumber (T.wrote n faults room)) ≡ T.wrote n faults room
+  written-decoded = bytes-decoded n faults (noticeBytes n faults) room (λ t. omega (arith, notice-few n faults t))
+
+  pub list-fits : (T.refusalOf (wroteList n faults room) < 256) × (T.lengthOf (wroteList n faults room) < 65536)
+  list-fits = written-fits n faults (listText n faults) room (λ t. omega (arith, ranges-laws .short n faults (t .dimension .1)))
+
+  pub list-decoded : wroteFrom (writtenNumber (wroteList n faults room)) ≡ wroteList n faults room
+  list-decoded = bytes-decoded n faults (listText n faults) room (λ t. omega (arith, ranges-laws .short n faults (t .dimension .1)))
+
+pub list-refused : (n : ℕ) (text faults : List ℕ) → refusalPart (listNumber (listRefusal n text faults)) ≡ listRefusal n text faults
+list-refused n text faults = refusal-is (listRefusal n text faults) 0 0 (omega (arith, refusal-few n text faults)) (omega arith) (omega arith)

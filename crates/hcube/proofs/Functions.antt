@@ -15,11 +15,14 @@ use Rattle.why.specs.HopReasons.{hopReason}
 use Rattle.why.specs.NodeReasons.{labelsLeft, nodeReason}
 use Rattle.notice.specs.Notice.{dimensionAt, noticed, tableAfter}
 use Rattle.writer.specs.Writing.{bufferAfter, wrote}
+use Rattle.list_reader.specs.Reading.{listRefusal, listTable}
+use Rattle.list_writer.specs.Lists.{listAfter, wroteList}
 use Rattle.hcube.specs.Answers.{
   dimensionNumber,
   hopNumber,
   hopReasonNumber,
   labelNumber,
+  listNumber,
   nodeReasonNumber,
   noticeNumber,
   rowAfter,
@@ -35,6 +38,8 @@ use Rattle.hcube.proofs.hcube_why_hop
 use Rattle.hcube.proofs.hcube_notice_dimension
 use Rattle.hcube.proofs.hcube_read_notice
 use Rattle.hcube.proofs.hcube_write_notice
+use Rattle.hcube.proofs.hcube_read_list
+use Rattle.hcube.proofs.hcube_write_list
 
 abbrev pub label : Function hcube_label.ended (ℕ × ℕ × ℕ × List ℕ × List ℕ × List ℕ × List ℕ) ℕ (List ℕ)
 label =
@@ -181,3 +186,37 @@ write-notice-asks = record { asked = λ κs a. tt; empty = λ w κs a. (tt, refl
 
 pub write-notice-says : Says write-notice (λ i. writtenNumber (wrote (i .0) (i .1) (length (i .2)))) (λ i. bufferAfter (i .0) (i .1) (i .2))
 write-notice-says = record { says = λ κs a r e p. (p .0, p .1) }
+
+abbrev pub read-list : Function hcube_read_list.ended (ℕ × List ℕ × List ℕ) ℕ (List ℕ)
+read-list =
+    record {
+      clauses = λ w. hcube_read_list.clauses (w .𝓤) (w .H) (w .𝓖 .A) (w .𝓜 .mem) (w .𝓡 .run);
+      asked = hcube_read_list.Reads.Asked;
+      post = hcube_read_list.Reads.Post;
+      handed = λ κs a. (a .0, now (a .1 .0), now (a .1 .1 .0));
+      answered = λ κs r. r;
+      left = λ κs e. now (e .1 .1 .0);
+    }
+
+pub read-list-asks : AsksNothing read-list
+read-list-asks = record { asked = λ κs a. tt; empty = λ w κs a. (tt, refl) }
+
+pub read-list-says : Says read-list (λ i. listNumber (listRefusal (i .0) (i .1) (i .2))) (λ i. listTable (i .0) (i .1) (i .2))
+read-list-says = record { says = λ κs a r e p. (p .0, p .1) }
+
+abbrev pub write-list : Function hcube_write_list.ended (ℕ × List ℕ × List ℕ) ℕ (List ℕ)
+write-list =
+    record {
+      clauses = λ w. hcube_write_list.clauses (w .𝓤) (w .H) (w .𝓖 .A) (w .𝓜 .mem) (w .𝓡 .run);
+      asked = hcube_write_list.Reads.Asked;
+      post = hcube_write_list.Reads.Post;
+      handed = λ κs a. (a .0, now (a .1 .0), now (a .1 .1 .0));
+      answered = λ κs r. r;
+      left = λ κs e. now (e .1 .1 .0);
+    }
+
+pub write-list-asks : AsksNothing write-list
+write-list-asks = record { asked = λ κs a. tt; empty = λ w κs a. (tt, refl) }
+
+pub write-list-says : Says write-list (λ i. writtenNumber (wroteList (i .0) (i .1) (length (i .2)))) (λ i. listAfter (i .0) (i .1) (i .2))
+write-list-says = record { says = λ κs a r e p. (p .0, p .1) }

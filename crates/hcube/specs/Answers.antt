@@ -64,9 +64,13 @@ packedNotice dimension count low = dimension * 281474976710656 + count * 4294967
 abbrev pub noticeNumber : Noticed → ℕ
 noticeNumber a = packedNotice (N.dimensionOf a) (N.countOf a) (packed (N.refusalOf a) 0 (N.valueOf a))
 
--- writing a notice: kind 0, the value is its length
+-- writing a notice or a list text: kind 0, the value is its length
 abbrev pub writtenNumber : Wrote → ℕ
 writtenNumber a = packed (T.refusalOf a) 0 (T.lengthOf a)
+
+-- reading a list text: kind 0, value 0
+abbrev pub listNumber : (refusal : ℕ) → ℕ
+listNumber refusal = packed refusal 0 0
 
 -- the walk with the buffers that C lends
 abbrev pub walkedBy : (n j s d : ℕ) (labels row : List ℕ) → Walked

@@ -13,6 +13,8 @@ use Rattle.causes.specs.declared.Cause.the-variants as cause
 use Rattle.labels.specs.Labelling.{labelled}
 use Rattle.labels.specs.declared.Labelled.{Labelled}
 use Rattle.labels.specs.declared.Labelled.the-variants as labelled
+use Rattle.list_reader.specs.Reading.{listRefusal}
+use Rattle.list_writer.specs.Lists.{wroteList}
 use Rattle.hop.specs.Hop.{hopped}
 use Rattle.hop.specs.declared.Decision.{Decision}
 use Rattle.hop.specs.declared.Decision.the-variants.{Deliver, Hop, Halted}
@@ -39,6 +41,7 @@ use Rattle.hcube.specs.Answers.{
   hopNumber,
   hopReasonNumber,
   labelNumber,
+  listNumber,
   nodeReasonNumber,
   noticeNumber,
   rowAfter,
@@ -154,5 +157,7 @@ pub record Decodes : Type 0 where
       → Told (dimensionAt bytes) (refusalPart (dimensionNumber (dimensionAt bytes))) (valuePart (dimensionNumber (dimensionAt bytes)))
   pub notice : (bytes before : List ℕ) → noticedFrom (noticeNumber (noticed bytes before)) ≡ noticed bytes before
   pub written : (n : ℕ) (faults : List ℕ) (room : ℕ) → wroteFrom (writtenNumber (wrote n faults room)) ≡ wrote n faults room
+  pub list-read : (n : ℕ) (text faults : List ℕ) → refusalPart (listNumber (listRefusal n text faults)) ≡ listRefusal n text faults
+  pub list-written : (n : ℕ) (faults : List ℕ) (room : ℕ) → wroteFrom (writtenNumber (wroteList n faults room)) ≡ wroteList n faults room
   -- and an answer that is cut to 32 bits still shows its refusal, its kind and its value
   pub cut : (r : ℕ) → Shows r (r % 4294967296)

@@ -2,9 +2,11 @@
 // narrowed, so none is mistaken for a smaller one.
 ghost use Prim.Native.Nat.{_<_, _≤_};
 ghost use Rattle.cube.specs.Tables.{tab};
-ghost use Rattle.hcube.specs.Answers.{dimensionNumber, hasRow, hopNumber, hopReasonNumber, labelNumber, nodeReasonNumber, noticeNumber, packed, packedNotice, packedReason, rowAfter, rowByte, walkNumber, walkedBy, writtenNumber};
+ghost use Rattle.hcube.specs.Answers.{dimensionNumber, hasRow, hopNumber, hopReasonNumber, labelNumber, listNumber, nodeReasonNumber, noticeNumber, packed, packedNotice, packedReason, rowAfter, rowByte, walkNumber, walkedBy, writtenNumber};
 ghost use Rattle.hcube.specs.Fits.{CauseFits, RowFits, WalkFits};
 ghost use Rattle.jobs.specs.Jobs.{labelFor};
+ghost use Rattle.list_reader.specs.Reading.{listRefusal, listTable};
+ghost use Rattle.list_writer.specs.Lists.{listAfter, wroteList};
 ghost use Rattle.labels.specs.Labelling.{labelled, labelsAfter};
 ghost use Rattle.notice.specs.Notice.{dimensionAt, noticed, tableAfter};
 ghost use Rattle.hop.specs.Hop.{decisionKind, decisionValue, hopped};
@@ -12,7 +14,7 @@ ghost use Rattle.walk.specs.Walk.{rowBytes};
 ghost use Rattle.why.specs.HopReasons.{hopReason};
 ghost use Rattle.why.specs.NodeReasons.{labelsLeft, nodeReason};
 ghost use Rattle.why.specs.declared.NodeReason.the-variants.{Unsafe};
-ghost use Rattle.writer.specs.Writing.{bufferAfter, wrote};
+ghost use Rattle.writer.specs.Writing.{bufferAfter, lengthOf, refusalOf, wrote};
 ghost use Rattle.rule.specs.Cabinet.{cabinet};
 ghost use lib.ListN.{length};
 ghost use mathlib.Core.Path.{_≡_};
@@ -279,6 +281,17 @@ pub extern "C" fn hcube_read_notice(bytes: &[u8], faults: &mut [u8]) -> u64
     }
 }
 
+// What writing answers.
+fn pack_written(answer: Wrote) -> u32
+    requires { ⌜ (refusalOf answer < 256) × (lengthOf answer < 65536) ⌝ }
+    ensures { λ r. ⌜ r ≡ writtenNumber answer ⌝ }
+{
+    match answer {
+        Wrote::Length(length) => pack(0, 0, length),
+        Wrote::Refused(k) => pack(k, 0, 0),
+    }
+}
+
 // Writes the notice of a fault table to the front of the buffer: its length, or the refusal, which leaves the buffer as it was.
 #[no_mangle]
 pub extern "C" fn hcube_write_notice(n: u32, faults: &[u8], out: &mut [u8]) -> u32
@@ -286,8 +299,25 @@ pub extern "C" fn hcube_write_notice(n: u32, faults: &[u8], out: &mut [u8]) -> u
     ensures out { λ r. ⌜ now (out .exit) ≡ bufferAfter n (now (faults .entry)) (now (out .entry)) ⌝ }
 {
     let answer = writer::write(n as usize, faults, out);
-    match answer {
-        Wrote::Length(length) => pack(0, 0, length),
-        Wrote::Refused(k) => pack(k, 0, 0),
-    }
+    pack_written(answer)
+}
+
+// Reads a list text into the fault table: 0, or the refusal, which leaves the table as it was.
+#[no_mangle]
+pub extern "C" fn hcube_read_list(n: u32, text: &[u8], faults: &mut [u8]) -> u32
+    ensures answer { λ r. ⌜ r ≡ listNumber (listRefusal n (now (text .entry)) (now (faults .entry))) ⌝ }
+    ensures faults { λ r. ⌜ now (faults .exit) ≡ listTable n (now (text .entry)) (now (faults .entry)) ⌝ }
+{
+    let answer = list_reader::read(n as usize, text, faults);
+    pack(answer, 0, 0)
+}
+
+// Writes the list text of a fault table to the front of the buffer: its length, or the refusal, which leaves the buffer as it was.
+#[no_mangle]
+pub extern "C" fn hcube_write_list(n: u32, faults: &[u8], out: &mut [u8]) -> u32
+    ensures answer { λ r. ⌜ r ≡ writtenNumber (wroteList n (now (faults .entry)) (length (now (out .entry)))) ⌝ }
+    ensures out { λ r. ⌜ now (out .exit) ≡ listAfter n (now (faults .entry)) (now (out .entry)) ⌝ }
+{
+    let answer = list_writer::write(n as usize, faults, out);
+    pack_written(answer)
 }

@@ -29,11 +29,16 @@ use Rattle.why.specs.declared.NodeReason.{NodeReason}
 use Rattle.why.proofs.Functions as why
 use Rattle.writer.specs.Writing.{bufferAfter, wrote}
 use Rattle.writer.proofs.Functions as writer
+use Rattle.list_reader.specs.Reading.{listRefusal, listTable}
+use Rattle.list_reader.proofs.Functions as list_reader
+use Rattle.list_writer.specs.Lists.{listAfter, wroteList}
+use Rattle.list_writer.proofs.Functions as list_writer
 use Rattle.hcube.specs.Answers.{
   dimensionNumber,
   hopNumber,
   hopReasonNumber,
   labelNumber,
+  listNumber,
   nodeReasonNumber,
   noticeNumber,
   rowAfter,
@@ -89,6 +94,32 @@ module _ (n : ℕ) (faults before : List ℕ) where
   c-writes =
       may hcube.write-notice two (n, (lend faults, (lend before, tt))) (writtenNumber (wrote n faults (length before)))
       (n, (lend faults, (lend written, tt))) (refl, refl)
+
+  abbrev listed : List ℕ
+  listed = listAfter n faults before
+
+  writes-list : May list_writer.write (n, faults, before) (wroteList n faults (length before)) listed
+  writes-list =
+      may list_writer.write two (n, (lend faults, (lend before, tt))) (wroteList n faults (length before)) (n, (lend faults, (lend listed, tt)))
+      (refl, refl)
+
+  c-writes-list : May hcube.write-list (n, faults, before) (writtenNumber (wroteList n faults (length before))) listed
+  c-writes-list =
+      may hcube.write-list two (n, (lend faults, (lend before, tt))) (writtenNumber (wroteList n faults (length before)))
+      (n, (lend faults, (lend listed, tt))) (refl, refl)
+
+module _ (n : ℕ) (text before : List ℕ) where
+  abbrev read-table : List ℕ
+  read-table = listTable n text before
+
+  reads-list : May list_reader.read (n, text, before) (listRefusal n text before) read-table
+  reads-list =
+      may list_reader.read two (n, (lend text, (lend before, tt))) (listRefusal n text before) (n, (lend text, (lend read-table, tt))) (refl, refl)
+
+  c-reads-list : May hcube.read-list (n, text, before) (listNumber (listRefusal n text before)) read-table
+  c-reads-list =
+      may hcube.read-list two (n, (lend text, (lend before, tt))) (listNumber (listRefusal n text before))
+      (n, (lend text, (lend read-table, tt))) (refl, refl)
 
 module _ (K : Cabinet) (j : ℕ) (before : List ℕ) where
   abbrev answer : Labelled
@@ -162,6 +193,8 @@ rattle-answers =
       reads = λ bytes before. (_, _, reads bytes before);
       sizes = λ bytes. (_, _, (dimensionAt bytes, sizes bytes, record { refusal = refl; value = refl }));
       writes = λ n faults before. (_, _, writes n faults before);
+      reads-list = λ n text before. (_, _, reads-list n text before);
+      writes-list = λ n faults before. (_, _, writes-list n faults before);
       labels = λ K j before. (_, _, labels K j before);
       hops = λ n j a b l. (_, hops n j a b l);
       why-nodes = λ K j x before. (_, _, why-nodes K j before x);
@@ -175,6 +208,8 @@ c-answers =
       reads = λ bytes before. (_, _, (_, c-reads bytes before, refl));
       sizes = λ bytes. (_, _, (_, c-sizes bytes, refl, refl));
       writes = λ n faults before. (_, _, (_, c-writes n faults before, refl));
+      reads-list = λ n text before. (_, _, (_, c-reads-list n text before, refl));
+      writes-list = λ n faults before. (_, _, (_, c-writes-list n faults before, refl));
       labels = λ K j before. (_, _, (_, c-labels K j before, refl));
       hops = λ n j a b l. (_, (_, c-hops n j a b l, refl));
       why-nodes = λ K j x before. (_, _, (_, c-why-nodes K j before x, refl));

@@ -34,6 +34,12 @@ module _ {When : ℕ → Type 0} where
   one-test true says said rest = here (says refl)
   one-test false says said rest = later (λ w. clash (said w) refl) rest
 
+  -- a test before others that go by its not holding
+  pub test-then : {k r : ℕ} {more : List ℕ} (b : Bool) → (b ≡ true → When k) → (When k → b ≡ true) → (b ≡ false → Given When more r)
+      → Given When (k ∷ more) (cond b k r)
+  test-then true says said rest = here (says refl)
+  test-then false says said rest = later (λ w. clash (said w) refl) (rest refl)
+
   -- a test before others with the same number
   pub also-test : {k r : ℕ} {more : List ℕ} (b : Bool) → (b ≡ true → When k) → (b ≡ false → Given When (k ∷ more) r) → Given When (k ∷ more) (cond b k r)
   also-test true says others = here (says refl)

@@ -36,12 +36,15 @@ use Rattle.why.specs.declared.NodeReason.the-variants as because
 use Rattle.why.proofs.Functions as why
 use Rattle.writer.specs.declared.Wrote.{Wrote}
 use Rattle.writer.proofs.Functions as writer
+use Rattle.list_reader.proofs.Functions as list_reader
+use Rattle.list_writer.proofs.Functions as list_writer
 use Rattle.hcube.specs.Answers.{
   dimensionNumber,
   hasRow,
   hopNumber,
   hopReasonNumber,
   labelNumber,
+  listNumber,
   nodeReasonNumber,
   noticeNumber,
   rowAfter,
@@ -98,6 +101,14 @@ dimension-same m v = let e = sym (told notice.dimension-says v .0) in (told hcub
 written-same : {n r : ℕ} {x : Wrote} {faults before after after′ : List ℕ} → May hcube.write-notice (n, faults, before) r after
     → May writer.write (n, faults, before) x after′ → r ≡ writtenNumber x
 written-same m v = told hcube.write-notice-says m .0 ∙ ap writtenNumber (sym (told writer.write-says v .0))
+
+list-read-same : {n r k : ℕ} {text before after after′ : List ℕ} → May hcube.read-list (n, text, before) r after
+    → May list_reader.read (n, text, before) k after′ → r ≡ listNumber k
+list-read-same m v = told hcube.read-list-says m .0 ∙ ap listNumber (sym (told list_reader.read-says v .0))
+
+list-written-same : {n r : ℕ} {x : Wrote} {faults before after after′ : List ℕ} → May hcube.write-list (n, faults, before) r after
+    → May list_writer.write (n, faults, before) x after′ → r ≡ writtenNumber x
+list-written-same m v = told hcube.write-list-says m .0 ∙ ap writtenNumber (sym (told list_writer.write-says v .0))
 
 -- a refused walk has hop count 0
 walk-refuses : {n j s d r k : ℕ} {buffer before after : List ℕ} {w : Walked} → May hcube.walk (n, j, s, d, buffer, before) r after
@@ -202,6 +213,9 @@ in-c =
           let p = notice-laws .refused bytes before k at (sym (told notice.read-says v .0)) in (omega arith, omega (arith, p .near));
       writes-length = λ {n} {r} m v. let e = written-same m v in omega arith;
       writes-refuses = λ {n} {r} m v. let e = written-same m v in omega arith;
+      reads-list = λ {n} {r} m v. let e = list-read-same m v in omega arith;
+      writes-list-length = λ {n} {r} m v. let e = list-written-same m v in omega arith;
+      writes-list-refuses = λ {n} {r} m v. let e = list-written-same m v in omega arith;
       row-nodes = λ m h v. row-nodes m h v;
       row-bytes = row-bytes;
       row-once = row-once;

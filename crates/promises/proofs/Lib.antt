@@ -10,7 +10,9 @@ pub mod Why
 pub mod Outcomes
 pub mod Walks
 pub mod Demands
+pub mod Written
 pub mod Writes
+pub mod Lists
 pub mod InC
 pub mod InRattle
 pub mod Answers

@@ -30,6 +30,10 @@ use Rattle.why.proofs.Functions as why
 use Rattle.writer.specs.Writing.{bufferAfter, wrote}
 use Rattle.writer.specs.declared.Wrote.{Wrote}
 use Rattle.writer.proofs.Functions as writer
+use Rattle.list_reader.specs.Reading.{listRefusal, listTable}
+use Rattle.list_reader.proofs.Functions as list_reader
+use Rattle.list_writer.specs.Lists.{listAfter, wroteList}
+use Rattle.list_writer.proofs.Functions as list_writer
 use Rattle.hcube.specs.Decoded.{hopReasonFrom, hoppedFrom, labelledFrom, nodeReasonFrom, noticedFrom, refusalPart, valuePart, walkedFrom, wroteFrom}
 use Rattle.hcube.proofs.Decoded.{decodes}
 use Rattle.hcube.proofs.Functions as hcube
@@ -41,6 +45,12 @@ pub record Faithful (lib : Library) : Type 0 where
   pub writes :
       {n : ℕ} {faults before after : List ℕ} {x : Wrote} → lib .writes n faults before x after
       → (x ≡ wrote n faults (length before)) × (after ≡ bufferAfter n faults before)
+  pub reads-list :
+      {n k : ℕ} {text before after : List ℕ} → lib .reads-list n text before k after
+      → (k ≡ listRefusal n text before) × (after ≡ listTable n text before)
+  pub writes-list :
+      {n : ℕ} {faults before after : List ℕ} {x : Wrote} → lib .writes-list n faults before x after
+      → (x ≡ wroteList n faults (length before)) × (after ≡ listAfter n faults before)
   pub labels :
       {K : Cabinet} {j : ℕ} {before after : List ℕ} {x : Labelled} → lib .labels K j before x after
       → (x ≡ labelled K j (length before)) × (after ≡ labelsAfter K j before)
@@ -59,6 +69,8 @@ rattle-faithful =
       reads = told notice.read-says;
       sizes = λ {bytes} {k} {v} m. subst (λ (x : Number). Told x k v) (told notice.dimension-says (m .1) .0) (m .2);
       writes = told writer.write-says;
+      reads-list = told list_reader.read-says;
+      writes-list = told list_writer.write-says;
       labels = told labels.label-says;
       hops = λ m. told hop.hop-says m .0;
       why-nodes = told why.why-node-says;
@@ -80,6 +92,10 @@ c-faithful =
           record { refusal = sym (m .2) ∙ ap refusalPart t ∙ d .refusal; value = sym (m .3) ∙ ap valuePart t ∙ d .value };
       writes = λ {n} {faults} {before} m. let t = told hcube.write-notice-says (m .1) in
           (sym (m .2) ∙ ap wroteFrom (t .0) ∙ decodes .written n faults (length before), t .1);
+      reads-list = λ {n} {k} {text} {before} m. let t = told hcube.read-list-says (m .1) in
+          (sym (m .2) ∙ ap refusalPart (t .0) ∙ decodes .list-read n text before, t .1);
+      writes-list = λ {n} {faults} {before} m. let t = told hcube.write-list-says (m .1) in
+          (sym (m .2) ∙ ap wroteFrom (t .0) ∙ decodes .list-written n faults (length before), t .1);
       labels = λ {K} {j} {before} m. let t = told hcube.label-says (m .1) in
           (sym (m .2) ∙ ap labelledFrom (t .0) ∙ decodes .label K j (length before), t .1);
       hops = λ {n} {j} {c} {d} {buffer} m. let t = told hcube.hop-says (m .1) in

@@ -5,6 +5,7 @@ use Rattle.groups.proofs.Laws.{number-laws}
 use Rattle.notice.proofs.Laws.{notice-laws}
 use Rattle.reader.proofs.Laws.{reader-laws}
 use Rattle.spelling.proofs.Laws.{spelling-laws}
+use Rattle.ranges.proofs.Laws.{ranges-laws}
 use Rattle.rule.proofs.Exchanges.{exchanged}
 use Rattle.rule.proofs.Good.{labels-good}
 use Rattle.rule.proofs.Largest.{safe-largest}
@@ -43,6 +44,7 @@ use Rattle.promises.proofs.Tied.{all-tied, in-order}
 use Rattle.promises.proofs.Why.{c-whys, rattle-whys}
 use Rattle.promises.proofs.Worked.{worked}
 use Rattle.promises.proofs.Writes.{c-writes, rattle-writes}
+use Rattle.promises.proofs.Lists.{c-lists, rattle-lists}
 
 pub promises : Promises
 promises =
@@ -62,6 +64,8 @@ promises =
       c-whys = c-whys;
       rattle-writes = rattle-writes;
       c-writes = c-writes;
+      rattle-lists = rattle-lists;
+      c-lists = c-lists;
       in-c = in-c;
       in-rattle = in-rattle;
       decodes = decodes;
@@ -97,6 +101,7 @@ promises =
       notice = notice-laws;
       reader = reader-laws;
       spelling = spelling-laws;
+      ranges = ranges-laws;
       message = message-laws;
       worked = worked;
     }

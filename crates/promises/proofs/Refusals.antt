@@ -58,7 +58,7 @@ use Rattle.promises.proofs.Given.{
   wrong-job,
 }
 use Rattle.promises.proofs.Eight.{eight}
-use Rattle.promises.proofs.WriteRefusals.{write-given}
+use Rattle.promises.proofs.WriteRefusals.{read-list-given, write-given, write-list-given}
 use Rattle.promises.proofs.LabelRefusals.{label-given, label-refusal, node-given, node-refusal}
 use Rattle.promises.proofs.Notices.{notice-given, notice-one, number-given}
 use Rattle.promises.proofs.Sizes.{dimension-given, dimension-one}
@@ -191,5 +191,7 @@ refusals = record {
   number = number-given;
   notice = notice-given;
   writing = write-given;
+  list-reading = read-list-given;
+  list-writing = write-list-given;
   dimension = dimension-given;
 }

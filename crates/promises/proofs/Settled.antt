@@ -10,6 +10,8 @@ use Rattle.hop.proofs.Functions as hop
 use Rattle.walk.proofs.Functions as walk
 use Rattle.why.proofs.Functions as why
 use Rattle.writer.proofs.Functions as writer
+use Rattle.list_reader.proofs.Functions as list_reader
+use Rattle.list_writer.proofs.Functions as list_writer
 use Rattle.hcube.proofs.Functions as hcube
 use Rattle.promises.specs.Settled.{Settled, Unasked}
 
@@ -24,6 +26,8 @@ settled =
       hcube-notice-dimension = settles hcube.notice-dimension-says;
       hcube-read-notice = settles hcube.read-notice-says;
       hcube-write-notice = settles hcube.write-notice-says;
+      hcube-read-list = settles hcube.read-list-says;
+      hcube-write-list = settles hcube.write-list-says;
       labels-label = settles labels.label-says;
       labels-label-refusal = settles labels.label-refusal-says;
       labels-settle = settles labels.settle-says;
@@ -36,7 +40,11 @@ settled =
       notice-dimension = settles notice.dimension-says;
       notice-read = settles notice.read-says;
       writer-write = settles writer.write-says;
+      writer-table-refusal = settles writer.table-refusal-says;
+      list-reader-read = settles list_reader.read-says;
+      list-writer-write = settles list_writer.write-says;
       notice-tail = settles notice.tail-says;
+      notice-clear = settles notice.clear-says;
       groups-number-at = settles groups.number-at-says;
       reader-new = settles reader.new-says;
       reader-next = settles reader.next-says;
@@ -56,6 +64,7 @@ settled =
       cube-node-bit = settles cube.node-bit-says;
       cube-unused-set = settles cube.unused-set-says;
       jobs-label-bytes = settles jobs.label-bytes-says;
+      notice-set-bit = settles notice.set-bit-says;
       jobs-half = settles jobs.half-says;
     }
 
@@ -70,6 +79,8 @@ unasked =
       hcube-notice-dimension = hcube.notice-dimension-asks;
       hcube-read-notice = hcube.read-notice-asks;
       hcube-write-notice = hcube.write-notice-asks;
+      hcube-read-list = hcube.read-list-asks;
+      hcube-write-list = hcube.write-list-asks;
       labels-label = labels.label-asks;
       labels-label-refusal = labels.label-refusal-asks;
       labels-settle = labels.settle-asks;
@@ -82,7 +93,11 @@ unasked =
       notice-dimension = notice.dimension-asks;
       notice-read = notice.read-asks;
       writer-write = writer.write-asks;
+      writer-table-refusal = writer.table-refusal-asks;
+      list-reader-read = list_reader.read-asks;
+      list-writer-write = list_writer.write-asks;
       notice-tail = notice.tail-asks;
+      notice-clear = notice.clear-asks;
       groups-number-at = groups.number-at-asks;
       reader-new = reader.new-asks;
       reader-next = reader.next-asks;

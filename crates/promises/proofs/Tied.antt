@@ -15,6 +15,8 @@ all-tied =
       hcube-notice-dimension = record { clauses = λ w. refl; asked = refl; post = refl };
       hcube-read-notice = record { clauses = λ w. refl; asked = refl; post = refl };
       hcube-write-notice = record { clauses = λ w. refl; asked = refl; post = refl };
+      hcube-read-list = record { clauses = λ w. refl; asked = refl; post = refl };
+      hcube-write-list = record { clauses = λ w. refl; asked = refl; post = refl };
       labels-label = record { clauses = λ w. refl; asked = refl; post = refl };
       labels-label-refusal = record { clauses = λ w. refl; asked = refl; post = refl };
       labels-start = record { clauses = λ w. refl; asked = refl; post = refl };
@@ -33,6 +35,11 @@ all-tied =
       notice-dimension = record { clauses = λ w. refl; asked = refl; post = refl };
       notice-read = record { clauses = λ w. refl; asked = refl; post = refl };
       writer-write = record { clauses = λ w. refl; asked = refl; post = refl };
+      writer-table-refusal = record { clauses = λ w. refl; asked = refl; post = refl };
+      list-reader-read = record { clauses = λ w. refl; asked = refl; post = refl };
+      list-writer-write = record { clauses = λ w. refl; asked = refl; post = refl };
+      notice-clear = record { clauses = λ w. refl; asked = refl; post = refl };
+      notice-set-bit = record { clauses = λ w. refl; asked = refl; post = refl };
       notice-tail = record { clauses = λ w. refl; asked = refl; post = refl };
       groups-number-at = record { clauses = λ w. refl; asked = refl; post = refl };
       reader-new = record { clauses = λ w. refl; post = λ κs a g r e. (reader.new-ensures w₀ κs a r e, refl) };
@@ -61,6 +68,8 @@ in-order =
       hcube-notice-dimension = λ κs a. refl;
       hcube-read-notice = λ κs a. refl;
       hcube-write-notice = λ κs a. refl;
+      hcube-read-list = λ κs a. refl;
+      hcube-write-list = λ κs a. refl;
       labels-label = λ κs a. refl;
       hop-hop = λ κs a. refl;
       walk-walk = λ κs a. refl;
@@ -70,4 +79,6 @@ in-order =
       notice-dimension = λ κs a. refl;
       notice-read = λ κs a. refl;
       writer-write = λ κs a. refl;
+      list-reader-read = λ κs a. refl;
+      list-writer-write = λ κs a. refl;
     }

@@ -1,39 +1,77 @@
--- The refusals of writing a notice are those that the words give, test by test.
+-- The refusals of writing a notice or a list text, and of reading a list text, are those that the words give, test by test.
 use mathlib.Core.Path.{_≡_}
 use mathlib.Core.Bool.{true, not}
 use mathlib.Core.List.{List}
-use Prim.Native.Nat.{ℕ}
+use Prim.Native.Nat.{ℕ, _^_, _≤_}
 use lib.Dec.{eqb, ltb}
 use lib.ListN.{length}
-use borrow.Author.Tests.{lt-ltb, ltb-true}
+use borrow.Author.Tests.{lt-ltb, ltb-true, not-false}
 use Rattle.cube.specs.Refusal.{first}
 use Rattle.cube.specs.Tables.{isDimension, tableLen, unusedSet}
+use Rattle.ranges.specs.Grammar.{isList, named}
+use Rattle.ranges.proofs.Laws.{ranges-laws}
 use Rattle.spelling.specs.Spelled.{noticeBytes}
+use Rattle.ranges.specs.Written.{listText}
 use Rattle.writer.specs.Writing as T
 use Rattle.writer.proofs.Outcomes.{refusal-is}
-use Rattle.promises.specs.Refusals.{WriteGiven, WriteWhen, none, write-1, write-13, write-2, write-3}
-use Rattle.promises.proofs.Given.{one-test, unused-says, wrong-dimension, wrong-table}
+use Rattle.list_reader.specs.Reading.{listRefusal}
+use Rattle.list_writer.specs.Lists.{wroteList}
+use Rattle.promises.specs.Refusals.{BytesGiven, ReadListGiven, ReadListWhen, WriteGiven, WriteListGiven, WriteWhen, list-1, list-12, list-14, list-2}
+use Rattle.promises.specs.Refusals.{none, write-1, write-13, write-2, write-3}
+use Rattle.promises.proofs.Given.{not-says, one-test, test-then, unused-says, wrong-dimension, wrong-table}
 
-module _ (n : ℕ) (faults : List ℕ) (room : ℕ) where
-  given : WriteGiven n faults room (T.writeRefusal n faults room)
-  unfolding T.writeRefusal first
+-- ---- writing the bytes w
+
+module _ (n : ℕ) (faults w : List ℕ) (room : ℕ) where
+  given : BytesGiven n faults w room (T.roomRefusal n faults w room)
+  unfolding T.roomRefusal first
   given =
       one-test _ (λ e. write-1 (wrong-dimension n .0 e)) said-1
       (one-test _ (λ e. write-2 (wrong-table n (length faults) .0 e)) said-2
       (one-test _ (λ e. write-3 (unused-says n faults .0 e)) said-3
-      (one-test _ (λ e. write-13 (ltb-true room (length (noticeBytes n faults)) e)) said-13 none)))
+      (one-test _ (λ e. write-13 (ltb-true room (length w) e)) said-13 none)))
     where
-      said-1 : WriteWhen n faults room 1 → not (isDimension n) ≡ true
-      said-1 (write-1 w) = wrong-dimension n .1 w
+      said-1 : WriteWhen n faults w room 1 → not (isDimension n) ≡ true
+      said-1 (write-1 d) = wrong-dimension n .1 d
 
-      said-2 : WriteWhen n faults room 2 → not (eqb (length faults) (tableLen n)) ≡ true
-      said-2 (write-2 w) = wrong-table n (length faults) .1 w
+      said-2 : WriteWhen n faults w room 2 → not (eqb (length faults) (tableLen n)) ≡ true
+      said-2 (write-2 l) = wrong-table n (length faults) .1 l
 
-      said-3 : WriteWhen n faults room 3 → unusedSet n faults ≡ true
+      said-3 : WriteWhen n faults w room 3 → unusedSet n faults ≡ true
       said-3 (write-3 u) = unused-says n faults .1 u
 
-      said-13 : WriteWhen n faults room 13 → ltb room (length (noticeBytes n faults)) ≡ true
-      said-13 (write-13 l) = lt-ltb room (length (noticeBytes n faults)) l
+      said-13 : WriteWhen n faults w room 13 → ltb room (length w) ≡ true
+      said-13 (write-13 l) = lt-ltb room (length w) l
 
-  pub write-given : WriteGiven n faults room (T.refusalOf (T.wrote n faults room))
-  write-given = rw (refusal-is n faults room) given
+  bytes-given : BytesGiven n faults w room (T.refusalOf (T.wroteBytes n faults w room))
+  bytes-given = rw (refusal-is n faults w room) given
+
+pub write-given : (n : ℕ) (faults : List ℕ) (room : ℕ) → WriteGiven n faults room (T.refusalOf (T.wrote n faults room))
+write-given n faults room = bytes-given n faults (noticeBytes n faults) room
+
+pub write-list-given : (n : ℕ) (faults : List ℕ) (room : ℕ) → WriteListGiven n faults room (T.refusalOf (wroteList n faults room))
+write-list-given n faults room = bytes-given n faults (listText n faults) room
+
+-- ---- reading a list text: 12 is looked at where the text keeps the rules
+
+pub read-list-given : (n : ℕ) (text faults : List ℕ) → ReadListGiven n text (length faults) (listRefusal n text faults)
+unfolding listRefusal first
+read-list-given n text faults =
+    one-test _ (λ e. list-1 (wrong-dimension n .0 e)) said-1
+    (one-test _ (λ e. list-2 (wrong-table n (length faults) .0 e)) said-2
+    (test-then _ (λ e. list-14 (not-says (isList text) (ranges-laws .grammar text) .0 e)) said-14
+    (λ e.
+    let beyond = ranges-laws .beyond (2 ^ n) text (not-false (isList text) e) in
+    one-test _ (λ f. list-12 (beyond .0 f)) (λ w. beyond .1 (named-of w)) none)))
+  where
+    said-1 : ReadListWhen n text (length faults) 1 → not (isDimension n) ≡ true
+    said-1 (list-1 d) = wrong-dimension n .1 d
+
+    said-2 : ReadListWhen n text (length faults) 2 → not (eqb (length faults) (tableLen n)) ≡ true
+    said-2 (list-2 l) = wrong-table n (length faults) .1 l
+
+    said-14 : ReadListWhen n text (length faults) 14 → not (isList text) ≡ true
+    said-14 (list-14 b) = not-says (isList text) (ranges-laws .grammar text) .1 b
+
+    named-of : ReadListWhen n text (length faults) 12 → (k : ℕ) × (2 ^ n ≤ k) × (named text k ≡ true)
+    named-of (list-12 r) = r

@@ -2,76 +2,45 @@
 -- back; and what an accepted notice gave is spelled as the bytes that it took.
 use mathlib.Core.List.{List, _++_}
 use mathlib.Core.Path.{_≡_, sym, ap, subst, _∙_}
-use Prim.Native.Nat.{ℕ, _≤_}
+use Prim.Native.Nat.{ℕ}
 use native.Mathlib.Omega.{arith}
 use lib.ListN.{drop, length, take, take-append-drop}
-use lib.Seq.{drop-at, length-take-le, take-at}
-use Rattle.cube.specs.Over.{over}
-use Rattle.cube.proofs.Over.{length-over, over-front}
+use lib.Seq.{length-take-le}
 use Rattle.notice.specs.declared.Noticed.the-variants as noticed
 use Rattle.notice.proofs.Laws.{notice-laws}
 use Rattle.spelling.specs.Laws.{Bytes, IsTable, ReadsBack}
 use Rattle.spelling.specs.Spelled.{noticeBytes}
 use Rattle.spelling.proofs.Laws.{spelling-laws}
 use Rattle.writer.specs.Writing as T
-use Rattle.writer.specs.declared.Wrote.the-variants.{Length, Refused}
-use Rattle.writer.proofs.Outcomes.{few, given-is, given-some, length-is, none-given, room-enough, taken}
-use Rattle.writer.proofs.Refusal.{buffer-kept, buffer-written, has-room, no-room, wrote-length, wrote-refused}
+use Rattle.writer.specs.declared.Wrote.the-variants.{Length}
+use Rattle.writer.proofs.Outcomes.{notice-few, room-enough}
+use Rattle.writer.proofs.Refusal.{has-room, no-room, wrote-length, wrote-refused}
 use Rattle.promises.specs.Library.{Library, rattle, c}
 use Rattle.promises.specs.Refusals.{TableLength, WriteGiven}
 use Rattle.promises.specs.Writes.{Writes}
 use Rattle.promises.proofs.Given.{table-length}
 use Rattle.promises.proofs.Library.{Faithful, rattle-faithful, c-faithful}
 use Rattle.promises.proofs.Refusals.{refusals}
+use Rattle.promises.proofs.Written.{Put, behind, front, kept, number, put, sized}
 
 module _ (lib : Library) (F : Faithful lib) where
   -- ---- what was written
 
-  record Put (n : ℕ) (faults before after : List ℕ) (len : ℕ) : Type 0 where
-    table : IsTable n faults
-    long : length (noticeBytes n faults) ≡ len
-    room : len ≤ length before
-    bytes : after ≡ over (noticeBytes n faults) before
-
-  put : {n len : ℕ} {faults before after : List ℕ} → lib .writes n faults before (Length len) after → Put n faults before after len
-  put {n} {len} {faults} {before} {after} m =
-      let f = F .writes m in
-      let e = sym (f .0) in
-      let z = none-given n faults (length before) e in
-      let t = taken n faults (length before) z in
-      let l = length-is n faults (length before) e in
-      record { table = t .0; long = sym l; room = omega (arith, l, t .1); bytes = f .1 ∙ sym (buffer-written n faults before z) }
-
   module _ {n len : ℕ} {faults before after : List ℕ} (m : lib .writes n faults before (Length len) after) where
-    front : take len after ≡ noticeBytes n faults
-    unfolding over
-    front = let p = put m in ap (take len) (p .bytes) ∙ take-at (noticeBytes n faults) (drop (length (noticeBytes n faults)) before) len (p .long)
-
-    behind : drop len after ≡ drop len before
-    unfolding over
-    behind =
-        let p = put m in
-        ap (drop len) (p .bytes)
-        ∙ drop-at (noticeBytes n faults) (drop (length (noticeBytes n faults)) before) len (p .long)
-        ∙ ap (λ (k : ℕ). drop k before) (p .long)
-
-    sized : length after ≡ length before
-    sized =
-        let p = put m in
-        ap length (p .bytes ∙ sym (over-front (noticeBytes n faults) before))
-        ∙ length-over 0 (noticeBytes n faults) before (omega (arith, p .long, p .room))
+    notice : Put n faults (noticeBytes n faults) before after len
+    notice = put (F .writes m)
 
     -- bytes that begin as those that were written read back
     back : (bytes : List ℕ) → take len bytes ≡ take len after → ReadsBack n faults bytes len
     back bytes same =
-        let p = put m in
         let whole : noticeBytes n faults ++ drop len bytes ≡ bytes =
-        ap (λ (w : List ℕ). w ++ drop len bytes) (sym (same ∙ front)) ∙ take-append-drop len bytes in
+        ap (λ (w : List ℕ). w ++ drop len bytes) (sym (same ∙ front notice)) ∙ take-append-drop len bytes in
         subst (λ (s : List ℕ). ReadsBack n faults s len) whole
-        (subst (ReadsBack n faults (noticeBytes n faults ++ drop len bytes)) (p .long) (spelling-laws .reads-back n faults (drop len bytes) (p .table)))
+        (subst (ReadsBack n faults (noticeBytes n faults ++ drop len bytes)) (notice .long)
+        (spelling-laws .reads-back n faults (drop len bytes) (notice .table)))
 
     as-long : (old : List ℕ) → TableLength n (length old) → length old ≡ length faults
-    as-long old t = table-length n (length old) t ∙ sym (put m .table .sized)
+    as-long old t = table-length n (length old) t ∙ sym (notice .table .sized)
 
   -- ---- what was read, written again
 
@@ -94,34 +63,31 @@ module _ (lib : Library) (F : Faithful lib) where
 
   -- ---- all of it
 
-  number : {n k : ℕ} {faults before after : List ℕ} → lib .writes n faults before (Refused k) after → T.writeRefusal n faults (length before) ≡ k
-  number {n} {k} {faults} {before} m = given-is n faults (length before) (sym (F .writes m .0))
-
   pub writes : Writes lib
   writes =
       record {
         refusal = λ {n} {faults} {before} {after} {x} m.
             subst (λ y. WriteGiven n faults (length before) (T.refusalOf y)) (sym (F .writes m .0)) (refusals .writing n faults (length before));
-        kept = λ {n} {k} {faults} {before} m.
-            let f = F .writes m in
-            f .1 ∙ sym (buffer-kept n faults before (number m) (given-some n faults (length before) (sym (f .0))));
-        behind = behind;
-        within = λ m. (put m .room, sized m);
+        kept = λ {n} {k} {faults} {before} m. kept n faults (noticeBytes n faults) before (F .writes m);
+        behind = λ m. behind (notice m);
+        within = λ m. (notice m .room, sized (notice m));
         reads-back = λ {n} {len} {faults} {before} {after} {bytes} {old} m same t r. F .reads r .0 ∙ back m bytes same .answer old (as-long m old t);
         table-back = λ {n} {len} {faults} {before} {after} {bytes} {old} m same t r b. F .reads r .1 ∙ back m bytes same .table old (as-long m old t) b;
         writes-back = λ {n} {m} {taken} {bytes} {old} {faults} {before} {after} b r w h.
-            let z = has-room n faults (length before) (again-table b r) (omega (arith, again-long b r)) in
-            let x = F .writes w .0 ∙ sym (wrote-length n faults (length before) z) ∙ ap Length (again-long b r) in
-            (x, front (subst (λ y. lib .writes n faults before y after) x w) ∙ again b r);
+            let z = has-room n faults (noticeBytes n faults) (length before) (again-table b r) (omega (arith, again-long b r)) in
+            let x = F .writes w .0 ∙ sym (wrote-length n faults (noticeBytes n faults) (length before) z) ∙ ap Length (again-long b r) in
+            (x, front (notice (subst (λ y. lib .writes n faults before y after) x w)) ∙ again b r);
         no-room = λ {n} {m} {taken} {bytes} {old} {faults} {before} b r w h.
-            let z = no-room n faults (length before) (again-table b r) (omega (arith, again-long b r)) in
-            F .writes w .0 ∙ sym (wrote-refused n faults (length before) z (λ e. omega arith));
+            let z = no-room n faults (noticeBytes n faults) (length before) (again-table b r) (omega (arith, again-long b r)) in
+            F .writes w .0 ∙ sym (wrote-refused n faults (noticeBytes n faults) (length before) z (λ e. omega arith));
         one-notice = λ {n} {m} {m′} {taken} {taken′} {bytes} {bytes′} {old} {old′} {faults} b b′ r r′. sym (again b r) ∙ again b′ r′;
-        short = λ {n} {len} {faults} m. let p = put m in omega (arith, p .long, spelling-laws .short n faults (p .table));
+        short = λ {n} {len} {faults} m. let p = notice m in omega (arith, p .long, spelling-laws .short n faults (p .table));
         enough = λ {n} {k} {faults} {before} m h e.
-            room-enough n faults (length before) (λ t. omega (arith, spelling-laws .short n faults t, h)) (number m ∙ e);
+            room-enough n faults (noticeBytes n faults) (length before) (λ t. omega (arith, spelling-laws .short n faults t, h))
+            (number n faults (noticeBytes n faults) before (F .writes m) ∙ e);
         enough-for-all = λ {n} {k} {faults} {before} m h e.
-            room-enough n faults (length before) (λ t. omega (arith, few n faults (length before) t, h)) (number m ∙ e);
+            room-enough n faults (noticeBytes n faults) (length before) (λ t. omega (arith, notice-few n faults t, h))
+            (number n faults (noticeBytes n faults) before (F .writes m) ∙ e);
       }
 
 pub rattle-writes : Writes rattle

@@ -20,6 +20,8 @@ use Rattle.why.specs.declared.NodeReason.the-variants as because
 use Rattle.why.proofs.Functions as why
 use Rattle.writer.specs.declared.Wrote.the-variants as wrote
 use Rattle.writer.proofs.Functions as writer
+use Rattle.list_reader.proofs.Functions as list_reader
+use Rattle.list_writer.proofs.Functions as list_writer
 use Rattle.walk.specs.Walk.{rowBytes}
 use Rattle.walk.specs.declared.Ending.the-variants as ending
 use Rattle.walk.specs.declared.Walked.{Walked}
@@ -105,6 +107,16 @@ pub record InC : Type 0 where
   pub writes-refuses :
       {n r k : ℕ} {faults before after after′ : List ℕ} → May hcube.write-notice (n, faults, before) r after
       → May writer.write (n, faults, before) (wrote.Refused k) after′ → r ≡ k * 16777216
+  -- "Reading a list text: kind and value 0"; "writing one: kind 0, value is its length"
+  pub reads-list :
+      {n r k : ℕ} {text before after after′ : List ℕ} → May hcube.read-list (n, text, before) r after
+      → May list_reader.read (n, text, before) k after′ → r ≡ k * 16777216
+  pub writes-list-length :
+      {n r len : ℕ} {faults before after after′ : List ℕ} → May hcube.write-list (n, faults, before) r after
+      → May list_writer.write (n, faults, before) (wrote.Length len) after′ → r ≡ len
+  pub writes-list-refuses :
+      {n r k : ℕ} {faults before after after′ : List ℕ} → May hcube.write-list (n, faults, before) r after
+      → May list_writer.write (n, faults, before) (wrote.Refused k) after′ → r ≡ k * 16777216
   -- "a lent buffer of exactly 34 bytes, two a node, low byte first": the node is the one that the walk has at that place
   pub row-nodes :
       {n j s d r : ℕ} {buffer before after : List ℕ} {w : Walked} → May hcube.walk (n, j, s, d, buffer, before) r after → refusalPart r ≡ 0

@@ -4,6 +4,7 @@ pub mod Demands
 pub mod Jobs
 pub mod Why
 pub mod Writes
+pub mod Lists
 pub mod InC
 pub mod InRattle
 pub mod Answers

@@ -7,6 +7,7 @@ use Rattle.groups.specs.Laws.{NumberLaws}
 use Rattle.notice.specs.Laws.{NoticeLaws}
 use Rattle.reader.specs.Laws.{ReaderLaws}
 use Rattle.spelling.specs.Laws.{SpellingLaws}
+use Rattle.ranges.specs.Laws.{RangesLaws}
 use Rattle.rule.specs.Cabinet.{Cabinet, exchangesOf}
 use Rattle.rule.specs.Closed.{Largest}
 use Rattle.rule.specs.Exchanges.{Exchanges}
@@ -47,6 +48,7 @@ use Rattle.promises.specs.Tied.{AllTied, InOrder}
 use Rattle.promises.specs.Why.{Whys}
 use Rattle.promises.specs.Worked.{Worked}
 use Rattle.promises.specs.Writes.{Writes}
+use Rattle.promises.specs.Lists.{Lists}
 
 pub record Promises : Type 2 where
   -- the contracts are the code's own, settle everything, ask nothing, and always allow an answer
@@ -69,6 +71,9 @@ pub record Promises : Type 2 where
   -- notices that are written
   pub rattle-writes : Writes library.rattle
   pub c-writes : Writes library.c
+  -- list text, read and written
+  pub rattle-lists : Lists library.rattle
+  pub c-lists : Lists library.c
   -- what C and a caller in Rattle have in hand
   pub in-c : InC
   pub in-rattle : InRattle
@@ -107,5 +112,6 @@ pub record Promises : Type 2 where
   pub notice : NoticeLaws
   pub reader : ReaderLaws
   pub spelling : SpellingLaws
+  pub ranges : RangesLaws
   pub message : MessageLaws
   pub worked : Worked

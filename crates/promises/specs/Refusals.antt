@@ -13,6 +13,11 @@ use Rattle.groups.specs.declared.Number.the-variants.{Value}
 use Rattle.notice.specs.Notice as N
 use Rattle.spelling.specs.Spelled.{noticeBytes}
 use Rattle.writer.specs.Writing as T
+use Rattle.ranges.specs.Grammar.{named}
+use Rattle.ranges.specs.Laws.{Entry, sound, spelled}
+use Rattle.ranges.specs.Written.{joined, listText}
+use Rattle.list_reader.specs.Reading.{listRefusal}
+use Rattle.list_writer.specs.Lists.{wroteList}
 use Rattle.rule.specs.Cabinet.{Cabinet}
 use Rattle.labels.specs.Labelling as L
 use Rattle.hop.specs.Hop as H
@@ -177,17 +182,38 @@ NoticeGiven bytes table =
 abbrev pub DimensionGiven : (bytes : List ℕ) → (k v : ℕ) → Type 0
 DimensionGiven bytes = Due bytes 0 (DimensionWhen []) (1 ∷ []) (λ n at k v. (k ≡ 0) × (v ≡ n))
 
--- ---- writing the notice of a table of an n-cube, into a buffer of `room` bytes: "1, 2, 3 as in labelling, then 13 exactly if the notice is longer than the
--- buffer"
+-- ---- writing the bytes w for a table of an n-cube, into a buffer of `room` bytes: "1, 2, 3 as in labelling, then 13 exactly if" they are more than the
+-- buffer has. They are the table's notice or its list text
 
-pub data WriteWhen (n : ℕ) (faults : List ℕ) (room : ℕ) : ℕ → Type 0 where
-  write-1 : ¬ (Dimension n) → WriteWhen n faults room 1
-  write-2 : ¬ (TableLength n (length faults)) → WriteWhen n faults room 2
-  write-3 : Unused n faults → WriteWhen n faults room 3
-  write-13 : room < length (noticeBytes n faults) → WriteWhen n faults room 13
+pub data WriteWhen (n : ℕ) (faults w : List ℕ) (room : ℕ) : ℕ → Type 0 where
+  write-1 : ¬ (Dimension n) → WriteWhen n faults w room 1
+  write-2 : ¬ (TableLength n (length faults)) → WriteWhen n faults w room 2
+  write-3 : Unused n faults → WriteWhen n faults w room 3
+  write-13 : room < length w → WriteWhen n faults w room 13
+
+abbrev pub BytesGiven : (n : ℕ) (faults w : List ℕ) (room : ℕ) → ℕ → Type 0
+BytesGiven n faults w room = Given (WriteWhen n faults w room) (1 ∷ 2 ∷ 3 ∷ 13 ∷ [])
 
 abbrev pub WriteGiven : (n : ℕ) (faults : List ℕ) (room : ℕ) → ℕ → Type 0
-WriteGiven n faults room = Given (WriteWhen n faults room) (1 ∷ 2 ∷ 3 ∷ 13 ∷ [])
+WriteGiven n faults room = BytesGiven n faults (noticeBytes n faults) room
+
+abbrev pub WriteListGiven : (n : ℕ) (faults : List ℕ) (room : ℕ) → ℕ → Type 0
+WriteListGiven n faults room = BytesGiven n faults (listText n faults) room
+
+-- ---- reading a list text into a table of so many bytes: "1, 2, then 14 for text that breaks these rules anywhere, then 12"
+
+-- it keeps the rules: it is that of entries, each a number or a range with low at most high, joined by commas
+abbrev pub ListText : List ℕ → Type 0
+ListText text = (es : List Entry) × (sound es ≡ true) × (text ≡ joined (spelled es))
+
+pub data ReadListWhen (n : ℕ) (text : List ℕ) (bytes : ℕ) : ℕ → Type 0 where
+  list-1 : ¬ (Dimension n) → ReadListWhen n text bytes 1
+  list-2 : ¬ (TableLength n bytes) → ReadListWhen n text bytes 2
+  list-14 : ¬ (ListText text) → ReadListWhen n text bytes 14
+  list-12 : (k : ℕ) × (2 ^ n ≤ k) × (named text k ≡ true) → ReadListWhen n text bytes 12
+
+abbrev pub ReadListGiven : (n : ℕ) (text : List ℕ) (bytes : ℕ) → ℕ → Type 0
+ReadListGiven n text bytes = Given (ReadListWhen n text bytes) (1 ∷ 2 ∷ 14 ∷ 12 ∷ [])
 
 -- ---- each is given then and not otherwise
 
@@ -205,4 +231,6 @@ pub record Refusals : Type 1 where
   pub number : (bytes : List ℕ) (at : ℕ) → NumberGiven bytes at (refusalIn (numberAt bytes at))
   pub notice : (bytes table : List ℕ) → NoticeGiven bytes table (N.refusalOf (N.noticed bytes table)) (N.placeOf (N.noticed bytes table))
   pub writing : (n : ℕ) (faults : List ℕ) (room : ℕ) → WriteGiven n faults room (T.refusalOf (T.wrote n faults room))
+  pub list-reading : (n : ℕ) (text faults : List ℕ) → ReadListGiven n text (length faults) (listRefusal n text faults)
+  pub list-writing : (n : ℕ) (faults : List ℕ) (room : ℕ) → WriteListGiven n faults room (T.refusalOf (wroteList n faults room))
   pub dimension : (bytes : List ℕ) → DimensionGiven bytes (refusalIn (N.dimensionAt bytes)) (N.dimensionValue (N.dimensionAt bytes))

@@ -12,6 +12,8 @@ use Rattle.hop.proofs.Functions as hop
 use Rattle.walk.proofs.Functions as walk
 use Rattle.why.proofs.Functions as why
 use Rattle.writer.proofs.Functions as writer
+use Rattle.list_reader.proofs.Functions as list_reader
+use Rattle.list_writer.proofs.Functions as list_writer
 use Rattle.hcube.proofs.Functions as hcube
 
 module _ {T : Ended} {A X B : Type 0} (f : Function T A X B) where
@@ -31,6 +33,8 @@ pub record AsSeen : Type 0 where
   pub hcube-notice-dimension : Answered hcube.notice-dimension (λ κs r. r)
   pub hcube-read-notice : Answered hcube.read-notice (λ κs r. r)
   pub hcube-write-notice : Answered hcube.write-notice (λ κs r. r)
+  pub hcube-read-list : Answered hcube.read-list (λ κs r. r)
+  pub hcube-write-list : Answered hcube.write-list (λ κs r. r)
   pub labels-label : Answered labels.label (λ κs r. r)
   pub hop-hop : Answered hop.hop (λ κs r. r)
   pub walk-walk : Answered walk.walk (λ κs r. r)
@@ -40,13 +44,19 @@ pub record AsSeen : Type 0 where
   pub notice-dimension : Answered notice.dimension (λ κs r. r)
   pub notice-read : Answered notice.read (λ κs r. r)
   pub writer-write : Answered writer.write (λ κs r. r)
-  -- and what is left: the label buffer, the row, the fault table, the buffer for a notice
+  pub list-reader-read : Answered list_reader.read (λ κs r. r)
+  pub list-writer-write : Answered list_writer.write (λ κs r. r)
+  -- and what is left: the label buffer, the row, the fault table, the buffer for a notice or a list text
   pub hcube-label-left : Leaves hcube.label (λ κs e. now (e .1 .1 .1 .1 .1 .1 .0))
   pub hcube-walk-left : Leaves hcube.walk (λ κs e. now (e .1 .1 .1 .1 .1 .0))
   pub hcube-why-node-left : Leaves hcube.why-node (λ κs e. now (e .1 .1 .1 .1 .1 .1 .1 .0))
   pub hcube-read-notice-left : Leaves hcube.read-notice (λ κs e. now (e .1 .0))
   pub hcube-write-notice-left : Leaves hcube.write-notice (λ κs e. now (e .1 .1 .0))
+  pub hcube-read-list-left : Leaves hcube.read-list (λ κs e. now (e .1 .1 .0))
+  pub hcube-write-list-left : Leaves hcube.write-list (λ κs e. now (e .1 .1 .0))
   pub labels-label-left : Leaves labels.label (λ κs e. now (e .1 .1 .1 .1 .1 .1 .0))
   pub why-why-node-left : Leaves why.why-node (λ κs e. now (e .1 .1 .1 .1 .1 .1 .1 .0))
   pub notice-read-left : Leaves notice.read (λ κs e. now (e .1 .0))
   pub writer-write-left : Leaves writer.write (λ κs e. now (e .1 .1 .0))
+  pub list-reader-read-left : Leaves list_reader.read (λ κs e. now (e .1 .1 .0))
+  pub list-writer-write-left : Leaves list_writer.write (λ κs e. now (e .1 .1 .0))

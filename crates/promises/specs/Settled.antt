@@ -11,6 +11,8 @@ use Rattle.hop.proofs.Functions as hop
 use Rattle.walk.proofs.Functions as walk
 use Rattle.why.proofs.Functions as why
 use Rattle.writer.proofs.Functions as writer
+use Rattle.list_reader.proofs.Functions as list_reader
+use Rattle.list_writer.proofs.Functions as list_writer
 use Rattle.hcube.proofs.Functions as hcube
 
 pub record Settled : Type 0 where
@@ -22,6 +24,8 @@ pub record Settled : Type 0 where
   pub hcube-notice-dimension : Settles hcube.notice-dimension
   pub hcube-read-notice : Settles hcube.read-notice
   pub hcube-write-notice : Settles hcube.write-notice
+  pub hcube-read-list : Settles hcube.read-list
+  pub hcube-write-list : Settles hcube.write-list
   pub labels-label : Settles labels.label
   pub labels-label-refusal : Settles labels.label-refusal
   pub labels-settle : Settles labels.settle
@@ -34,9 +38,13 @@ pub record Settled : Type 0 where
   pub notice-dimension : Settles notice.dimension
   pub notice-read : Settles notice.read
   pub writer-write : Settles writer.write
+  pub writer-table-refusal : Settles writer.table-refusal
+  pub list-reader-read : Settles list_reader.read
+  pub list-writer-write : Settles list_writer.write
   -- the returned part: its bytes, and its place in the caller's memory. (The ghost name that the logic gives a reference is not settled: no
   -- program can see it.)
   pub notice-tail : Settles notice.tail
+  pub notice-clear : Settles notice.clear
   pub groups-number-at : Settles groups.number-at
   pub reader-new : Settles reader.new
   pub reader-next : Settles reader.next
@@ -57,10 +65,11 @@ pub record Settled : Type 0 where
   pub cube-node-bit : Settles cube.node-bit
   pub cube-unused-set : Settles cube.unused-set
   pub jobs-label-bytes : Settles jobs.label-bytes
+  pub notice-set-bit : Settles notice.set-bit
   -- the half of a job: its bytes, and its place in the caller's memory
   pub jobs-half : Settles jobs.half
 
--- all but those last thirteen
+-- all but those last fourteen
 pub record Unasked : Type 2 where
   pub hcube-label : AsksNothing hcube.label
   pub hcube-hop : AsksNothing hcube.hop
@@ -70,6 +79,8 @@ pub record Unasked : Type 2 where
   pub hcube-notice-dimension : AsksNothing hcube.notice-dimension
   pub hcube-read-notice : AsksNothing hcube.read-notice
   pub hcube-write-notice : AsksNothing hcube.write-notice
+  pub hcube-read-list : AsksNothing hcube.read-list
+  pub hcube-write-list : AsksNothing hcube.write-list
   pub labels-label : AsksNothing labels.label
   pub labels-label-refusal : AsksNothing labels.label-refusal
   pub labels-settle : AsksNothing labels.settle
@@ -82,7 +93,11 @@ pub record Unasked : Type 2 where
   pub notice-dimension : AsksNothing notice.dimension
   pub notice-read : AsksNothing notice.read
   pub writer-write : AsksNothing writer.write
+  pub writer-table-refusal : AsksNothing writer.table-refusal
+  pub list-reader-read : AsksNothing list_reader.read
+  pub list-writer-write : AsksNothing list_writer.write
   pub notice-tail : AsksNothing notice.tail
+  pub notice-clear : AsksNothing notice.clear
   pub groups-number-at : AsksNothing groups.number-at
   pub reader-new : AsksNothing reader.new
   pub reader-next : AsksNothing reader.next

@@ -21,8 +21,10 @@ use Rattle.cube.proofs.unused_set as cube-unused-set
 use Rattle.groups.proofs.Functions as groups
 use Rattle.groups.proofs.number_at as groups-number-at
 use Rattle.notice.proofs.Functions as notice
+use Rattle.notice.proofs.clear as notice-clear
 use Rattle.notice.proofs.dimension as notice-dimension
 use Rattle.notice.proofs.read as notice-read
+use Rattle.notice.proofs.set_bit as notice-set-bit
 use Rattle.notice.proofs.tail as notice-tail
 use Rattle.reader.proofs.Functions as reader
 use Rattle.reader.proofs.Reader.new as reader-new
@@ -52,7 +54,12 @@ use Rattle.why.proofs.Functions as why
 use Rattle.why.proofs.why_hop as why-why-hop
 use Rattle.why.proofs.why_node as why-why-node
 use Rattle.writer.proofs.Functions as writer
+use Rattle.writer.proofs.table_refusal as writer-table-refusal
 use Rattle.writer.proofs.write as writer-write
+use Rattle.list_reader.proofs.Functions as list_reader
+use Rattle.list_reader.proofs.read as list-reader-read
+use Rattle.list_writer.proofs.Functions as list_writer
+use Rattle.list_writer.proofs.write as list-writer-write
 use Rattle.hcube.proofs.Functions as hcube
 use Rattle.hcube.proofs.hcube_hop as hcube-hop
 use Rattle.hcube.proofs.hcube_label as hcube-label
@@ -62,6 +69,8 @@ use Rattle.hcube.proofs.hcube_walk as hcube-walk
 use Rattle.hcube.proofs.hcube_why_hop as hcube-why-hop
 use Rattle.hcube.proofs.hcube_why_node as hcube-why-node
 use Rattle.hcube.proofs.hcube_write_notice as hcube-write-notice
+use Rattle.hcube.proofs.hcube_read_list as hcube-read-list
+use Rattle.hcube.proofs.hcube_write_list as hcube-write-list
 
 module _ {T : Ended} {A X B : Type 0} (f : Function T A X B) (written : Written T) where
   -- a method that holds a borrow, of which the check makes no claims: these are its clauses, and the claim is what whoever has its `ensures` learns
@@ -94,6 +103,12 @@ pub record AllTied : Type 2 where
   pub hcube-write-notice :
       Tied hcube.write-notice (λ w. hcube-write-notice.clauses (w .𝓤) (w .H) (w .𝓖 .A) (w .𝓜 .mem) (w .𝓡 .run))
       hcube-write-notice.Reads.Asked hcube-write-notice.Reads.Post
+  pub hcube-read-list :
+      Tied hcube.read-list (λ w. hcube-read-list.clauses (w .𝓤) (w .H) (w .𝓖 .A) (w .𝓜 .mem) (w .𝓡 .run))
+      hcube-read-list.Reads.Asked hcube-read-list.Reads.Post
+  pub hcube-write-list :
+      Tied hcube.write-list (λ w. hcube-write-list.clauses (w .𝓤) (w .H) (w .𝓖 .A) (w .𝓜 .mem) (w .𝓡 .run))
+      hcube-write-list.Reads.Asked hcube-write-list.Reads.Post
   pub labels-label :
       Tied labels.label (λ w. labels-label.clauses (w .𝓤) (w .H) (w .𝓖 .A) (w .𝓜 .mem) (w .𝓡 .run))
       labels-label.Reads.Asked labels-label.Reads.Post
@@ -144,9 +159,24 @@ pub record AllTied : Type 2 where
   pub writer-write :
       Tied writer.write (λ w. writer-write.clauses (w .𝓤) (w .H) (w .𝓖 .A) (w .𝓜 .mem) (w .𝓡 .run))
       writer-write.Reads.Asked writer-write.Reads.Post
+  pub writer-table-refusal :
+      Tied writer.table-refusal (λ w. writer-table-refusal.clauses (w .𝓤) (w .H) (w .𝓖 .A) (w .𝓜 .mem) (w .𝓡 .run))
+      writer-table-refusal.Reads.Asked writer-table-refusal.Reads.Post
+  pub list-reader-read :
+      Tied list_reader.read (λ w. list-reader-read.clauses (w .𝓤) (w .H) (w .𝓖 .A) (w .𝓜 .mem) (w .𝓡 .run))
+      list-reader-read.Reads.Asked list-reader-read.Reads.Post
+  pub list-writer-write :
+      Tied list_writer.write (λ w. list-writer-write.clauses (w .𝓤) (w .H) (w .𝓖 .A) (w .𝓜 .mem) (w .𝓡 .run))
+      list-writer-write.Reads.Asked list-writer-write.Reads.Post
   pub notice-tail :
       Tied notice.tail (λ w. notice-tail.clauses (w .𝓤) (w .H) (w .𝓖 .A) (w .𝓜 .mem) (w .𝓡 .run))
       notice-tail.Reads.Asked notice-tail.Reads.Post
+  pub notice-clear :
+      Tied notice.clear (λ w. notice-clear.clauses (w .𝓤) (w .H) (w .𝓖 .A) (w .𝓜 .mem) (w .𝓡 .run))
+      notice-clear.Reads.Asked notice-clear.Reads.Post
+  pub notice-set-bit :
+      Tied notice.set-bit (λ w. notice-set-bit.clauses (w .𝓤) (w .H) (w .𝓖 .A) (w .𝓜 .mem) (w .𝓡 .run))
+      notice-set-bit.Reads.Asked notice-set-bit.Reads.Post
   pub groups-number-at :
       Tied groups.number-at (λ w. groups-number-at.clauses (w .𝓤) (w .H) (w .𝓖 .A) (w .𝓜 .mem) (w .𝓡 .run))
       groups-number-at.Reads.Asked groups-number-at.Reads.Post
@@ -212,6 +242,8 @@ pub record InOrder : Type 0 where
   pub hcube-notice-dimension : Handed hcube.notice-dimension (λ κs a. now (a .0))
   pub hcube-read-notice : Handed hcube.read-notice (λ κs a. (now (a .0), now (a .1 .0)))
   pub hcube-write-notice : Handed hcube.write-notice (λ κs a. (a .0, now (a .1 .0), now (a .1 .1 .0)))
+  pub hcube-read-list : Handed hcube.read-list (λ κs a. (a .0, now (a .1 .0), now (a .1 .1 .0)))
+  pub hcube-write-list : Handed hcube.write-list (λ κs a. (a .0, now (a .1 .0), now (a .1 .1 .0)))
   pub labels-label :
       Handed labels.label (λ κs a.
       (a .0, a .1 .0, a .1 .1 .0, now (a .1 .1 .1 .0), now (a .1 .1 .1 .1 .0), now (a .1 .1 .1 .1 .1 .0), now (a .1 .1 .1 .1 .1 .1 .0)))
@@ -233,3 +265,5 @@ pub record InOrder : Type 0 where
   pub notice-dimension : Handed notice.dimension (λ κs a. now (a .0))
   pub notice-read : Handed notice.read (λ κs a. (now (a .0), now (a .1 .0)))
   pub writer-write : Handed writer.write (λ κs a. (a .0, now (a .1 .0), now (a .1 .1 .0)))
+  pub list-reader-read : Handed list_reader.read (λ κs a. (a .0, now (a .1 .0), now (a .1 .1 .0)))
+  pub list-writer-write : Handed list_writer.write (λ κs a. (a .0, now (a .1 .0), now (a .1 .1 .0)))
