@@ -5,7 +5,8 @@
  * The rules in whole stand in docs/RULES.md of the source repository: Labels for
  * hcube_label, One hop for hcube_hop, Walk for hcube_walk, Why for the questions
  * that say why, Tables and the notice for the functions that read and write a
- * notice, Refusal numbers for all refusals, To C for the answers.
+ * notice, List text for those that read and write a list, Refusal numbers for
+ * all refusals, To C for the answers.
  *
  * A cube of dimension n, 1 to 12, has the nodes 0 to 2^n - 1. Nodes whose
  * numbers differ in bit i alone are neighbours across dimension i.
@@ -75,7 +76,7 @@ extern "C" {
 /* The version of this interface. Whatever a program that was right with an
  * earlier one would notice raises MAJOR, what is new MINOR, all else PATCH. */
 #define HCUBE_VERSION_MAJOR 1
-#define HCUBE_VERSION_MINOR 2
+#define HCUBE_VERSION_MINOR 3
 #define HCUBE_VERSION_PATCH 0
 #define HCUBE_VERSION                                                          \
     (HCUBE_VERSION_MAJOR * 10000 + HCUBE_VERSION_MINOR * 100 +                 \
@@ -87,6 +88,7 @@ extern "C" {
 #define HCUBE_LABEL_BYTES_MAX 8192
 #define HCUBE_FAULT_BYTES_MAX 512
 #define HCUBE_NOTICE_BYTES_MAX 4099 /* the longest notice */
+#define HCUBE_LIST_BYTES_MAX 12913  /* the longest list that is written */
 
 /* Sizes in bytes: of one job's labels, a label buffer with both jobs' halves, a
  * fault, draining or closed table, a walk's row. Test n first, or take it from
@@ -139,6 +141,7 @@ extern "C" {
 #define HCUBE_BAD_ADDRESS 12     /* an address is 2^n or more */
 #define HCUBE_NO_ROOM 13         /* a lent buffer is too short for what is to be
                                   * written */
+#define HCUBE_BAD_LIST 14        /* list text that is no list */
 #define HCUBE_BAD_RULE 18        /* the rule's number is not 2 or 3 */
 #define HCUBE_BAD_JOB 19         /* the job's number is not 0 or 1 */
 
@@ -189,6 +192,8 @@ HCUBE_INLINE const char *hcube_refusal_text(uint32_t number)
         return "an address is 2^n or more";
     case HCUBE_NO_ROOM:
         return "a lent buffer is too short for what is to be written";
+    case HCUBE_BAD_LIST:
+        return "the text is not a list such as 0-3,8";
     case HCUBE_BAD_RULE:
         return "the rule's number is not 2 or 3";
     case HCUBE_BAD_JOB:
@@ -506,6 +511,67 @@ uint64_t hcube_read_notice(const uint8_t *bytes, size_t bytes_len,
  */
 uint32_t hcube_write_notice(uint32_t n, const uint8_t *faults, size_t faults_len,
                             uint8_t *out, size_t out_len);
+
+/*
+ * Reads list text, as the Linux kernel prints sets, into the fault table
+ * `faults` of an n-cube: 0-3,8 is the nodes 0, 1, 2, 3 and 8.
+ *
+ * A list is nothing, which is no faults, or entries with one comma between each
+ * two. An entry is a number, for that node, or two numbers with a dash between
+ * them, for all nodes from the first up to the second; the first is at most the
+ * second. A number has one or more of the digits 0 to 9, and the first of several
+ * is not 0. Numbers of any length are compared whole. Entries may stand in any
+ * order and have nodes in common; each takes a step for each of its nodes, so
+ * bound text_len where time matters, as in an interrupt. The bytes are ASCII;
+ * text_len says where the text ends, and no zero byte does.
+ *
+ * What this takes the kernel's own bitmap_parselist takes too, and reads as the
+ * same set. That takes more; here all of it is refused with 14:
+ * - blanks and tabs around an entry or in place of a comma, and line ends before
+ *   an entry: 0 8
+ * - a line end right behind an entry, or a zero byte, and then anything: it is
+ *   not read
+ * - commas before the first entry, behind the last, and more than one between
+ *   two: 0-3,,8,
+ * - zeros in front of a number: 007
+ * - the letter N for the last node: 8-N
+ * - the word all for every node, in small letters or large ones
+ * - a range, or all, with the first so many of each so many nodes: 0-31:2/4
+ * What a user wrote to a file of the kernel's mostly ends in a line end: take that
+ * off. A text that it refuses leaves some other set with the kernel; here the
+ * table stays as it was.
+ *
+ * Refusals, in order; the whole text is judged for one before the next:
+ *   1   n is not 1 to 12
+ *   2   faults_len is not HCUBE_FAULT_BYTES(n)
+ *   14  `text` is no list
+ *   12  a node is 2^n or more
+ * So 9-8 and 99999,0- are refused with 14, whatever n is, and 99999 with 12.
+ * Accepted: kind 0, value 0. All of `faults` is overwritten: a node is in it
+ * that is in an entry, and no other.
+ */
+uint32_t hcube_read_list(uint32_t n, const uint8_t *text, size_t text_len,
+                         uint8_t *faults, size_t faults_len);
+
+/*
+ * Writes the list text of the fault table `faults` of an n-cube to the start of
+ * `out`, with no zero byte behind it: the same text as the kernel's format
+ * %*pbl prints. The entries rise, and each is a whole run of faulty nodes: one
+ * node alone as a number, two and more as a range, 0-1. So each table has one
+ * text. hcube_read_list, handed that text and n, gives the table back.
+ *
+ * Refusals, in order:
+ *   1   n is not 1 to 12
+ *   2   faults_len is not HCUBE_FAULT_BYTES(n)
+ *   3   n is 1 or 2 and a bit for a node of 2^n or more is set in `faults`
+ *   13  the text is longer than out_len
+ * Accepted: kind 0, value the length of the text in bytes: 0 where no node is
+ * faulty. HCUBE_LIST_BYTES_MAX bytes have room for every text, and no fewer for
+ * the longest, that of n = 12 with every third node working, 2 the first of
+ * them. The bytes of `out` behind the text keep their content.
+ */
+uint32_t hcube_write_list(uint32_t n, const uint8_t *faults, size_t faults_len,
+                          uint8_t *out, size_t out_len);
 
 #ifdef __cplusplus
 }

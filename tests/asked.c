@@ -6,7 +6,7 @@
 
 #include "report.h"
 
-#define MOST_SHOWN MOST_LABEL_BYTES /* of a buffer; a longer one is too long */
+#define MOST_SHOWN 16384 /* bytes of a buffer; a longer one is too long */
 #define MOST_BUFFERS 4
 #define A_LINE 32u /* bytes */
 
@@ -115,14 +115,34 @@ void keep_notice(const uint8_t *bytes, size_t len, const uint8_t *faults,
     keep_bytes("faults", faults, faults_len);
 }
 
-void keep_write(struct write_question asked)
+static void keep_writing(const char *name, struct write_question asked)
 {
     if (!last)
         return;
-    snprintf(last->call, sizeof last->call, "hcube_write_notice, n %u", asked.n);
+    snprintf(last->call, sizeof last->call, "%s, n %u", name, asked.n);
     last->count = 0;
     keep_bytes("faults", asked.faults, asked.faults_len);
     keep_bytes("out", asked.out, asked.out_len);
+}
+
+void keep_write(struct write_question asked)
+{
+    keep_writing("hcube_write_notice", asked);
+}
+
+void keep_write_list(struct write_question asked)
+{
+    keep_writing("hcube_write_list", asked);
+}
+
+void keep_list(struct list_question asked)
+{
+    if (!last)
+        return;
+    snprintf(last->call, sizeof last->call, "hcube_read_list, n %u", asked.n);
+    last->count = 0;
+    keep_bytes("text", asked.text, asked.text_len);
+    keep_bytes("faults", asked.faults, asked.faults_len);
 }
 
 static void print_bytes(const uint8_t *bytes, size_t len)

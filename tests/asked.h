@@ -20,6 +20,8 @@ void keep_dimension(const uint8_t *bytes, size_t len);
 void keep_notice(const uint8_t *bytes, size_t len, const uint8_t *faults,
                  size_t faults_len);
 void keep_write(struct write_question asked);
+void keep_list(struct list_question asked);
+void keep_write_list(struct write_question asked);
 
 /* Prints the one that was kept last, if there is one. */
 void print_asked(void);

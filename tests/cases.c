@@ -1,4 +1,4 @@
-/* cases.c: random numbers, tables and notices for the tests. */
+/* cases.c: random numbers, tables, notices and lists for the tests. */
 #include "cases.h"
 
 #include <string.h>
@@ -130,4 +130,36 @@ size_t put_notice(uint32_t n, const uint8_t *faults, uint8_t *bytes,
         }
     *places = at;
     return at;
+}
+
+size_t put_digits(uint32_t value, uint8_t *text)
+{
+    size_t count = value < 10 ? 0 : put_digits(value / 10, text);
+    text[count] = (uint8_t)('0' + value % 10);
+    return count + 1;
+}
+
+/* A faulty node begins a run, ends one, both, or stands within. */
+size_t put_list(uint32_t n, const uint8_t *faults, uint8_t *text)
+{
+    uint32_t last = (1u << n) - 1;
+    size_t at = 0;
+    for (uint32_t k = 0; k <= last; k++) {
+        int before = k > 0 && in_table(faults, k - 1);
+        int behind = k < last && in_table(faults, k + 1);
+        if (!in_table(faults, k) || (before && behind))
+            continue;
+        if (at > 0)
+            text[at++] = before ? '-' : ',';
+        at += put_digits(k, text + at);
+    }
+    return at;
+}
+
+void worst_list(uint32_t n, uint8_t *faults)
+{
+    memset(faults, 0, table_bytes(n));
+    for (uint32_t k = 0; k < 1u << n; k++)
+        if (k % 3 != 2)
+            put_node(faults, k);
 }

@@ -1,6 +1,6 @@
 /*
  * cases.h: what the tests' inputs are made of: random numbers with a fixed
- * seed, fault, draining and closed tables, label tables, notices.
+ * seed, fault, draining and closed tables, label tables, notices, list text.
  */
 #ifndef CASES_H
 #define CASES_H
@@ -42,5 +42,13 @@ size_t put_number(uint32_t value, uint8_t *bytes);
 size_t put_notice(uint32_t n, const uint8_t *faults, uint8_t *bytes,
                   size_t *places);
 #define MOST_PLACES (2 + 4096 + 1)
+
+/* Writes a number in digits; how many. */
+size_t put_digits(uint32_t value, uint8_t *text);
+/* Writes the list text of a good fault table; its length, at most 12913 bytes. */
+size_t put_list(uint32_t n, const uint8_t *faults, uint8_t *text);
+/* The table of which the text is the longest: nodes in pairs, one left out
+ * between each two. */
+void worst_list(uint32_t n, uint8_t *faults);
 
 #endif

@@ -32,5 +32,9 @@ uint64_t check_notice(const uint8_t *bytes, size_t len,
 uint64_t check_notice_alone(const uint8_t *bytes, size_t len,
                             size_t faults_len);
 uint32_t check_write(struct write_question asked);
+uint32_t check_list(struct list_question asked);
+/* The same, over a fault table of random bytes that is not kept. */
+uint32_t check_list_alone(uint32_t n, const void *text, size_t len);
+uint32_t check_write_list(struct write_question asked);
 
 #endif

@@ -5,6 +5,7 @@
 void check_worked_numbers(void);  /* worked.c */
 void check_worked_why(void);      /* worked_why.c */
 void check_worked_notices(void);  /* worked_notice.c */
+void check_worked_lists(void);    /* worked_list.c */
 void check_most_exchanges(void);  /* exchanges.c */
 void check_one_exchange(void);
 void check_ceilings(void);
@@ -60,5 +61,21 @@ void check_write_combinations(void); /* written_refused.c */
 void check_write_damaged(void);
 void check_write_dimensions(void);
 void check_write_left(void);
+void check_short_texts(void);     /* list_texts.c */
+void check_list_bytes(void);
+void check_random_lists(void);
+void check_damaged_lists(void);
+void check_long_numbers(void);    /* list_numbers.c */
+void check_wrapped_numbers(void);
+void check_long_lists(void);
+void check_list_written(void);    /* list_written.c */
+void check_list_runs(void);
+void check_list_rooms(void);
+void check_list_back(void);       /* list_back.c */
+void check_list_combinations(void); /* list_refused.c */
+void check_write_list_combinations(void);
+void check_list_dimensions(void);
+void check_list_left(void);
+void check_list_lengths(void);    /* list_lengths.c */
 
 #endif

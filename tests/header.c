@@ -23,12 +23,13 @@
     HCUBE_VERSION % 100 != HCUBE_VERSION_PATCH
 #error the version is not made of its parts
 #endif
-#if HCUBE_VERSION < 10200
+#if HCUBE_VERSION < 10300
 #error the version is older than the newest function
 #endif
 #if HCUBE_DIMENSION_MAX != 12 || HCUBE_NODES_MAX != 4096 || \
     HCUBE_LABEL_BYTES_MAX != 8192 || HCUBE_FAULT_BYTES_MAX != 512 || \
-    HCUBE_NOTICE_BYTES_MAX != 4099 || HCUBE_ROW_BYTES != 34
+    HCUBE_NOTICE_BYTES_MAX != 4099 || HCUBE_LIST_BYTES_MAX != 12913 || \
+    HCUBE_ROW_BYTES != 34
 #error the sizes of the largest cube are wrong
 #endif
 HOLDS(most_nodes, HCUBE_NODES_MAX == HCUBE_NODES(HCUBE_DIMENSION_MAX));
@@ -39,6 +40,13 @@ HOLDS(most_faults,
 /* Dimension, a count of two groups, and a byte for each node. */
 HOLDS(longest_notice,
       HCUBE_NOTICE_BYTES_MAX == 3 + HCUBE_NODES(HCUBE_DIMENSION_MAX));
+/* Of 2,731 faulty nodes, 0, 1, 3, 4, 6 and so on up to 4,095, 7 have one digit, 60
+ * two, 600 three and 2,064 four; and a sign stands between each two. */
+HOLDS(longest_list, HCUBE_LIST_BYTES_MAX ==
+                        7 * 1 + 60 * 2 + 600 * 3 + 2064 * 4 + 2730);
+/* In an expression. */
+HOLDS(twice_the_longest, 2 * HCUBE_LIST_BYTES_MAX == 25826 &&
+                             2 * HCUBE_NOTICE_BYTES_MAX == 8198);
 
 HOLDS(answer_refusal, HCUBE_REFUSAL(0x08000000u) == HCUBE_TOO_MANY_HOPS);
 HOLDS(answer_kind, HCUBE_KIND(0x0002000bu) == HCUBE_HALTED);
@@ -146,7 +154,7 @@ HOLDS(refusals_6, HCUBE_FAULTY_SOURCE == 6 && HCUBE_FAULTY_TARGET == 7 &&
                       HCUBE_TOO_MANY_HOPS == 8 && HCUBE_CUT_SHORT == 9);
 HOLDS(refusals_10, HCUBE_BAD_GROUP == 10 && HCUBE_BAD_COUNT == 11 &&
                        HCUBE_BAD_ADDRESS == 12 && HCUBE_NO_ROOM == 13 &&
-                       HCUBE_BAD_JOB == 19);
+                       HCUBE_BAD_LIST == 14 && HCUBE_BAD_JOB == 19);
 
 /* Every macro that takes something, with variables of each type that a caller
  * may have there. */
@@ -209,6 +217,9 @@ uint64_t call_all(const uint8_t *bytes, uint8_t *faults, uint8_t *labels,
     all += hcube_walk(n, 1, 0, 1, labels, size, row, HCUBE_ROW_BYTES);
     all += parts_32(
         hcube_write_notice(n, faults, table, out, HCUBE_NOTICE_BYTES_MAX));
+    all += parts_32(
+        hcube_write_list(n, faults, table, out, HCUBE_LIST_BYTES_MAX));
+    all += parts_32(hcube_read_list(n, bytes, 12, faults, table));
     return all + parts_64(read) + parts_64(why);
 }
 

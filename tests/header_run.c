@@ -30,7 +30,7 @@ static void expect(int holds, const char *what, uint32_t number)
 
 static int is_refusal(uint32_t number)
 {
-    return number <= 13 || number == 18 || number == 19;
+    return number <= 14 || number == 18 || number == 19;
 }
 
 static int is_default(uint32_t number)
@@ -46,7 +46,7 @@ static void texts(void)
     size_t i, k;
     uint32_t number;
 
-    expect(COUNT == 16, "refusals of the header", (uint32_t)COUNT);
+    expect(COUNT == 17, "refusals of the header", (uint32_t)COUNT);
     for (i = 0; i < COUNT; i++) {
         const char *text = hcube_refusal_text(refusals[i].number);
         expect(is_refusal(refusals[i].number), refusals[i].name,
@@ -62,6 +62,7 @@ static void texts(void)
     for (i = 0; i < sizeof large / sizeof large[0]; i++)
         expect(is_default(large[i]), "the default's text", large[i]);
     expect(strstr(hcube_refusal_text(13), "too short") != 0, "no room", 13);
+    expect(strstr(hcube_refusal_text(14), "0-3,8") != 0, "no list", 14);
 }
 
 static int is_no_scan(uint32_t number)

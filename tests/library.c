@@ -114,6 +114,13 @@ static void check_endings_seen(void)
     CAME_UP("groups of a count written", groups[0], 1, 2);
     CAME_UP("groups of a first address written", groups[1], 1, 2);
     CAME_UP("groups of a later address written", groups[2], 1, 2);
+    CAME_UP("list of n", cube[LIST][0], 1, 12);
+    CAME_UP("list written n", cube[WRITE_LIST][0], 1, 12);
+    for (unsigned written = 0; written < 2; written++) {
+        CAME_UP("digits of a number alone", digits[written][0], 1, 4);
+        CAME_UP("digits of a first number", digits[written][1], 1, 4);
+        CAME_UP("digits of a second number", digits[written][2], 1, 4);
+    }
     end_group();
 }
 
@@ -122,6 +129,7 @@ static const struct group groups[] = {
     {"worked_numbers", check_worked_numbers},
     {"worked_why", check_worked_why},
     {"worked_notices", check_worked_notices},
+    {"worked_lists", check_worked_lists},
     {"orders", check_orders},
     {"label_combinations", check_label_combinations},
     {"job_combinations", check_job_combinations},
@@ -177,6 +185,22 @@ static const struct group groups[] = {
     {"write_damaged", check_write_damaged},
     {"write_dimensions", check_write_dimensions},
     {"write_left", check_write_left},
+    {"short_texts", check_short_texts},
+    {"list_bytes", check_list_bytes},
+    {"random_lists", check_random_lists},
+    {"damaged_lists", check_damaged_lists},
+    {"long_numbers", check_long_numbers},
+    {"wrapped_numbers", check_wrapped_numbers},
+    {"long_lists", check_long_lists},
+    {"list_written", check_list_written},
+    {"list_runs", check_list_runs},
+    {"list_rooms", check_list_rooms},
+    {"list_back", check_list_back},
+    {"list_combinations", check_list_combinations},
+    {"write_list_combinations", check_write_list_combinations},
+    {"list_dimensions", check_list_dimensions},
+    {"list_left", check_list_left},
+    {"list_lengths", check_list_lengths},
 };
 
 /* They speak of all that came before them, so that no word runs them alone. */

@@ -208,5 +208,6 @@ void check_orders(void)
     check_order(WHY_HOP, why_hop_answer, hop_orders, COUNT(hop_orders));
     check_order(WALK, walk_answer, walk_orders, COUNT(walk_orders));
     check_write_orders();
+    check_list_orders();
     end_group();
 }

@@ -21,7 +21,8 @@ struct order {
                          * no label */
     int faults_more, draining_more, closed_more; /* beyond what fits */
     int labels_more, row_more;
-    int out_more; /* beyond what is enough for every notice */
+    int out_more; /* beyond what is enough for every notice, or every text */
+    const char *text; /* for reading a list */
 };
 
 /* Asks all, and expects that each pair of the refusals of this question, any
@@ -31,8 +32,9 @@ void check_order(unsigned question,
                  const struct order *orders, size_t count);
 
 /* Labelling, and why a node has its label, in orders_label.c; writing a notice in
- * orders_notice.c. */
+ * orders_notice.c; reading and writing a list in orders_list.c. */
 void check_label_orders(void);
 void check_write_orders(void);
+void check_list_orders(void);
 
 #endif

@@ -16,6 +16,8 @@ const struct question questions[QUESTIONS] = {
     [NOTICE] = {"notice", {9, 10, 1, 2, 11, 12}},
     [DIMENSION] = {"dimension", {9, 10, 1}},
     [WRITE] = {"write", {1, 2, 3, 13}},
+    [LIST] = {"list", {1, 2, 14, 12}},
+    [WRITE_LIST] = {"write a list", {1, 2, 3, 13}},
 };
 
 static const uint8_t none[MOST_LENT];
@@ -122,6 +124,25 @@ struct write_question fit_write(uint32_t n, const uint8_t *faults, uint8_t *out)
     return asked;
 }
 
+struct write_question fit_write_list(uint32_t n, const uint8_t *faults,
+                                     uint8_t *out)
+{
+    struct write_question asked = fit_write(n, faults, out);
+    asked.out_len = HCUBE_LIST_BYTES_MAX;
+    return asked;
+}
+
+struct list_question fit_list(uint32_t n, const uint8_t *text, size_t text_len,
+                              uint8_t *faults)
+{
+    struct list_question asked = {.n = n,
+                                  .text = text,
+                                  .text_len = text_len,
+                                  .faults = faults,
+                                  .faults_len = ref_fault_bytes(n)};
+    return asked;
+}
+
 void keep_half(struct label_question asked, uint8_t *half)
 {
     memcpy(half, asked.labels + HCUBE_HALF(asked.n, asked.job),
@@ -185,6 +206,20 @@ uint32_t ask_write(struct write_question asked)
     keep_write(asked);
     return hcube_write_notice(asked.n, asked.faults, asked.faults_len, asked.out,
                               asked.out_len);
+}
+
+uint32_t ask_list(struct list_question asked)
+{
+    keep_list(asked);
+    return hcube_read_list(asked.n, asked.text, asked.text_len, asked.faults,
+                           asked.faults_len);
+}
+
+uint32_t ask_write_list(struct write_question asked)
+{
+    keep_write_list(asked);
+    return hcube_write_list(asked.n, asked.faults, asked.faults_len, asked.out,
+                            asked.out_len);
 }
 
 uint32_t row_place(const uint8_t *row, uint32_t k)

@@ -1,7 +1,7 @@
 /*
  * questions.h: what is asked of the library, each question with all that it is
  * handed. A test that says nothing of a parameter leaves it as fit_label,
- * fit_hop, fit_walk or fit_write gives it.
+ * fit_hop, fit_walk, fit_write, fit_list or fit_write_list gives it.
  */
 #ifndef QUESTIONS_H
 #define QUESTIONS_H
@@ -17,7 +17,19 @@
 #define MOST_LABEL 4
 #define MOST_REFUSAL 19
 
-enum { LABEL, HOP, WALK, WHY_NODE, WHY_HOP, NOTICE, DIMENSION, WRITE, QUESTIONS };
+enum {
+    LABEL,
+    HOP,
+    WALK,
+    WHY_NODE,
+    WHY_HOP,
+    NOTICE,
+    DIMENSION,
+    WRITE,
+    LIST,
+    WRITE_LIST,
+    QUESTIONS
+};
 
 /* Name and refusals of each question; 0 ends the row. A notice, or its
  * dimension alone, is read from left to right; the others test theirs in this
@@ -55,12 +67,21 @@ struct walk_question {
     size_t row_len;
 };
 
+/* Of a notice or of list text. */
 struct write_question {
     uint32_t n;
     const uint8_t *faults;
     size_t faults_len;
     uint8_t *out;
     size_t out_len;
+};
+
+struct list_question {
+    uint32_t n;
+    const uint8_t *text;
+    size_t text_len;
+    uint8_t *faults;
+    size_t faults_len;
 };
 
 /* Questions in which each length is the one that n asks for, the rule is 3, no
@@ -75,8 +96,15 @@ struct hop_question fit_hop(uint32_t n, uint32_t c, uint32_t d,
 struct walk_question fit_walk(uint32_t n, uint32_t s, uint32_t d,
                               const uint8_t *half, uint8_t *row);
 
-/* A fault table of the length that n asks for, and room for every notice. */
+/* A fault table of the length that n asks for, and room for every notice, or for
+ * every text. */
 struct write_question fit_write(uint32_t n, const uint8_t *faults, uint8_t *out);
+struct write_question fit_write_list(uint32_t n, const uint8_t *faults,
+                                     uint8_t *out);
+
+/* A text and a table of that length. */
+struct list_question fit_list(uint32_t n, const uint8_t *text, size_t text_len,
+                              uint8_t *faults);
 
 /* Copies the job's half out of the question's label buffer; n and job are good. */
 void keep_half(struct label_question asked, uint8_t *half);
@@ -101,6 +129,8 @@ uint32_t ask_dimension(const uint8_t *bytes, size_t len);
 uint64_t ask_notice(const uint8_t *bytes, size_t len, uint8_t *faults,
                     size_t faults_len);
 uint32_t ask_write(struct write_question asked);
+uint32_t ask_list(struct list_question asked);
+uint32_t ask_write_list(struct write_question asked);
 
 /* The node at this place of an accepted walk's row. */
 uint32_t row_place(const uint8_t *row, uint32_t k);

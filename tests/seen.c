@@ -149,3 +149,42 @@ void saw_write(struct write_question asked, uint32_t answer,
         SEEN(groups[k < 2 ? k : 2], groups);
     }
 }
+
+/* Of a long text the first numbers. It is a list, so a number ends where another
+ * sign stands. */
+static void count_digits(unsigned written, const uint8_t *text, size_t len)
+{
+    size_t begins = 0;
+    if (len > 500)
+        len = 500;
+    for (size_t at = 0; at < len; at++) {
+        unsigned place = 0;
+        if (text[at] >= '0')
+            continue;
+        if (begins > 0 && text[begins - 1] == '-')
+            place = 2;
+        else if (text[at] == '-')
+            place = 1;
+        SEEN(digits[written][place], at - begins);
+        begins = at + 1;
+    }
+}
+
+void saw_list(struct list_question asked, uint32_t answer)
+{
+    SEEN(refusal[LIST][0], HCUBE_REFUSAL(answer));
+    if (HCUBE_REFUSAL(answer))
+        return;
+    SEEN(cube[LIST][0], asked.n);
+    count_digits(0, asked.text, asked.text_len);
+}
+
+void saw_write_list(struct write_question asked, uint32_t answer,
+                    const uint8_t *out)
+{
+    SEEN(refusal[WRITE_LIST][0], HCUBE_REFUSAL(answer));
+    if (HCUBE_REFUSAL(answer))
+        return;
+    SEEN(cube[WRITE_LIST][0], asked.n);
+    count_digits(1, out, HCUBE_VALUE(answer));
+}

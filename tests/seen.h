@@ -9,7 +9,7 @@
 #include "questions.h"
 
 /* By whose call it is: job 0, job 1, or a number that is no job. A notice, its
- * dimension and writing one have no job and count as job 0. */
+ * dimension, list text and writing either have no job and count as job 0. */
 enum { NO_JOB = 2, WHOSE };
 
 struct seen {
@@ -35,6 +35,9 @@ struct seen {
     unsigned long why_scan[NO_SCAN];   /* that took a hop, as it says itself */
     unsigned long groups[3][3]; /* of numbers written, by how many each has: the
                                  * count, the first address, later ones */
+    unsigned long digits[2][3][5]; /* of the numbers of lists that are read, and of
+                                    * those written, by how many each has: alone,
+                                    * the first and the second of a range */
     unsigned long tables[8]; /* nodes labelled to n = 5, by the tables that they
                               * are in: 1 faults, 2 draining, 4 closed */
 };
@@ -52,5 +55,9 @@ void saw_dimension(uint32_t answer);
 /* `out` is what writing a notice left. */
 void saw_write(struct write_question asked, uint32_t answer,
                const uint8_t *out);
+void saw_list(struct list_question asked, uint32_t answer);
+/* `out` is what writing a text left. */
+void saw_write_list(struct write_question asked, uint32_t answer,
+                    const uint8_t *out);
 
 #endif

@@ -63,7 +63,7 @@ status=0
 "$list" --help >help 2>err || status=1
 "$list" -h | cmp - help || status=1
 [ ! -s err ] && ! grep -q '^#' help || status=1
-for said in 'tools/list -f FILE ' '--file' 'tools/list - ' 'tools/list --help ' './cafe' ' # ' '16,384' '1,048,576' 'LISTING' \
+for said in 'tools/list -f FILE ' '--file' 'tools/list - ' 'tools/list 4: 2,4,8,15 -- 13 0 ' 'tools/list --help ' './cafe' ' # ' '16,384' '1,048,576' 'LISTING' \
     'Exit status:' '  0  ' 'S D refused K' '  1  ' '  2  '; do
     grep -q -e "$said" help || { echo "  not in --help: $said"; status=1; }
 done
