@@ -1,7 +1,7 @@
 /* SPDX-License-Identifier: GPL-2.0-only OR MIT */
 /*
- * The cubes whose answers the module has stored, for make_answers.c and make_notices.c. They run where the module is
- * built; the module itself does not read this.
+ * The cubes whose answers the module has stored, for make_answers.c, make_notices.c and make_lists.c. They run where the
+ * module is built; the module itself does not read this.
  */
 #ifndef CUBES_H
 #define CUBES_H

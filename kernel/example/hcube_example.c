@@ -2,7 +2,8 @@
 /*
  * An example of a kernel module that calls the functions of hcube.h; the calls are in stored.c. At load it labels each
  * stored cube for both jobs in one buffer, asks why each node of either has its label, and hop, why that hop, and walk
- * for all pairs, reads the stored notices, writes others, compares with the stored answers and prints one line.
+ * for all pairs, reads the stored notices and lists, writes others, compares with the stored answers and prints one
+ * line. Then it compares list text with the kernel's own (hcube_lists.c).
  */
 #include <linux/init.h>
 #include <linux/kernel.h>
@@ -11,6 +12,7 @@
 
 #include "hcube_hammer.h"
 #include "hcube_jobs.h"
+#include "hcube_lists.h"
 #include "stored.h"
 
 /* Labels one job, the other one having been labelled before; returns how many of the two halves are wrong then. */
@@ -47,30 +49,38 @@ static size_t __init wrong_answers(const struct hcube_cube *cube, uint8_t *label
 	return wrong;
 }
 
+/* Says so where some are wrong; how many. */
+static size_t __init said(size_t wrong, const char *what)
+{
+	if (wrong)
+		pr_err("hcube_example: %zu %s wrong\n", wrong, what);
+	return wrong;
+}
+
 static int __init hcube_example_init(void)
 {
 	uint8_t *labels = kmalloc(HCUBE_LABEL_BYTES(12), GFP_KERNEL); /* too much for the kernel's stack */
-	size_t k, whys = 0, pairs = 0, wrong, writings;
+	size_t k, whys = 0, pairs = 0, wrong = 0;
 	int error;
 
 	if (!labels)
 		return -ENOMEM;
-	wrong = hcube_wrong_notices();
-	if (wrong)
-		pr_err("hcube_example: %zu notices wrong\n", wrong);
-	writings = hcube_wrong_writings();
-	if (writings)
-		pr_err("hcube_example: %zu notices written wrong\n", writings);
-	wrong += writings;
+	wrong += said(hcube_wrong_notices(), "notices");
+	wrong += said(hcube_wrong_writings(), "notices written");
+	wrong += said(hcube_wrong_lists(), "lists");
+	wrong += said(hcube_wrong_list_writings(), "lists written");
 	for (k = 0; k < hcube_stored_count; k++) {
 		wrong += wrong_answers(&hcube_stored[k], labels);
 		whys += HCUBE_JOBS * hcube_whys(&hcube_stored[k]);
 		pairs += HCUBE_JOBS * hcube_pairs(&hcube_stored[k]);
 	}
 	kfree(labels);
-	pr_info("hcube_example: %zu cubes labelled for two jobs, %zu nodes, %zu pairs, %zu notices read and %zu written compared, %zu wrong\n",
-		hcube_stored_count, whys, pairs, hcube_notice_count, hcube_writing_count, wrong);
-	error = wrong ? -EIO : hcube_jobs_compare();
+	pr_info("hcube_example: %zu cubes labelled for two jobs, %zu nodes, %zu pairs, %zu notices read and %zu written, %zu lists read and %zu written compared, %zu wrong\n",
+		hcube_stored_count, whys, pairs, hcube_notice_count, hcube_writing_count, hcube_list_count,
+		hcube_list_writing_count, wrong);
+	error = wrong ? -EIO : hcube_lists_compare();
+	if (!error)
+		error = hcube_jobs_compare();
 	return error ? error : hcube_hammer_start();
 }
 

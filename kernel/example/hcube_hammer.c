@@ -2,9 +2,10 @@
 /*
  * The load of kernel/test; a driver needs nothing of it. Whoever writes a number of milliseconds to /proc/hcube_demo,
  * which has the module's name, has all stored answers compared again and again for that long, in his own process and
- * with interrupts on. Meanwhile a timer interrupts every 100 microseconds and compares five things itself: a pair, of
+ * with interrupts on. Meanwhile a timer interrupts every 100 microseconds and compares seven things itself: a pair, of
  * each cube and of either job in turn; one of the job that the process is not at work for, in the very buffer that it
- * is at work in; a node of that job there, which labels it once more; a notice that is read; and one that is written.
+ * is at work in; a node of that job there, which labels it once more; a notice and a list that are read; and those that
+ * are written.
  */
 #include <linux/atomic.h>
 #include <linux/hrtimer.h>
@@ -22,7 +23,7 @@
 #define HAMMER_FILE KBUILD_MODNAME
 #define HAMMER_PERIOD ns_to_ktime(100 * 1000)
 
-static atomic64_t pairs, interrupts, beside, whys, whys_beside, notices, writings, wrong;
+static atomic64_t pairs, interrupts, beside, whys, whys_beside, notices, writings, lists, list_writings, wrong;
 
 struct hammer {
 	struct hrtimer timer;
@@ -82,6 +83,10 @@ static enum hrtimer_restart interrupted(struct hrtimer *timer)
 		atomic64_inc(&wrong);
 	if (!hcube_writing_is_right(&hcube_writings[hammer->turn % hcube_writing_count]))
 		atomic64_inc(&wrong);
+	if (!hcube_list_is_right(&hcube_lists[hammer->turn % hcube_list_count]))
+		atomic64_inc(&wrong);
+	if (!hcube_list_writing_is_right(&hcube_list_writings[hammer->turn % hcube_list_writing_count]))
+		atomic64_inc(&wrong);
 	atomic64_inc(&interrupts);
 	hrtimer_forward_now(timer, HAMMER_PERIOD);
 	return HRTIMER_RESTART;
@@ -99,8 +104,8 @@ static void set_up(struct hammer *hammer)
 }
 
 /*
- * Labelling and notices take their turns too: about a twentieth of the time each. Asking why, which labels for each
- * node, takes about a third.
+ * Labelling, notices and lists take their turns too: about a twentieth of the time each. Asking why, which labels for
+ * each node, takes about a third.
  */
 static void compare(const struct hcube_cube *cube, uint32_t job, uint8_t *labels)
 {
@@ -118,6 +123,10 @@ static void compare(const struct hcube_cube *cube, uint32_t job, uint8_t *labels
 	atomic64_add(hcube_notice_count, &notices);
 	atomic64_add(hcube_wrong_writings(), &wrong);
 	atomic64_add(hcube_writing_count, &writings);
+	atomic64_add(hcube_wrong_lists(), &wrong);
+	atomic64_add(hcube_list_count, &lists);
+	atomic64_add(hcube_wrong_list_writings(), &wrong);
+	atomic64_add(hcube_list_writing_count, &list_writings);
 }
 
 /* Each job in turn, while the timer asks the other one. */
@@ -175,11 +184,14 @@ int hcube_hammer_start(void)
 void hcube_hammer_stop(void)
 {
 	remove_proc_entry(HAMMER_FILE, NULL);
-	pr_info("hcube_hammer: %lld pairs compared, %lld in interrupts, %lld beside the other job at work, %lld nodes compared, %lld beside the other job at work, %lld notices read, %lld in interrupts, %lld written, %lld in interrupts, %lld wrong\n",
+	pr_info("hcube_hammer: %lld pairs compared, %lld in interrupts, %lld beside the other job at work, %lld nodes compared, %lld beside the other job at work, %lld notices read, %lld in interrupts, %lld written, %lld in interrupts, %lld lists read, %lld in interrupts, %lld written, %lld in interrupts, %lld wrong\n",
 		(long long)(atomic64_read(&pairs) + atomic64_read(&interrupts) + atomic64_read(&beside)),
 		(long long)atomic64_read(&interrupts), (long long)atomic64_read(&beside),
 		(long long)(atomic64_read(&whys) + atomic64_read(&whys_beside)), (long long)atomic64_read(&whys_beside),
 		(long long)(atomic64_read(&notices) + atomic64_read(&interrupts)), (long long)atomic64_read(&interrupts),
 		(long long)(atomic64_read(&writings) + atomic64_read(&interrupts)), (long long)atomic64_read(&interrupts),
+		(long long)(atomic64_read(&lists) + atomic64_read(&interrupts)), (long long)atomic64_read(&interrupts),
+		(long long)(atomic64_read(&list_writings) + atomic64_read(&interrupts)),
+		(long long)atomic64_read(&interrupts),
 		(long long)atomic64_read(&wrong));
 }

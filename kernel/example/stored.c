@@ -1,7 +1,7 @@
 // SPDX-License-Identifier: GPL-2.0-only OR MIT
 /*
- * Calls the functions of hcube.h on the stored cubes, notices and tables, and compares with the stored answers. It
- * calls nothing else of the module.
+ * Calls the functions of hcube.h on the stored cubes, notices, lists and tables, and compares with the stored answers.
+ * It calls nothing else of the module.
  */
 #include <linux/kernel.h>
 #include <linux/string.h>
@@ -10,6 +10,7 @@
 #include "stored.h"
 #include "answers.h"
 #include "notices.h"
+#include "lists.h"
 
 const struct hcube_cube *const hcube_stored = hcube_cubes;
 const size_t hcube_stored_count = ARRAY_SIZE(hcube_cubes);
@@ -17,6 +18,10 @@ const struct hcube_notice *const hcube_notices = notices;
 const size_t hcube_notice_count = ARRAY_SIZE(notices);
 const struct hcube_writing *const hcube_writings = writings;
 const size_t hcube_writing_count = ARRAY_SIZE(writings);
+const struct hcube_list *const hcube_lists = lists;
+const size_t hcube_list_count = ARRAY_SIZE(lists);
+const struct hcube_list_writing *const hcube_list_writings = list_writings;
+const size_t hcube_list_writing_count = ARRAY_SIZE(list_writings);
 
 uint32_t hcube_label_stored(const struct hcube_cube *cube, uint32_t job, const struct hcube_closing *closing,
 			    uint8_t *labels)
@@ -136,5 +141,42 @@ size_t hcube_wrong_writings(void)
 
 	for (k = 0; k < hcube_writing_count; k++)
 		wrong += !hcube_writing_is_right(&hcube_writings[k]);
+	return wrong;
+}
+
+bool hcube_list_is_right(const struct hcube_list *list)
+{
+	uint8_t table[STORED_TABLE_BYTES];
+
+	memset(table, HCUBE_UNTOUCHED, sizeof(table));
+	return hcube_read_list(list->n, list->text, list->len, table, list->table_len) == list->read &&
+	       memcmp(table, list->table, sizeof(table)) == 0;
+}
+
+size_t hcube_wrong_lists(void)
+{
+	size_t wrong = 0, k;
+
+	for (k = 0; k < hcube_list_count; k++)
+		wrong += !hcube_list_is_right(&hcube_lists[k]);
+	return wrong;
+}
+
+bool hcube_list_writing_is_right(const struct hcube_list_writing *writing)
+{
+	uint8_t text[STORED_TEXT_BYTES];
+
+	memset(text, HCUBE_UNTOUCHED, sizeof(text));
+	return hcube_write_list(writing->n, writing->table, writing->table_len, text, writing->room) ==
+		       writing->written &&
+	       memcmp(text, writing->text, sizeof(text)) == 0;
+}
+
+size_t hcube_wrong_list_writings(void)
+{
+	size_t wrong = 0, k;
+
+	for (k = 0; k < hcube_list_writing_count; k++)
+		wrong += !hcube_list_writing_is_right(&hcube_list_writings[k]);
 	return wrong;
 }

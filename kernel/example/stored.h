@@ -1,14 +1,20 @@
 /* SPDX-License-Identifier: GPL-2.0-only OR MIT */
 /*
- * What the module knows of the stored answers, and the comparing with them (stored.c). answers.h and notices.h have
- * the answers; make_answers.c and make_notices.c write these two.
+ * What the module knows of the stored answers, and the comparing with them (stored.c). answers.h, notices.h and
+ * lists.h have the answers; make_answers.c, make_notices.c and make_lists.c write these three.
  */
 #ifndef STORED_H
 #define STORED_H
 
 #include "hcube.h"
 
-enum { HCUBE_JOBS = 2, HCUBE_UNTOUCHED = 0xaa, STORED_NOTICE_BYTES = 16, STORED_TABLE_BYTES = 40 };
+enum {
+	HCUBE_JOBS = 2,
+	HCUBE_UNTOUCHED = 0xaa,
+	STORED_NOTICE_BYTES = 16,
+	STORED_TEXT_BYTES = 40,
+	STORED_TABLE_BYTES = 40
+};
 
 /* The answers for one pair. The row of a refused walk keeps the byte HCUBE_UNTOUCHED. */
 struct hcube_answer {
@@ -59,12 +65,36 @@ struct hcube_writing {
 	uint8_t bytes[STORED_NOTICE_BYTES]; /* what the buffer holds then; a byte that is not written keeps HCUBE_UNTOUCHED */
 };
 
+/* A list text, accepted or refused, and its answer. */
+struct hcube_list {
+	uint32_t n;
+	uint8_t text[STORED_TEXT_BYTES];
+	size_t len; /* of the text */
+	size_t table_len; /* of the fault table that is lent */
+	uint32_t read; /* what hcube_read_list answers */
+	uint8_t table[STORED_TABLE_BYTES]; /* what the table holds then; a byte that is not written keeps HCUBE_UNTOUCHED */
+};
+
+/* A fault table, good or bad, whose list text is written, and the answer. */
+struct hcube_list_writing {
+	uint32_t n;
+	uint8_t table[STORED_TABLE_BYTES];
+	size_t table_len; /* of the table that is lent */
+	size_t room; /* of the buffer that is lent */
+	uint32_t written; /* what hcube_write_list answers */
+	uint8_t text[STORED_TEXT_BYTES]; /* what the buffer holds then; a byte that is not written keeps HCUBE_UNTOUCHED */
+};
+
 extern const struct hcube_cube *const hcube_stored;
 extern const size_t hcube_stored_count;
 extern const struct hcube_notice *const hcube_notices;
 extern const size_t hcube_notice_count;
 extern const struct hcube_writing *const hcube_writings;
 extern const size_t hcube_writing_count;
+extern const struct hcube_list *const hcube_lists;
+extern const size_t hcube_list_count;
+extern const struct hcube_list_writing *const hcube_list_writings;
+extern const size_t hcube_list_writing_count;
 
 /* Ends may be one above the last node, which is refused. */
 static inline size_t hcube_pairs(const struct hcube_cube *cube)
@@ -124,5 +154,11 @@ bool hcube_writing_is_right(const struct hcube_writing *writing);
 
 /* How many of all that are written are not. */
 size_t hcube_wrong_writings(void);
+
+/* The same of list text that is read, and of that which is written. */
+bool hcube_list_is_right(const struct hcube_list *list);
+size_t hcube_wrong_lists(void);
+bool hcube_list_writing_is_right(const struct hcube_list_writing *writing);
+size_t hcube_wrong_list_writings(void);
 
 #endif
