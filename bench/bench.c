@@ -1,7 +1,7 @@
 /*
  * bench.c: times of the archive as a ratio to the same algorithm in plain C, on
- * tables with and without draining and closed nodes, for either job; and of
- * notices.
+ * tables with and without draining and closed nodes, for either job; of notices;
+ * and of list text.
  *
  *   bench REPETITIONS
  */
@@ -140,6 +140,27 @@ static void print_notices(void)
     }
 }
 
+/* Behind all others, for the same reason. */
+static void print_lists(void)
+{
+    printf("\nlist text\n n table             bytes      write ratio         read "
+           "ratio\n");
+    set_dimension(12);
+    print_list_row("no faults");
+    for (uint32_t k = 0; k < HCUBE_NODES_MAX; k += 2)
+        add_node(faults, k);
+    print_list_row("every second");
+    set_random(HCUBE_NODES_MAX, 0, 0);
+    print_list_row("one run");
+    set_random(HCUBE_NODES_MAX / 10, 0, 0);
+    print_list_row("a tenth");
+    set_dimension(12);
+    for (uint32_t k = 0; k < HCUBE_NODES_MAX; k++)
+        if (k % 3 != 2)
+            add_node(faults, k);
+    print_list_row("longest text");
+}
+
 static void print_head(const char *name)
 {
     static const char *const columns[] = {"label", "hop", "walk", "why label",
@@ -170,6 +191,7 @@ int main(int count, char **words)
     job = 1;
     print_table();
     print_notices();
+    print_lists();
     print_highest();
     return 0;
 }

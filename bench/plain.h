@@ -1,7 +1,7 @@
 /*
- * plain.h: labelling, hop, walk, the questions that say why, writing a notice and
- * reading one in plain C, compiled by two compilers (gcc_, clang_); and what its
- * three files share.
+ * plain.h: labelling, hop, walk, the questions that say why, writing and reading a
+ * notice and list text in plain C, compiled by two compilers (gcc_, clang_); and
+ * what its four files share.
  */
 #ifndef PLAIN_H
 #define PLAIN_H
@@ -32,7 +32,13 @@
                                   size_t faults_len, uint8_t *out,             \
                                   size_t out_len);                             \
     uint64_t prefix##read_notice(const uint8_t *bytes, size_t len,             \
-                                 uint8_t *faults, size_t faults_len);
+                                 uint8_t *faults, size_t faults_len);          \
+    uint32_t prefix##write_list(uint32_t n, const uint8_t *faults,             \
+                                size_t faults_len, uint8_t *out,               \
+                                size_t out_len);                               \
+    uint32_t prefix##read_list(uint32_t n, const uint8_t *text,                \
+                               size_t text_len, uint8_t *faults,               \
+                               size_t faults_len);
 
 DECLARE(gcc_)
 DECLARE(clang_)

@@ -1,6 +1,6 @@
 /*
  * sides.c: label, hop, walk and the questions that say why, as the archive and
- * the two C builds answer them. The notice is in notices.c.
+ * the two C builds answer them. The notice is in notices.c, list text in lists.c.
  */
 #include "sides.h"
 

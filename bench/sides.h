@@ -24,8 +24,10 @@ void expect(int alike, const char *name);
 void expect_alike(asked *question, const char *name);
 
 /* Measures and prints a row, if the three sides answer alike: of the questions
- * about labels (sides.c), and of the notice of `faults` (notices.c). */
+ * about labels (sides.c), of the notice of `faults` (notices.c) and of its list
+ * text (lists.c). */
 void print_row(const char *name);
 void print_notice_row(const char *name);
+void print_list_row(const char *name);
 
 #endif

@@ -1,10 +1,12 @@
 /*
  * notice.c: the notice of a cube, in hex, and the cube of a notice. The library
- * writes and reads it; of how a notice is made nothing is known here.
+ * writes and reads it, and list text; of how these are made nothing is known here.
  *
  *   notice write N NODE...    the notice of an N-cube with these faulty nodes
+ *   notice text N LIST        that of one whose faulty nodes list text gives
  *   notice read FILE HINT     the cube of the notice whose bytes FILE has; where
  *                             it is refused, HINT ends the line that says so
+ *   notice list FILE HINT     the same, its faulty nodes as list text
  *
  * tools/notice hands these over, having seen to it that numbers are numbers, and
  * says which exit status means what.
@@ -40,15 +42,26 @@ static void put_nodes(uint32_t n, int count, char **words)
     }
 }
 
+static void put_list(uint32_t n, const char *text)
+{
+    uint32_t read = hcube_read_list(n, (const uint8_t *)text, strlen(text),
+                                    faults, HCUBE_FAULT_BYTES(n));
+    if (HCUBE_REFUSAL(read) != HCUBE_ACCEPTED)
+        refuse("list", "", HCUBE_REFUSAL(read));
+}
+
 /* A bad dimension has no table: it is the library that refuses it. */
-static void print_notice(int count, char **words)
+static void print_notice(int is_text, int count, char **words)
 {
     uint8_t notice[HCUBE_NOTICE_BYTES_MAX];
     uint32_t n = (uint32_t)strtoul(words[0], NULL, 10), written;
     size_t bytes = 0;
     if (n >= 1 && n <= HCUBE_DIMENSION_MAX) {
         bytes = HCUBE_FAULT_BYTES(n);
-        put_nodes(n, count - 1, words + 1);
+        if (is_text)
+            put_list(n, words[1]);
+        else
+            put_nodes(n, count - 1, words + 1);
     }
     written = hcube_write_notice(n, faults, bytes, notice, sizeof notice);
     if (HCUBE_REFUSAL(written) != HCUBE_ACCEPTED)
@@ -85,7 +98,25 @@ static void expect_accepted(uint64_t answer, const char *hint)
     exit(1);
 }
 
-static void print_cube(const char *name, const char *hint)
+static void print_nodes(uint32_t n)
+{
+    for (uint32_t k = 0; k < HCUBE_NODES(n); k++)
+        if (faults[k / 8] >> k % 8 & 1)
+            printf(" %u", k);
+}
+
+static void print_list(uint32_t n)
+{
+    static uint8_t text[HCUBE_LIST_BYTES_MAX];
+    uint32_t written =
+        hcube_write_list(n, faults, HCUBE_FAULT_BYTES(n), text, sizeof text);
+    if (HCUBE_REFUSAL(written) != HCUBE_ACCEPTED)
+        refuse("list", "", HCUBE_REFUSAL(written));
+    if (HCUBE_VALUE(written) > 0)
+        printf(" %.*s", (int)HCUBE_VALUE(written), (const char *)text);
+}
+
+static void print_cube(int is_text, const char *name, const char *hint)
 {
     static uint8_t bytes[NOTICE_MAX];
     size_t len = read_file(name, bytes, sizeof bytes);
@@ -95,20 +126,28 @@ static void print_cube(const char *name, const char *hint)
     expect_accepted(
         hcube_read_notice(bytes, len, faults, HCUBE_FAULT_BYTES(n)), hint);
     printf("%u:", n);
-    for (uint32_t k = 0; k < HCUBE_NODES(n); k++)
-        if (faults[k / 8] >> k % 8 & 1)
-            printf(" %u", k);
+    if (is_text)
+        print_list(n);
+    else
+        print_nodes(n);
     printf("\n");
+}
+
+/* Whether the first word is this one, and all are so many. */
+static int asks(const char *word, int count, int argc, char **argv)
+{
+    return argc == count && strcmp(argv[1], word) == 0;
 }
 
 int main(int argc, char **argv)
 {
-    if (argc >= 3 && strcmp(argv[1], "write") == 0) {
-        print_notice(argc - 2, argv + 2);
-    } else if (argc == 4 && strcmp(argv[1], "read") == 0) {
-        print_cube(argv[2], argv[3]);
+    int is_text = asks("text", 4, argc, argv), is_list = asks("list", 4, argc, argv);
+    if (is_text || (argc >= 3 && strcmp(argv[1], "write") == 0)) {
+        print_notice(is_text, argc - 2, argv + 2);
+    } else if (is_list || asks("read", 4, argc, argv)) {
+        print_cube(is_list, argv[2], argv[3]);
     } else {
-        fprintf(stderr, "notice: `write` or `read` and its words are wanted\n");
+        fprintf(stderr, "notice: what is to be done and its words are wanted\n");
         return 2;
     }
     if (fflush(stdout) == 0 && !ferror(stdout))
