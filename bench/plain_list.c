@@ -20,15 +20,25 @@ static inline int is_digit(uint8_t byte)
     return byte >= '0' && byte <= '9';
 }
 
+/* The first four digits need no cap on the way: three stay below BEYOND. */
 static inline struct number number_at(const uint8_t *text, size_t len,
                                       size_t at)
 {
     struct number number = {at, at, 0};
-    for (; at < len && is_digit(text[at]); at++) {
+    for (int k = 0; k < 4; k++, at++) {
+        if (at >= len || !is_digit(text[at])) {
+            number.end = at;
+            return number;
+        }
         number.value = 10 * number.value + (text[at] - '0');
+    }
+    for (; at < len && is_digit(text[at]); at++) {
         if (number.value > BEYOND)
             number.value = BEYOND;
+        number.value = 10 * number.value + (text[at] - '0');
     }
+    if (number.value > BEYOND)
+        number.value = BEYOND;
     number.end = at;
     return number;
 }
@@ -39,12 +49,10 @@ static inline int is_good(const uint8_t *text, struct number number)
     return count == 1 || (count > 1 && text[number.begins] != '0');
 }
 
-/* By value, unless both are too large to tell by it. */
+/* By their digits. */
 static int is_above(const uint8_t *text, struct number a, struct number b)
 {
     size_t count = a.end - a.begins;
-    if (a.value < BEYOND || b.value < BEYOND)
-        return a.value > b.value;
     if (count != b.end - b.begins)
         return count > b.end - b.begins;
     for (size_t k = 0; k < count; k++)
@@ -77,14 +85,28 @@ static uint32_t judge(const uint8_t *text, size_t len, uint32_t size)
     }
 }
 
+/* Whole bytes at once where they are in the run. */
+static void set_run(uint8_t *faults, uint32_t low, uint32_t high)
+{
+    uint32_t k = low;
+    while (k <= high) {
+        if (k % 8 == 0 && high - k >= 7) {
+            faults[k / 8] = 255;
+            k += 8;
+        } else {
+            faults[k / 8] |= (uint8_t)(1u << (k % 8));
+            k++;
+        }
+    }
+}
+
 static void set_runs(const uint8_t *text, size_t len, uint8_t *faults)
 {
     for (size_t at = 0; at < len; at++) {
         struct number low = number_at(text, len, at), high = low;
         if (low.end < len && text[low.end] == '-')
             high = number_at(text, len, low.end + 1);
-        for (uint32_t k = low.value; k <= high.value; k++)
-            faults[k / 8] |= (uint8_t)(1u << (k % 8));
+        set_run(faults, low.value, high.value);
         at = high.end;
     }
 }

@@ -138,7 +138,8 @@ extern "C" {
 #define HCUBE_CUT_SHORT 9        /* bytes end before a number is complete */
 #define HCUBE_BAD_GROUP 10       /* second group zero or with its high bit */
 #define HCUBE_BAD_COUNT 11       /* count above 2^n */
-#define HCUBE_BAD_ADDRESS 12     /* an address is 2^n or more */
+#define HCUBE_BAD_ADDRESS 12     /* an address, or a node of a list, is 2^n or
+                                  * more */
 #define HCUBE_NO_ROOM 13         /* a lent buffer is too short for what is to be
                                   * written */
 #define HCUBE_BAD_LIST 14        /* list text that is no list */
@@ -521,22 +522,23 @@ uint32_t hcube_write_notice(uint32_t n, const uint8_t *faults, size_t faults_len
  * them, for all nodes from the first up to the second; the first is at most the
  * second. A number has one or more of the digits 0 to 9, and the first of several
  * is not 0. Numbers of any length are compared whole. Entries may stand in any
- * order and have nodes in common; each takes a step for each of its nodes, so
- * bound text_len where time matters, as in an interrupt. The bytes are ASCII;
+ * order and have nodes in common; each takes at most a step for each of its
+ * nodes, so bound text_len where time matters, as in an interrupt. The bytes are ASCII;
  * text_len says where the text ends, and no zero byte does.
  *
  * What this takes the kernel's own bitmap_parselist takes too, and reads as the
  * same set. That takes more; here all of it is refused with 14:
- * - blanks and tabs around an entry or in place of a comma, and line ends before
- *   an entry: 0 8
- * - a line end right behind an entry, or a zero byte, and then anything: it is
- *   not read
+ * - white space around an entry or in place of a comma, line ends before an
+ *   entry among it: 0 8
+ * - a line end right behind a number or a range, or a zero byte, and then
+ *   anything: it is not read
  * - commas before the first entry, behind the last, and more than one between
  *   two: 0-3,,8,
  * - zeros in front of a number: 007
  * - the letter N for the last node: 8-N
  * - the word all for every node, in small letters or large ones
- * - a range, or all, with the first so many of each so many nodes: 0-31:2/4
+ * - a range, or all, with the first so many of each so many nodes, 0-31:2/4; a
+ *   line end behind that is white space, and an entry may follow at once
  * What a user wrote to a file of the kernel's mostly ends in a line end: take that
  * off. A text that it refuses leaves some other set with the kernel; here the
  * table stays as it was.
@@ -546,7 +548,8 @@ uint32_t hcube_write_notice(uint32_t n, const uint8_t *faults, size_t faults_len
  *   2   faults_len is not HCUBE_FAULT_BYTES(n)
  *   14  `text` is no list
  *   12  a node is 2^n or more
- * So 9-8 and 99999,0- are refused with 14, whatever n is, and 99999 with 12.
+ * So, whatever n of 1 to 12 is, 9-8 and 99999,0- are refused with 14, and 99999
+ * with 12.
  * Accepted: kind 0, value 0. All of `faults` is overwritten: a node is in it
  * that is in an entry, and no other.
  */

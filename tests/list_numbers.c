@@ -2,6 +2,7 @@
  * list_numbers.c: lists with numbers of hundreds of digits, and lists that are
  * long. What is due stands here once more.
  */
+#include <stdlib.h>
 #include <string.h>
 
 #include "cases.h"
@@ -150,8 +151,8 @@ void check_wrapped_numbers(void)
     for (size_t k = 0; k < COUNT(around); k++)
         for (uint32_t n = 1; n <= 12; n++) {
             size_t count = strlen(around[k]);
-            if (count == 3 && n >= 8)
-                continue; /* nodes */
+            if (count == 3 && (unsigned long)atoi(around[k]) < HCUBE_NODES(n))
+                continue; /* a node */
             len = 0;
             put_text(around[k], count);
             is_refused(n, 12, around[k]);

@@ -156,7 +156,7 @@ static void read_leaves(struct list_question asked, uint32_t answer)
     uint32_t got;
     lend_to_read(&text_lent, asked.text, asked.text_len, 0);
     lend_to_read(&table_lent, asked.faults, asked.faults_len,
-                 answer ? random_below(2) : asked.faults_len);
+                 answer ? 0 : asked.faults_len);
     lent.text = text_lent.bytes;
     lent.faults = table_lent.bytes;
     got = ask_list(lent);

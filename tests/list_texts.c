@@ -27,6 +27,9 @@ static regex_t list;
 
 static void compile_list(void)
 {
+    static int is_compiled;
+    if (is_compiled++)
+        return;
     if (regcomp(&list, "^(" AN_ENTRY "(," AN_ENTRY ")*)?$",
                 REG_EXTENDED | REG_NOSUB) != 0) {
         fprintf(stderr, "list_texts: no regular expression\n");

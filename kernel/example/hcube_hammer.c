@@ -4,8 +4,8 @@
  * which has the module's name, has all stored answers compared again and again for that long, in his own process and
  * with interrupts on. Meanwhile a timer interrupts every 100 microseconds and compares seven things itself: a pair, of
  * each cube and of either job in turn; one of the job that the process is not at work for, in the very buffer that it
- * is at work in; a node of that job there, which labels it once more; a notice and a list that are read; and those that
- * are written.
+ * is at work in; a node of that job there, which labels it once more; a notice and a list that are read, and one of each
+ * that is written.
  */
 #include <linux/atomic.h>
 #include <linux/hrtimer.h>

@@ -204,7 +204,7 @@ static const struct {
 	{ "N", 1u << 31 }, { "30-N", 3u << 30 }, { "N-N", 1u << 31 }, /* the last node */
 	{ "all", ~0u }, { "ALL", ~0u }, { "All", ~0u }, { "0,all", ~0u }, /* every node */
 	{ "0-31:2/4", 0x33333333 }, { "0-7:1/2", 0x55 }, { "all:1/2", 0x55555555 }, { "0-7:1/2N", 0x80000055 },
-	{ "8-15:0/4", 0 }, /* of each group some */
+	{ "8-15:0/4", 0 }, { "0-7:1/2\n8", 0x155 }, /* of each group some, and then a line end is a blank */
 };
 
 static bool is_taken(struct lists *lists, const char *text, uint32_t nodes)

@@ -7,6 +7,7 @@
 #include "cubes.h"
 #include "reference.h"
 
+#include <stdlib.h>
 #include <string.h>
 
 enum { TEXT_BYTES = 40, TABLE_BYTES = 40 };
@@ -54,6 +55,10 @@ static void print_read(uint32_t n, const struct text *text, size_t table_len)
 
 static void put(struct text *text, const char *bytes)
 {
+	if (text->len + strlen(bytes) > sizeof text->bytes) {
+		fprintf(stderr, "make_lists: TEXT_BYTES is too few\n");
+		exit(2);
+	}
 	memcpy(text->bytes + text->len, bytes, strlen(bytes));
 	text->len += strlen(bytes);
 }
@@ -99,14 +104,29 @@ static void print_damaged(uint32_t n, const struct text *text, size_t table_len)
 	}
 }
 
+/* The cube's own text. */
+static struct text own_text(const struct cube *cube, const uint8_t *table)
+{
+	struct text text = { .len = 0 };
+	uint32_t answer = ref_write_list(cube->n, table, ref_fault_bytes(cube->n), (uint8_t *)text.bytes,
+					 sizeof text.bytes);
+
+	if (answer >> 24) {
+		fprintf(stderr, "make_lists: the text of a cube is refused with %u\n", answer >> 24);
+		exit(2);
+	}
+	text.len = answer;
+	return text;
+}
+
 static void print_reads(const struct cube *cube)
 {
 	uint8_t table[TABLE_BYTES];
 	size_t len = ref_fault_bytes(cube->n), k;
-	struct text text = { .len = 0 }, other = falling(cube);
+	struct text text, other = falling(cube);
 
 	put_nodes(cube, table);
-	text.len = ref_write_list(cube->n, table, len, (uint8_t *)text.bytes, sizeof text.bytes);
+	text = own_text(cube, table);
 	print_read(cube->n, &text, len);
 	print_read(cube->n, &other, len);
 	print_read(cube->n, &text, 0);
@@ -146,11 +166,11 @@ static void print_rooms(uint32_t n, const uint8_t *table, size_t table_len, size
 
 static void print_writings(const struct cube *cube)
 {
-	uint8_t table[TABLE_BYTES], text[TEXT_BYTES];
+	uint8_t table[TABLE_BYTES];
 	size_t len = ref_fault_bytes(cube->n), text_len, k;
 
 	put_nodes(cube, table);
-	text_len = ref_write_list(cube->n, table, len, text, sizeof text);
+	text_len = own_text(cube, table).len;
 	print_rooms(cube->n, table, len, text_len);
 	for (k = 0; k < sizeof no_dimensions / sizeof no_dimensions[0]; k++)
 		print_rooms(no_dimensions[k], table, len, text_len);

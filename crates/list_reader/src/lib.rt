@@ -1,5 +1,5 @@
 // List text, read: a text such as `0-3,8` becomes a fault table. One pass over the entries judges the whole text and writes nothing; a second one sets bits.
-ghost use Prim.Native.Nat.{_+_, _*_, _-_, _/_, _≤_, _<_};
+ghost use Prim.Native.Nat.{_+_, _*_, _-_, _≤_, _<_};
 ghost use Rattle.cube.specs.Refusal.{first};
 ghost use Rattle.list_reader.specs.Front.{above, between, bytesAt, capped, closing, entryAt, front, highAt, lead, rangeOn, withParts};
 ghost use Rattle.list_reader.specs.Reading.{listRefusal, listTable, textTests};

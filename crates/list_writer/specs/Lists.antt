@@ -6,13 +6,10 @@ use Prim.Native.Nat.{ℕ, zero, suc, _+_, _/_, _%_}
 use lib.Dec.{eqb, ltb}
 use Rattle.ranges.specs.Grammar.{comma}
 use Rattle.ranges.specs.Written.{listText}
-use Rattle.writer.specs.Writing.{afterBytes, roomRefusal, wroteBytes}
+use Rattle.writer.specs.Writing.{afterBytes, wroteBytes}
 use Rattle.writer.specs.declared.Wrote.{Wrote}
 
 -- "writing 1, 2, 3, then 13 exactly if the text is longer than the buffer"
-abbrev pub listWriteRefusal : (n : ℕ) (faults : List ℕ) (room : ℕ) → ℕ
-listWriteRefusal n faults room = roomRefusal n faults (listText n faults) room
-
 abbrev pub wroteList : (n : ℕ) (faults : List ℕ) (room : ℕ) → Wrote
 wroteList n faults room = wroteBytes n faults (listText n faults) room
 

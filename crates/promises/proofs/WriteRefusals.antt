@@ -1,14 +1,15 @@
 -- The refusals of writing a notice or a list text, and of reading a list text, are those that the words give, test by test.
-use mathlib.Core.Path.{_≡_}
+use mathlib.Core.Path.{_≡_, sym, ap, _∙_}
 use mathlib.Core.Bool.{true, not}
 use mathlib.Core.List.{List}
-use Prim.Native.Nat.{ℕ, _^_, _≤_}
+use Prim.Native.Nat.{ℕ, _^_}
 use lib.Dec.{eqb, ltb}
 use lib.ListN.{length}
 use borrow.Author.Tests.{lt-ltb, ltb-true, not-false}
 use Rattle.cube.specs.Refusal.{first}
 use Rattle.cube.specs.Tables.{isDimension, tableLen, unusedSet}
-use Rattle.ranges.specs.Grammar.{isList, named}
+use Rattle.ranges.specs.Grammar.{isList, named, reaches}
+use Rattle.ranges.specs.Laws.{Entries, Entry, holds}
 use Rattle.ranges.proofs.Laws.{ranges-laws}
 use Rattle.spelling.specs.Spelled.{noticeBytes}
 use Rattle.ranges.specs.Written.{listText}
@@ -54,24 +55,33 @@ write-list-given n faults room = bytes-given n faults (listText n faults) room
 
 -- ---- reading a list text: 12 is looked at where the text keeps the rules
 
-pub read-list-given : (n : ℕ) (text faults : List ℕ) → ReadListGiven n text (length faults) (listRefusal n text faults)
-unfolding listRefusal first
-read-list-given n text faults =
-    one-test _ (λ e. list-1 (wrong-dimension n .0 e)) said-1
-    (one-test _ (λ e. list-2 (wrong-table n (length faults) .0 e)) said-2
-    (test-then _ (λ e. list-14 (not-says (isList text) (ranges-laws .grammar text) .0 e)) said-14
-    (λ e.
-    let beyond = ranges-laws .beyond (2 ^ n) text (not-false (isList text) e) in
-    one-test _ (λ f. list-12 (beyond .0 f)) (λ w. beyond .1 (named-of w)) none)))
-  where
-    said-1 : ReadListWhen n text (length faults) 1 → not (isDimension n) ≡ true
-    said-1 (list-1 d) = wrong-dimension n .1 d
+-- a node beyond the cube is one of some entry, which the text names
+module _ (n : ℕ) (text faults : List ℕ) where
+  holds-named : (es : List Entry) (k : ℕ) → Entries es text → named text k ≡ holds es k
+  holds-named es k e = ap (λ (s : List ℕ). named s k) (e .1) ∙ ranges-laws .union es k (e .0)
 
-    said-2 : ReadListWhen n text (length faults) 2 → not (eqb (length faults) (tableLen n)) ≡ true
-    said-2 (list-2 l) = wrong-table n (length faults) .1 l
+  says-12 : isList text ≡ true → reaches (2 ^ n) text ≡ true → ReadListWhen n text (length faults) 12
+  says-12 good far =
+      let (es, e) = ranges-laws .grammar text .0 good in
+      let (k, l, named-is) = ranges-laws .beyond (2 ^ n) text good .0 far in
+      list-12 es k e l (sym (holds-named es k e) ∙ named-is)
 
-    said-14 : ReadListWhen n text (length faults) 14 → not (isList text) ≡ true
-    said-14 (list-14 b) = not-says (isList text) (ranges-laws .grammar text) .1 b
+  said-12 : isList text ≡ true → ReadListWhen n text (length faults) 12 → reaches (2 ^ n) text ≡ true
+  said-12 good (list-12 es k e l held) = ranges-laws .beyond (2 ^ n) text good .1 (k, l, holds-named es k e ∙ held)
 
-    named-of : ReadListWhen n text (length faults) 12 → (k : ℕ) × (2 ^ n ≤ k) × (named text k ≡ true)
-    named-of (list-12 r) = r
+  pub read-list-given : ReadListGiven n text (length faults) (listRefusal n text faults)
+  unfolding listRefusal first
+  read-list-given =
+      one-test _ (λ e. list-1 (wrong-dimension n .0 e)) said-1
+      (one-test _ (λ e. list-2 (wrong-table n (length faults) .0 e)) said-2
+      (test-then _ (λ e. list-14 (not-says (isList text) (ranges-laws .grammar text) .0 e)) said-14
+      (λ e. let good = not-false (isList text) e in one-test _ (says-12 good) (said-12 good) none)))
+    where
+      said-1 : ReadListWhen n text (length faults) 1 → not (isDimension n) ≡ true
+      said-1 (list-1 d) = wrong-dimension n .1 d
+
+      said-2 : ReadListWhen n text (length faults) 2 → not (eqb (length faults) (tableLen n)) ≡ true
+      said-2 (list-2 l) = wrong-table n (length faults) .1 l
+
+      said-14 : ReadListWhen n text (length faults) 14 → not (isList text) ≡ true
+      said-14 (list-14 b) = not-says (isList text) (ranges-laws .grammar text) .1 b

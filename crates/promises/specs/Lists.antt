@@ -8,13 +8,14 @@ use Prim.Native.Nat.{ℕ, _^_, _≤_, _<_}
 use lib.ListN.{drop, length, take}
 use Rattle.cube.specs.Tables.{nodeBit}
 use Rattle.ranges.specs.Grammar.{named}
+use Rattle.ranges.specs.Laws.{ListText}
 use Rattle.ranges.specs.Written.{listText}
 use Rattle.spelling.specs.Laws.{Bytes, IsTable}
 use Rattle.writer.specs.Writing as T
 use Rattle.writer.specs.declared.Wrote.{Wrote}
 use Rattle.writer.specs.declared.Wrote.the-variants.{Length, Refused}
 use Rattle.promises.specs.Library.{Library}
-use Rattle.promises.specs.Refusals.{ListText, ReadListGiven, TableLength, WriteListGiven}
+use Rattle.promises.specs.Refusals.{ReadListGiven, TableLength, WriteListGiven}
 
 pub record Lists (lib : Library) : Type 0 where
   -- ---- reading: "1, 2, then 14 for text that breaks these rules anywhere, then 12",

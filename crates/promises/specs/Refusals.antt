@@ -13,9 +13,8 @@ use Rattle.groups.specs.declared.Number.the-variants.{Value}
 use Rattle.notice.specs.Notice as N
 use Rattle.spelling.specs.Spelled.{noticeBytes}
 use Rattle.writer.specs.Writing as T
-use Rattle.ranges.specs.Grammar.{named}
-use Rattle.ranges.specs.Laws.{Entry, sound, spelled}
-use Rattle.ranges.specs.Written.{joined, listText}
+use Rattle.ranges.specs.Laws.{Entries, Entry, ListText, holds}
+use Rattle.ranges.specs.Written.{listText}
 use Rattle.list_reader.specs.Reading.{listRefusal}
 use Rattle.list_writer.specs.Lists.{wroteList}
 use Rattle.rule.specs.Cabinet.{Cabinet}
@@ -202,15 +201,12 @@ WriteListGiven n faults room = BytesGiven n faults (listText n faults) room
 
 -- ---- reading a list text into a table of so many bytes: "1, 2, then 14 for text that breaks these rules anywhere, then 12"
 
--- it keeps the rules: it is that of entries, each a number or a range with low at most high, joined by commas
-abbrev pub ListText : List ℕ → Type 0
-ListText text = (es : List Entry) × (sound es ≡ true) × (text ≡ joined (spelled es))
-
+-- 14 where it is not that of entries, each a number or a range with low at most high, joined by commas; 12 where one of them has a node beyond the cube
 pub data ReadListWhen (n : ℕ) (text : List ℕ) (bytes : ℕ) : ℕ → Type 0 where
   list-1 : ¬ (Dimension n) → ReadListWhen n text bytes 1
   list-2 : ¬ (TableLength n bytes) → ReadListWhen n text bytes 2
   list-14 : ¬ (ListText text) → ReadListWhen n text bytes 14
-  list-12 : (k : ℕ) × (2 ^ n ≤ k) × (named text k ≡ true) → ReadListWhen n text bytes 12
+  list-12 : (es : List Entry) (k : ℕ) → Entries es text → 2 ^ n ≤ k → holds es k ≡ true → ReadListWhen n text bytes 12
 
 abbrev pub ReadListGiven : (n : ℕ) (text : List ℕ) (bytes : ℕ) → ℕ → Type 0
 ReadListGiven n text bytes = Given (ReadListWhen n text bytes) (1 ∷ 2 ∷ 14 ∷ 12 ∷ [])

@@ -11,7 +11,7 @@ use borrow.Author.Tests.{leb-true, le-leb, eqb-true, eq-eqb}
 use Rattle.cube.proofs.Bools.{either, and-true, and-both, clash}
 use Rattle.ranges.specs.Grammar.{comma, dash, split, every, any, isNumber, noZero, allDigits, value, entryOf, isEntry, firstOf, lastOf, low, high}
 use Rattle.ranges.specs.Grammar.{partsOf, isList, covers, named}
-use Rattle.ranges.specs.Laws.{Entry, sound, spelled, holds}
+use Rattle.ranges.specs.Laws.{Entry, ListText, sound, spelled, holds}
 use Rattle.ranges.specs.Written.{decimal, joined}
 use Rattle.ranges.proofs.Split.{after, every-cons, lacks, lacks-both, rejoin, rejoin-split, split-alone, split-ahead, parts-joined, joined-parts}
 use Rattle.ranges.proofs.Decimal.{decimal-digits, decimal-number, decimal-value, digits-lack, value-decimal}
@@ -167,11 +167,11 @@ pub text-listed : (es : List Entry) → sound es ≡ true → isList (joined (sp
 unfolding isList
 text-listed es s = rw (parts-are es s) (texts-entries es s)
 
-pub grammar : (s : List ℕ) → (isList s ≡ true) ↔ ((es : List Entry) × (sound es ≡ true) × (s ≡ joined (spelled es)))
+pub grammar : (s : List ℕ) → (isList s ≡ true) ↔ ListText s
 unfolding isList
 grammar s = (
-  λ e. let l = spelling (partsOf s) e in (l .entries, l .good, sym (joined-parts s) ∙ ap joined (l .texts)),
-  λ (r : (es : List Entry) × (sound es ≡ true) × (s ≡ joined (spelled es))). rw (r .2) (text-listed (r .0) (r .1)),
+  λ e. let l = spelling (partsOf s) e in (l .entries, (l .good, sym (joined-parts s) ∙ ap joined (l .texts))),
+  λ (r : ListText s). rw (r .1 .1) (text-listed (r .0) (r .1 .0)),
 )
 
 covered : (es : List Entry) (k : ℕ) → sound es ≡ true → any (covers k) (spelled es) ≡ holds es k

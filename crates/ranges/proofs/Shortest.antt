@@ -167,4 +167,4 @@ module _ (n : ℕ) (s : List ℕ) (inside : reaches (2 ^ n) s ≡ false) (es : L
       omega (arith, text-cost runs, joined-length (spelled es), ap length text)
 
 pub shortest : (n : ℕ) (s : List ℕ) → isList s ≡ true → reaches (2 ^ n) s ≡ false → length (listText n (namedTable n s)) ≤ length s
-shortest n s taken inside = let r = grammar s .0 taken in shorter n s inside (r .0) (r .1) (r .2)
+shortest n s taken inside = let r = grammar s .0 taken in shorter n s inside (r .0) (r .1 .0) (r .1 .1)

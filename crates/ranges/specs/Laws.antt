@@ -30,6 +30,13 @@ unfoldable pub spelled : List Entry → List (List ℕ)
 spelled [] = []
 spelled (e ∷ more) = cond (e .lone) (decimal (e .low)) (decimal (e .low) ++ dash ∷ decimal (e .high)) ∷ spelled more
 
+-- these are the entries of a text that keeps the rules; and it is one
+abbrev pub Entries : List Entry → List ℕ → Type 0
+Entries es text = (sound es ≡ true) × (text ≡ joined (spelled es))
+
+abbrev pub ListText : List ℕ → Type 0
+ListText text = (es : List Entry) × Entries es text
+
 -- some entry has node k
 unfoldable pub holds : List Entry → ℕ → Bool
 holds [] k = false
@@ -53,7 +60,7 @@ pairs len = tab len (λ i. getD (0xDB ∷ 0xB6 ∷ 0x6D ∷ []) (i % 3) 0)
 
 pub record RangesLaws : Type 0 where
   -- the texts that the rules take are those of sound entries, joined by commas
-  pub grammar : (s : List ℕ) → (isList s ≡ true) ↔ ((es : List Entry) × (sound es ≡ true) × (s ≡ joined (spelled es)))
+  pub grammar : (s : List ℕ) → (isList s ≡ true) ↔ ListText s
   -- and such a text names the nodes that its entries have
   pub union : (es : List Entry) (k : ℕ) → sound es ≡ true → named (joined (spelled es)) k ≡ holds es k
   -- it goes beyond a cube of that many nodes where it names a node that the cube does not have

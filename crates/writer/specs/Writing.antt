@@ -32,20 +32,17 @@ onWrote (Refused k) refused good = refused k
 unfoldable pub afterBytes : (n : ℕ) (faults w out : List ℕ) → List ℕ
 afterBytes n faults w out = onWrote (wroteBytes n faults w (length out)) (λ k. out) (λ len. over w out)
 
--- ---- of the notice
-
-abbrev pub writeRefusal : (n : ℕ) (faults : List ℕ) (room : ℕ) → ℕ
-writeRefusal n faults room = roomRefusal n faults (noticeBytes n faults) room
-
-abbrev pub wrote : (n : ℕ) (faults : List ℕ) (room : ℕ) → Wrote
-wrote n faults room = wroteBytes n faults (noticeBytes n faults) room
-
-abbrev pub bufferAfter : (n : ℕ) (faults out : List ℕ) → List ℕ
-bufferAfter n faults out = afterBytes n faults (noticeBytes n faults) out
-
 -- the numbers for the answer (RULES, To C)
 abbrev pub refusalOf : Wrote → ℕ
 refusalOf x = onWrote x (λ k. k) (λ len. 0)
 
 abbrev pub lengthOf : Wrote → ℕ
 lengthOf x = onWrote x (λ k. 0) (λ len. len)
+
+-- ---- of the notice
+
+abbrev pub wrote : (n : ℕ) (faults : List ℕ) (room : ℕ) → Wrote
+wrote n faults room = wroteBytes n faults (noticeBytes n faults) room
+
+abbrev pub bufferAfter : (n : ℕ) (faults out : List ℕ) → List ℕ
+bufferAfter n faults out = afterBytes n faults (noticeBytes n faults) out
