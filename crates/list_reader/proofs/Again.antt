@@ -14,7 +14,7 @@ use Rattle.list_reader.specs.Front.{above, bytesAt, capped, closing, das
 use Rattle.list_reader.specs.declared.Entry.{Entry}
 use Rattle.list_reader.specs.declared.Entry.the-variants.{Range, Bad}
 use Rattle.ranges.specs.Grammar.{comma, dash, noZero, value}
-use Rattle.list_reader.proofs.Entries.{front-length, lead-within}
+use Rattle.list_reader.proofs.Fronts.{front-length, lead-within}
 use Rattle.list_reader.proofs.Parts.{and-none}
 
 -- ---- by the byte behind the digits

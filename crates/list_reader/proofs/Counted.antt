@@ -14,7 +14,7 @@ use Rattle.cube.proofs.Bools.{by-cases, clash, either}
 use Rattle.list_reader.specs.Front.{capped, front, lead}
 use Rattle.ranges.specs.Grammar.{isDigit, value, valueFrom}
 use Rattle.ranges.proofs.Decimal.{digit-is}
-use Rattle.list_reader.proofs.Entries.{lead-off, lead-on}
+use Rattle.list_reader.proofs.Fronts.{lead-off, lead-on}
 
 -- ---- numbers that 4,096 stands for
 

@@ -1,12 +1,16 @@
 pub mod Parts
 pub mod Order
+pub mod Fronts
 pub mod Entries
 pub mod Counted
 pub mod Steps
 pub mod Again
 pub mod Nodes
 pub mod Filled
-pub mod Passes
+pub mod Left
+pub mod Judging
+pub mod Running
+pub mod Putting
 pub mod Tables
 pub mod Outcomes
 pub mod Functions

@@ -13,7 +13,7 @@ use Rattle.cube.proofs.Bools.{and-true, clash, either, or-none, or-right}
 use Rattle.list_reader.specs.Front.{above, capped, closing, entryAt, entryOn, front, later, lead, rangeOn}
 use Rattle.list_reader.specs.declared.Entry.the-variants.{Range, Bad}
 use Rattle.ranges.specs.Grammar.{comma, dash, noZero, value}
-use Rattle.list_reader.proofs.Entries.{lead-within}
+use Rattle.list_reader.proofs.Fronts.{lead-within}
 
 -- ---- whether digits are a number
 

@@ -22,7 +22,7 @@ use Rattle.list_reader.specs.Front.{between, withParts}
 use Rattle.ranges.proofs.Beyond.{entry-order}
 use Rattle.list_reader.proofs.Nodes.{run-has, run-within}
 use Rattle.list_reader.proofs.Parts.{and-none}
-use Rattle.list_reader.proofs.Passes.{far-off}
+use Rattle.list_reader.proofs.Left.{far-off}
 
 -- ---- the bits of all entries
 

@@ -8,7 +8,8 @@ use Rattle.notice.proofs.Outcomes.{part-drop}
 use Rattle.list_reader.specs.Front.{entryAt}
 use Rattle.list_reader.specs.declared.Entry.the-variants.{Range}
 use Rattle.list_reader.proofs.Entries.{Taken}
-use Rattle.list_reader.proofs.Passes.{Judging, judge-bad, judge-beyond, judge-on, judge-start, judge-within, next-within, taken-at}
+use Rattle.list_reader.proofs.Judging.{Judging, judge-bad, judge-beyond, judge-on, judge-start, judge-within}
+use Rattle.list_reader.proofs.Left.{next-within, taken-at}
 use Rattle.list_reader.proofs.check.Statement.{statement}
 use Rattle.list_reader.proofs.check.Tie as tie
 

@@ -9,7 +9,7 @@ use borrow.Author.Tests.{not-false, not-true}
 use lib.ListN.{take}
 use Rattle.ranges.specs.Grammar.{noZero, value}
 use Rattle.list_reader.specs.Front.{capped}
-use Rattle.list_reader.proofs.Entries.{lead-within}
+use Rattle.list_reader.proofs.Fronts.{lead-within}
 use Rattle.list_reader.proofs.Steps.{entry-close, entry-dash, entry-zero}
 use Rattle.list_reader.proofs.first_entry.Statement.{statement}
 use Rattle.list_reader.proofs.first_entry.Tie as tie

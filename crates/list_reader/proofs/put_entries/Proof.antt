@@ -4,7 +4,7 @@ use native.Mathlib.Omega.{arith}
 use borrow.Author.Needs.{needs}
 use lib.ListN.{length}
 use Rattle.notice.proofs.Outcomes.{part-drop}
-use Rattle.list_reader.proofs.Passes.{Putting, put-end, put-start, turn-last, turn-on, turn-upto, turn-within}
+use Rattle.list_reader.proofs.Putting.{Putting, put-end, put-start, turn-last, turn-on, turn-upto, turn-within}
 use Rattle.list_reader.proofs.put_entries.Statement.{statement}
 use Rattle.list_reader.proofs.put_entries.Tie as tie
 

@@ -11,7 +11,7 @@ use lib.Seq.{length-take-le}
 use Rattle.notice.proofs.Outcomes.{part-drop}
 use Rattle.ranges.specs.Grammar.{noZero}
 use Rattle.list_reader.specs.Front.{lead}
-use Rattle.list_reader.proofs.Entries.{lead-within}
+use Rattle.list_reader.proofs.Fronts.{lead-within}
 use Rattle.list_reader.proofs.Steps.{range-below, range-good, range-zero}
 use Rattle.list_reader.proofs.range.Statement.{statement}
 use Rattle.list_reader.proofs.range.Tie as tie

@@ -10,7 +10,7 @@ use Rattle.notice.proofs.Outcomes.{part-drop}
 use Rattle.ranges.specs.Grammar.{value}
 use Rattle.list_reader.specs.Front.{capped, dashed, front, lead}
 use Rattle.list_reader.proofs.Again.{bytes-alone, bytes-dashed, dash-none, dash-other, dash-there, high-alone, high-dashed}
-use Rattle.list_reader.proofs.Entries.{lead-within}
+use Rattle.list_reader.proofs.Fronts.{lead-within}
 use Rattle.list_reader.proofs.run_at.Statement.{statement}
 use Rattle.list_reader.proofs.run_at.Tie as tie
 

@@ -5,7 +5,7 @@ use native.Mathlib.Omega.{arith}
 use borrow.Author.Tests.{eqb-true, leb-true}
 use lib.Dec.{eqb, leb}
 use Rattle.cube.proofs.Bools.{and-true}
-use Rattle.list_reader.proofs.Passes.{Running, run-byte, run-end, run-on, run-start}
+use Rattle.list_reader.proofs.Running.{Running, run-byte, run-end, run-on, run-start}
 use Rattle.list_reader.proofs.set_run.Statement.{statement}
 use Rattle.list_reader.proofs.set_run.Tie as tie
 
