@@ -2,7 +2,7 @@
 -- high part of the one byte.
 use mathlib.Core.Path.{_≡_, refl, sym, ap, _∙_}
 use mathlib.Core.Logic.{_⊎_, inl, inr}
-use mathlib.Core.Bool.{true, false, not, _&&_, and-false}
+use mathlib.Core.Bool.{Bool, true, false, not, _&&_, and-false}
 use mathlib.Core.List.{List, _∷_}
 use Prim.Native.Nat.{ℕ, zero, suc, _+_, _-_, _*_, _/_, _%_, _^_, _≤_, _<_}
 use native.Mathlib.Omega.{arith}
@@ -15,7 +15,7 @@ use Rattle.cube.specs.Count.{some}
 use Rattle.cube.specs.Cube.{bit}
 use Rattle.cube.specs.Tables.{isDimension, tableLen, nodeBit, unusedSet}
 use Rattle.cube.proofs.Bools.{either, clash, and-true}
-use Rattle.cube.proofs.Search.{some-none, some-found, none-some}
+use Rattle.cube.proofs.Search.{both-found, none-some, some-none, some-same}
 use Rattle.cube.proofs.Cube.{bit-none, bit-shift, bits-same}
 
 -- ---- the dimension
@@ -102,25 +102,32 @@ pub unused-none : (n : ℕ) (t : List ℕ) → 3 ≤ n → length t ≡ tableLen
 unfolding unusedSet
 unused-none n t h e = some-none (8 * length t) (λ k. leb (2 ^ n) k && nodeBit t k) (λ k l. rw (lt-leb (2 ^ n) k (omega (arith, table-full n h))))
 
--- a byte whose bits from m on are clear is below 2 ^ m
+-- a number whose bits from m on are clear is below 2 ^ m
 clear-above : (m x : ℕ) → x / 2 ^ m ≡ 0 → (i : ℕ) → m ≤ i → bit i x ≡ false
 clear-above m x e i h =
     let z : m + (i - m) ≡ i = omega arith in
     ap (λ (j : ℕ). bit j x) (sym z) ∙ sym (bit-shift m (i - m) x) ∙ rw e (bit-none (i - m))
 
-above-clear : (m x : ℕ) → m ≤ 8 → x < 256 → ((i : ℕ) → m ≤ i → i < 8 → bit i x ≡ false) → x / 2 ^ m ≡ 0
-above-clear m x h hx f =
-    let z : 8 ≡ (8 - m) + m = omega arith in
-    let l : x < 2 ^ ((8 - m) + m) = omega (arith, ap (λ (k : ℕ). 2 ^ k) z) in
-    bits-same (8 - m) (x / 2 ^ m) 0 (shr-lt (8 - m) m l) (pow-pos (8 - m)) (λ i k. bit-shift m i x ∙ f (m + i) (omega arith) (omega arith) ∙ sym (bit-none i))
+above-clear : (b m x : ℕ) → m ≤ b → x < 2 ^ b → ((i : ℕ) → m ≤ i → i < b → bit i x ≡ false) → x / 2 ^ m ≡ 0
+above-clear b m x h hx f =
+    let z : b ≡ (b - m) + m = omega arith in
+    let l : x < 2 ^ ((b - m) + m) = omega (arith, hx, ap (λ (k : ℕ). 2 ^ k) z) in
+    bits-same (b - m) (x / 2 ^ m) 0 (shr-lt (b - m) m l) (pow-pos (b - m)) (λ i k. bit-shift m i x ∙ f (m + i) (omega arith) (omega arith) ∙ sym (bit-none i))
+
+-- a number of b bits has one set at m or above exactly where, shifted down past the bits below m, it is not 0
+pub shifted : (b m x : ℕ) → m ≤ b → x < 2 ^ b → not (eqb (x / 2 ^ m) 0) ≡ some b (λ i. leb m i && bit i x)
+shifted b m x h hx = go (either (some b (λ i. leb m i && bit i x)))
+  where
+    go : (some b (λ i. leb m i && bit i x) ≡ true) ⊎ (some b (λ i. leb m i && bit i x) ≡ false)
+        → not (eqb (x / 2 ^ m) 0) ≡ some b (λ i. leb m i && bit i x)
+    go (inl a) =
+        let r = both-found b (leb m) (λ i. bit i x) a in
+        ap not (ne-eqb (x / 2 ^ m) 0 (λ z. clash (r .3) (clear-above m x z (r .0) (leb-true m (r .0) (r .2))))) ∙ sym a
+    go (inr a) =
+        let none = none-some b (λ i. leb m i && bit i x) a in
+        ap not (eq-eqb (x / 2 ^ m) 0 (above-clear b m x h hx (λ i l k. rw (le-leb m i l) at (none i k)))) ∙ sym a
 
 module _ (n : ℕ) (t : List ℕ) (small : n < 3) (sized : length t ≡ tableLen n) (fits : getD t 0 0 < 256) where
-  one-byte : 8 * length t ≡ 8
-  one-byte = omega (arith, len-small n (omega arith))
-
-  low : 2 ^ n ≤ 8
-  low = pow-mono {i = n} {j = 3} (omega arith)
-
   bit-here : (k : ℕ) → k < 8 → nodeBit t k ≡ bit k (getD t 0 0)
   unfolding nodeBit
   bit-here k h =
@@ -131,17 +138,9 @@ module _ (n : ℕ) (t : List ℕ) (small : n < 3) (sized : length t ≡ tableLen
   -- below dimension 3 an unused bit is set exactly where the byte, shifted down past the nodes' bits, is not 0
   pub unused-byte : not (eqb (getD t 0 0 / 2 ^ (2 ^ n)) 0) ≡ unusedSet n t
   unfolding unusedSet
-  unused-byte = go (either (some (8 * length t) (λ k. leb (2 ^ n) k && nodeBit t k)))
-    where
-      go : (unusedSet n t ≡ true) ⊎ (unusedSet n t ≡ false) → not (eqb (getD t 0 0 / 2 ^ (2 ^ n)) 0) ≡ unusedSet n t
-      go (inl a) =
-          let r = some-found (8 * length t) (λ k. leb (2 ^ n) k && nodeBit t k) a in
-          let q = and-true (leb (2 ^ n) (r .0)) (nodeBit t (r .0)) (r .2) in
-          let h : r .0 < 8 = omega (arith, r .1, one-byte) in
-          let set : bit (r .0) (getD t 0 0) ≡ true = sym (bit-here (r .0) h) ∙ q .1 in
-          ap not (ne-eqb (getD t 0 0 / 2 ^ (2 ^ n)) 0 (λ z. clash set (clear-above (2 ^ n) (getD t 0 0) z (r .0) (leb-true (2 ^ n) (r .0) (q .0))))) ∙ sym a
-      go (inr a) =
-          let none = none-some (8 * length t) (λ k. leb (2 ^ n) k && nodeBit t k) a in
-          let f : (i : ℕ) → 2 ^ n ≤ i → i < 8 → bit i (getD t 0 0) ≡ false =
-          λ i h l. sym (bit-here i l) ∙ (rw (le-leb (2 ^ n) i h) at (none i (omega (arith, one-byte)))) in
-          ap not (eq-eqb (getD t 0 0 / 2 ^ (2 ^ n)) 0 (above-clear (2 ^ n) (getD t 0 0) low fits f)) ∙ sym a
+  unused-byte =
+      let one : 8 * length t ≡ 8 = omega (arith, len-small n (omega arith)) in
+      shifted 8 (2 ^ n) (getD t 0 0) (pow-mono {i = n} {j = 3} (omega arith)) fits
+      ∙ some-same 8 (λ i. leb (2 ^ n) i && bit i (getD t 0 0)) (λ i. leb (2 ^ n) i && nodeBit t i)
+      (λ i h. ap (λ (b : Bool). leb (2 ^ n) i && b) (sym (bit-here i h)))
+      ∙ ap (λ (m : ℕ). some m (λ i. leb (2 ^ n) i && nodeBit t i)) (sym one)

@@ -60,7 +60,7 @@ same-byte k a e = elim (ℕ-discrete k a) [
 ]
 
 -- setting node a's bit sets that bit and changes no other
-bit-with : (t : List ℕ) (a k : ℕ) → a / 8 < length t → nodeBit (withBit t a) k ≡ (nodeBit t k || eqb k a)
+pub bit-with : (t : List ℕ) (a k : ℕ) → a / 8 < length t → nodeBit (withBit t a) k ≡ (nodeBit t k || eqb k a)
 unfolding nodeBit withBit
 bit-with t a k h = elim (ℕ-discrete (k / 8) (a / 8)) [
   | yes e ↦ rw (e, getD-set-same) (bit-or (k % 8) (getD t (a / 8) 0) (2 ^ (a % 8)) ∙ rw (bit-power, same-byte k a e))

@@ -1,0 +1,9 @@
+pub mod Hearing
+pub mod Bits
+pub mod Asking
+pub mod Strays
+pub mod Words
+pub mod Outcomes
+pub mod Functions
+pub mod Worked
+pub mod Laws

@@ -1,0 +1,4 @@
+pub mod Repaired
+pub mod Hearing
+pub mod Repairing
+pub mod Laws
