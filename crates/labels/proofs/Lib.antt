@@ -1,9 +1,3 @@
-pub mod Crossing
-pub mod Testing
-pub mod Marking
-pub mod Standing
 pub mod Loop
 pub mod Refusal
 pub mod Functions
-pub mod Tests
-pub mod TestsTied

@@ -28,10 +28,10 @@ use Rattle.cube.proofs.Front.{length-tab, getD-tab, tab-cong}
 use Rattle.rule.specs.Cabinet.{Cabinet, exchangesOf, labelsOf, out, outByte}
 use Rattle.rule.specs.Rule.{quiet, working, rounds, exchanges, safe, labelOf, label}
 use Rattle.rule.proofs.Rounds.{marked-suc, newly-says, loud-le, rounds-is}
-use Rattle.labels.specs.Passes.{plainIn, fresh, ordinary, swept, settled, finished}
-use Rattle.labels.proofs.Marking.{swept-new, swept-old}
-use Rattle.labels.proofs.Standing.{marks, new, held, held-out, held-mark, held-plain, Stands, byte}
-use Rattle.labels.proofs.Standing.{Kind, is-out, is-mark, is-plain, kind, fresh-is, marks-are, out-is, mark-is, plain-is}
+use Rattle.passes.specs.Passes.{plainIn, fresh, ordinary, swept, settled, finished}
+use Rattle.passes.proofs.Marking.{swept-new, swept-old}
+use Rattle.passes.proofs.Standing.{marks, new, held, held-out, held-mark, held-plain, Stands, byte}
+use Rattle.passes.proofs.Standing.{Kind, is-out, is-mark, is-plain, kind, fresh-is, marks-are, out-is, mark-is, plain-is}
 
 -- where a turn begins: so many rounds are over, and the exchange that is counted last is under way
 pub record Turn (K : Cabinet) (l : List ℕ) (counted : ℕ) : Type 0 where

@@ -12,9 +12,9 @@ use Rattle.rule.specs.Rounds.{Unsafe}
 use Rattle.rule.specs.Rule.{meets}
 use Rattle.rule.proofs.Looks.{Rises, looks-laws, near-rises, unread, unsafe-rises}
 use Rattle.rule.proofs.Rounds.{meets-same, meets-says}
-use Rattle.labels.specs.Passes.{markIn, outIn, plainIn}
-use Rattle.labels.proofs.Tests.{meets-rule-says, plain-near-says}
-use Rattle.labels.proofs.TestsTied.{tests-tied}
+use Rattle.passes.specs.Passes.{markIn, outIn, plainIn}
+use Rattle.passes.proofs.Tests.{meets-rule-says, plain-near-says}
+use Rattle.passes.proofs.TestsTied.{tests-tied}
 use Rattle.theorems.specs.FewReads.{Alike, NearTest, ReadsFew, RuleTest, TestsRead}
 
 module _

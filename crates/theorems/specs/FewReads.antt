@@ -9,9 +9,9 @@ use Rattle.cube.specs.Cube.{flip}
 use Rattle.cube.specs.Tables.{labelIn}
 use Rattle.rule.specs.Looks.{Looked, Near}
 use Rattle.rule.specs.Rounds.{Unsafe}
-use Rattle.labels.specs.Passes.{markIn, outIn, plainIn}
-use Rattle.labels.proofs.Tests.{meets-rule, plain-near}
-use Rattle.labels.proofs.TestsTied.{TestsTied}
+use Rattle.passes.specs.Passes.{markIn, outIn, plainIn}
+use Rattle.passes.proofs.Tests.{meets-rule, plain-near}
+use Rattle.passes.proofs.TestsTied.{TestsTied}
 
 -- two tables have the same labels at the first j neighbours of x
 abbrev pub Alike : (l l′ : List ℕ) (x j : ℕ) → Type 0

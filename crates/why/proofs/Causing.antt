@@ -13,7 +13,7 @@ use Rattle.causes.specs.Cause.{badCause, causeWith, from, nth, outNear}
 use Rattle.causes.specs.declared.Cause.{Cause}
 use Rattle.causes.specs.declared.Cause.the-variants.{Faulty, Two, Three}
 use Rattle.causes.proofs.Nth.{from-same, from-within, nth-more, nth-there}
-use Rattle.labels.specs.Passes.{markIn, outIn}
+use Rattle.passes.specs.Passes.{markIn, outIn}
 use Rattle.why.specs.Helpers.{counted}
 
 -- a search that starts behind what was found has a small number to start at

@@ -20,10 +20,10 @@ use Rattle.rule.specs.Rule.{marked, quiet, rounds}
 use Rattle.rule.proofs.Rounds.{marked-suc, marked-zero, rest}
 use Rattle.causes.specs.Cause.{causeOf, causeWith, earlier, roundOf}
 use Rattle.causes.proofs.Causes.{cause-same, earlier-is}
-use Rattle.labels.specs.Passes.{fresh, markIn, outIn, swept}
+use Rattle.passes.specs.Passes.{fresh, markIn, outIn, swept}
+use Rattle.passes.proofs.Marking.{swept-alike, swept-new, swept-old}
+use Rattle.passes.proofs.Standing.{Kind, Stands, fresh-is, is-mark, is-out, is-plain, kind, mark-is, marks, new, out-is}
 use Rattle.labels.proofs.Loop.{Turn, end-rounds, still-loud, swept-byte}
-use Rattle.labels.proofs.Marking.{swept-alike, swept-new, swept-old}
-use Rattle.labels.proofs.Standing.{Kind, Stands, fresh-is, is-mark, is-out, is-plain, kind, mark-is, marks, new, out-is}
 use Rattle.why.specs.Helpers.{watchedAfter, watchedOf, watchedOn}
 use Rattle.why.specs.declared.Watched.{Watched}
 use Rattle.why.specs.declared.Watched.the-variants.{Unmarked, Marked}

@@ -10,7 +10,7 @@ use Rattle.cube.specs.Tables.{labelIn}
 use Rattle.rule.specs.Cabinet.{Cabinet, out}
 use Rattle.rule.specs.Rule.{marked, rounds}
 use Rattle.causes.specs.Cause.{causeOf, causeWith, roundOf}
-use Rattle.labels.specs.Passes.{markIn, outIn}
+use Rattle.passes.specs.Passes.{markIn, outIn}
 use Rattle.scans.specs.Scans.{noScan}
 use Rattle.why.specs.declared.HopReason.{HopReason}
 use Rattle.why.specs.declared.HopReason.the-variants as hop

@@ -1,13 +1,13 @@
-// The two questions that say why. `why_node` labels the nodes as labelling does, by its passes, and watches one node: when a round marks it, the marks of the
-// earlier rounds are still in the table, and the node's cause is read from them. `why_hop` makes the tests and the scans of a hop, and answers which scan took it.
-// Both take any numbers and bytes, and test them; what reads labels is handed the job's half alone.
+// The two questions that say why. `why_node` labels the nodes as labelling does, by the same passes, and watches one node: when a round marks it, the marks of
+// the earlier rounds are still in the table, and the node's cause is read from them. `why_hop` makes the tests and the scans of a hop, and answers which scan
+// took it. Both take any numbers and bytes, and test them; what reads labels is handed the job's half alone.
 ghost use Prim.Native.Nat.{_≤_, _<_};
 ghost use Rattle.causes.specs.Cause.{badCause, causeWith, from};
 ghost use Rattle.cube.specs.Count.{count};
 ghost use Rattle.cube.specs.Cube.{flip};
 ghost use Rattle.cube.specs.Tables.{labelIn, tableLen};
 ghost use Rattle.jobs.specs.Jobs.{labelFor};
-ghost use Rattle.labels.specs.Passes.{NodeOf, markIn, outIn};
+ghost use Rattle.passes.specs.Passes.{NodeOf, markIn, outIn};
 ghost use Rattle.rule.specs.Cabinet.{cabinet, labelsOf};
 ghost use Rattle.why.specs.Helpers.{counted, reasonBy, taken, unmarked, watchedOn};
 ghost use Rattle.why.specs.HopReasons.{hopReason};
@@ -25,14 +25,14 @@ use hop::chosen;
 use hop::gather;
 use hop::place_refusal;
 use jobs::half;
-use labels::MARKED;
-use labels::NEW;
-use labels::OUT;
-use labels::finish;
 use labels::label_refusal;
-use labels::settle;
-use labels::start;
-use labels::sweep;
+use passes::MARKED;
+use passes::NEW;
+use passes::OUT;
+use passes::finish;
+use passes::settle;
+use passes::start;
+use passes::sweep;
 
 // Why a node has its label.
 pub enum NodeReason {

@@ -9,8 +9,8 @@ use Rattle.cube.proofs.Front.{length-tab}
 use Rattle.rule.specs.Cabinet.{cabinet, out}
 use Rattle.rule.specs.Rule.{working}
 use Rattle.rule.proofs.Rounds.{working-few}
+use Rattle.passes.proofs.Standing.{stands-first, stands-kept, stands-length}
 use Rattle.labels.proofs.Loop.{Turn, swept-length, round-bound, round-done, end-exchanges, end-labels}
-use Rattle.labels.proofs.Standing.{stands-first, stands-kept, stands-length}
 use Rattle.labels.proofs.label_nodes.Statement.{statement}
 use Rattle.labels.proofs.label_nodes.Tie as tie
 

@@ -2,7 +2,7 @@
 use mathlib.Core.Path.{refl}
 use borrow.Author.Needs.{needs}
 use Rattle.cube.specs.Tables.{labelIn}
-use Rattle.labels.specs.Passes.{markIn, outIn}
+use Rattle.passes.specs.Passes.{markIn, outIn}
 use Rattle.why.specs.Helpers.{counted}
 use Rattle.why.proofs.counts.Statement.{statement}
 use Rattle.why.proofs.counts.Tie as tie

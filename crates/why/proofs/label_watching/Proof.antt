@@ -9,8 +9,8 @@ use Rattle.cube.proofs.Front.{length-tab}
 use Rattle.rule.specs.Cabinet.{cabinet, out}
 use Rattle.rule.specs.Rule.{working}
 use Rattle.rule.proofs.Rounds.{working-few}
+use Rattle.passes.proofs.Standing.{stands-first, stands-kept, stands-length}
 use Rattle.labels.proofs.Loop.{end-labels, round-bound, round-done, swept-length}
-use Rattle.labels.proofs.Standing.{stands-first, stands-kept, stands-length}
 use Rattle.why.proofs.Reasons.{reason-of}
 use Rattle.why.proofs.Watching.{Watch, watched-all, watched-first, watched-next}
 use Rattle.why.proofs.label_watching.Statement.{statement}
