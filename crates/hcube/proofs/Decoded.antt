@@ -49,7 +49,7 @@ use Rattle.hcube.specs.Decoded.{
   valuePart,
   walkedFrom,
 }
-use Rattle.hcube.proofs.DecodedNotices.{dimension-decoded, list-decoded, list-refused, notice-decoded, written-decoded}
+use Rattle.hcube.proofs.DecodedNotices.{dimension-decoded, list-decoded, list-refused, notice-decoded, repair-refused, written-decoded}
 use Rattle.hcube.proofs.DecodedReasons.{hop-reason-decoded, node-reason-decoded}
 use Rattle.hcube.proofs.Parts.{cut, kind-is, refusal-is, value-is}
 use Rattle.hcube.proofs.Small.{HopFits, LabelFits, has-row, hop-small, label-small, walk-small, written}
@@ -213,6 +213,7 @@ decodes =
       notice = notice-decoded;
       written = written-decoded;
       list-read = list-refused;
+      repaired = repair-refused;
       list-written = list-decoded;
       cut = cut;
     }

@@ -1,5 +1,5 @@
--- A notice, its dimension by itself, what writing one answers, and what reading and writing a list text answers, come out of their numbers as they were put
--- in.
+-- A notice, its dimension by itself, what writing one answers, and what reading and writing a list text and repairing a table answer, come out of their
+-- numbers as they were put in.
 use mathlib.Core.List.{List}
 use mathlib.Core.Path.{_≡_, refl, _∙_}
 use Prim.Native.Nat.{ℕ, _≤_, _<_}
@@ -23,7 +23,9 @@ use Rattle.ranges.proofs.Laws.{ranges-laws}
 use Rattle.list_reader.specs.Reading.{listRefusal}
 use Rattle.list_reader.proofs.Outcomes.{refusal-few}
 use Rattle.list_writer.specs.Lists.{wroteList}
-use Rattle.hcube.specs.Answers.{dimensionNumber, listNumber, noticeNumber, packed, packedNotice, writtenNumber}
+use Rattle.repair.specs.Repairing.{repairRefusal}
+use Rattle.repair.proofs.Outcomes as repairing
+use Rattle.hcube.specs.Answers.{dimensionNumber, doneNumber, noticeNumber, packed, packedNotice, writtenNumber}
 use Rattle.hcube.specs.Decoded.{noticedFrom, refusalPart, valuePart, wroteFrom}
 use Rattle.hcube.proofs.Parts.{above, count-is, dimension-is, refusal-is, value-is}
 use Rattle.hcube.proofs.Small.{dimension-small}
@@ -88,5 +90,14 @@ module _ (n : ℕ) (faults : List ℕ) (room : ℕ) where
   pub list-decoded : wroteFrom (writtenNumber (wroteList n faults room)) ≡ wroteList n faults room
   list-decoded = bytes-decoded n faults (listText n faults) room (λ t. omega (arith, ranges-laws .short n faults (t .dimension .1)))
 
-pub list-refused : (n : ℕ) (text faults : List ℕ) → refusalPart (listNumber (listRefusal n text faults)) ≡ listRefusal n text faults
-list-refused n text faults = refusal-is (listRefusal n text faults) 0 0 (omega (arith, refusal-few n text faults)) (omega arith) (omega arith)
+-- of an answer that is nothing but its refusal
+done-refused : (k : ℕ) → k < 256 → refusalPart (doneNumber k) ≡ k
+done-refused k h = refusal-is k 0 0 h (omega arith) (omega arith)
+
+pub list-refused : (n : ℕ) (text faults : List ℕ) → refusalPart (doneNumber (listRefusal n text faults)) ≡ listRefusal n text faults
+list-refused n text faults = done-refused (listRefusal n text faults) (omega (arith, refusal-few n text faults))
+
+pub repair-refused : (n : ℕ) (faults masks : List ℕ) (result row : ℕ)
+    → refusalPart (doneNumber (repairRefusal n faults masks result row)) ≡ repairRefusal n faults masks result row
+repair-refused n faults masks result row =
+    done-refused (repairRefusal n faults masks result row) (omega (arith, repairing.refusal-few n faults masks result row))

@@ -1,7 +1,7 @@
 -- The crate's public functions as they are seen from outside, each with the claims that the check makes of its clauses, and what its contract says: the
 -- answer, and what is left of what was lent, for whatever is handed; and that an entry point asks nothing of its caller.
 use mathlib.Core.List.{List}
-use mathlib.Core.Path.{refl}
+use mathlib.Core.Path.{refl, ap₂}
 use Prim.Native.Nat.{ℕ}
 use denote.Ref.{now}
 use lib.ListN.{length}
@@ -17,12 +17,13 @@ use Rattle.notice.specs.Notice.{dimensionAt, noticed, tableAfter}
 use Rattle.writer.specs.Writing.{bufferAfter, wrote}
 use Rattle.list_reader.specs.Reading.{listRefusal, listTable}
 use Rattle.list_writer.specs.Lists.{listAfter, wroteList}
+use Rattle.repair.specs.Repairing.{namersAfter, repairRefusal, resultAfter}
 use Rattle.hcube.specs.Answers.{
   dimensionNumber,
   hopNumber,
   hopReasonNumber,
   labelNumber,
-  listNumber,
+  doneNumber,
   nodeReasonNumber,
   noticeNumber,
   rowAfter,
@@ -40,6 +41,7 @@ use Rattle.hcube.proofs.hcube_read_notice
 use Rattle.hcube.proofs.hcube_write_notice
 use Rattle.hcube.proofs.hcube_read_list
 use Rattle.hcube.proofs.hcube_write_list
+use Rattle.hcube.proofs.hcube_repair
 
 abbrev pub label : Function hcube_label.ended (ℕ × ℕ × ℕ × List ℕ × List ℕ × List ℕ × List ℕ) ℕ (List ℕ)
 label =
@@ -201,7 +203,7 @@ read-list =
 pub read-list-asks : AsksNothing read-list
 read-list-asks = record { asked = λ κs a. tt; empty = λ w κs a. (tt, refl) }
 
-pub read-list-says : Says read-list (λ i. listNumber (listRefusal (i .0) (i .1) (i .2))) (λ i. listTable (i .0) (i .1) (i .2))
+pub read-list-says : Says read-list (λ i. doneNumber (listRefusal (i .0) (i .1) (i .2))) (λ i. listTable (i .0) (i .1) (i .2))
 read-list-says = record { says = λ κs a r e p. (p .0, p .1) }
 
 abbrev pub write-list : Function hcube_write_list.ended (ℕ × List ℕ × List ℕ) ℕ (List ℕ)
@@ -220,3 +222,22 @@ write-list-asks = record { asked = λ κs a. tt; empty = λ w κs a. (tt, refl) 
 
 pub write-list-says : Says write-list (λ i. writtenNumber (wroteList (i .0) (i .1) (length (i .2)))) (λ i. listAfter (i .0) (i .1) (i .2))
 write-list-says = record { says = λ κs a r e p. (p .0, p .1) }
+
+abbrev pub repair : Function hcube_repair.ended (ℕ × List ℕ × List ℕ × List ℕ × List ℕ) ℕ (List ℕ × List ℕ)
+repair =
+    record {
+      clauses = λ w. hcube_repair.clauses (w .𝓤) (w .H) (w .𝓖 .A) (w .𝓜 .mem) (w .𝓡 .run);
+      asked = hcube_repair.Reads.Asked;
+      post = hcube_repair.Reads.Post;
+      handed = λ κs a. (a .0, now (a .1 .0), now (a .1 .1 .0), now (a .1 .1 .1 .0), now (a .1 .1 .1 .1 .0));
+      answered = λ κs r. r;
+      left = λ κs e. (now (e .1 .1 .1 .0), now (e .1 .1 .1 .1 .0));
+    }
+
+pub repair-asks : AsksNothing repair
+repair-asks = record { asked = λ κs a. tt; empty = λ w κs a. (tt, refl) }
+
+pub repair-says :
+    Says repair (λ i. doneNumber (repairRefusal (i .0) (i .1) (i .2) (length (i .3)) (length (i .4))))
+    (λ i. (resultAfter (i .0) (i .1) (i .2) (i .3) (i .4), namersAfter (i .0) (i .1) (i .2) (i .3) (i .4)))
+repair-says = record { says = λ κs a r e p. (p .0, ap₂ (λ (x y : List ℕ). (x, y)) (p .1 .0) (p .1 .1)) }

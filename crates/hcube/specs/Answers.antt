@@ -68,9 +68,9 @@ noticeNumber a = packedNotice (N.dimensionOf a) (N.countOf a) (packed (N.refusal
 abbrev pub writtenNumber : Wrote → ℕ
 writtenNumber a = packed (T.refusalOf a) 0 (T.lengthOf a)
 
--- reading a list text: kind 0, value 0
-abbrev pub listNumber : (refusal : ℕ) → ℕ
-listNumber refusal = packed refusal 0 0
+-- reading a list text, and repairing a table: kind 0, value 0
+abbrev pub doneNumber : (refusal : ℕ) → ℕ
+doneNumber refusal = packed refusal 0 0
 
 -- the walk with the buffers that C lends
 abbrev pub walkedBy : (n j s d : ℕ) (labels row : List ℕ) → Walked

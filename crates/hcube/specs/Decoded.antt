@@ -15,6 +15,7 @@ use Rattle.labels.specs.declared.Labelled.{Labelled}
 use Rattle.labels.specs.declared.Labelled.the-variants as labelled
 use Rattle.list_reader.specs.Reading.{listRefusal}
 use Rattle.list_writer.specs.Lists.{wroteList}
+use Rattle.repair.specs.Repairing.{repairRefusal}
 use Rattle.hop.specs.Hop.{hopped}
 use Rattle.hop.specs.declared.Decision.{Decision}
 use Rattle.hop.specs.declared.Decision.the-variants.{Deliver, Hop, Halted}
@@ -41,7 +42,7 @@ use Rattle.hcube.specs.Answers.{
   hopNumber,
   hopReasonNumber,
   labelNumber,
-  listNumber,
+  doneNumber,
   nodeReasonNumber,
   noticeNumber,
   rowAfter,
@@ -157,7 +158,10 @@ pub record Decodes : Type 0 where
       → Told (dimensionAt bytes) (refusalPart (dimensionNumber (dimensionAt bytes))) (valuePart (dimensionNumber (dimensionAt bytes)))
   pub notice : (bytes before : List ℕ) → noticedFrom (noticeNumber (noticed bytes before)) ≡ noticed bytes before
   pub written : (n : ℕ) (faults : List ℕ) (room : ℕ) → wroteFrom (writtenNumber (wrote n faults room)) ≡ wrote n faults room
-  pub list-read : (n : ℕ) (text faults : List ℕ) → refusalPart (listNumber (listRefusal n text faults)) ≡ listRefusal n text faults
+  pub list-read : (n : ℕ) (text faults : List ℕ) → refusalPart (doneNumber (listRefusal n text faults)) ≡ listRefusal n text faults
   pub list-written : (n : ℕ) (faults : List ℕ) (room : ℕ) → wroteFrom (writtenNumber (wroteList n faults room)) ≡ wroteList n faults room
+  pub repaired :
+      (n : ℕ) (faults masks : List ℕ) (result row : ℕ)
+      → refusalPart (doneNumber (repairRefusal n faults masks result row)) ≡ repairRefusal n faults masks result row
   -- and an answer that is cut to 32 bits still shows its refusal, its kind and its value
   pub cut : (r : ℕ) → Shows r (r % 4294967296)

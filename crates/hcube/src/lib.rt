@@ -2,7 +2,7 @@
 // narrowed, so none is mistaken for a smaller one.
 ghost use Prim.Native.Nat.{_<_, _≤_};
 ghost use Rattle.cube.specs.Tables.{tab};
-ghost use Rattle.hcube.specs.Answers.{dimensionNumber, hasRow, hopNumber, hopReasonNumber, labelNumber, listNumber, nodeReasonNumber, noticeNumber, packed, packedNotice, packedReason, rowAfter, rowByte, walkNumber, walkedBy, writtenNumber};
+ghost use Rattle.hcube.specs.Answers.{dimensionNumber, doneNumber, hasRow, hopNumber, hopReasonNumber, labelNumber, nodeReasonNumber, noticeNumber, packed, packedNotice, packedReason, rowAfter, rowByte, walkNumber, walkedBy, writtenNumber};
 ghost use Rattle.hcube.specs.Fits.{CauseFits, RowFits, WalkFits};
 ghost use Rattle.jobs.specs.Jobs.{labelFor};
 ghost use Rattle.list_reader.specs.Reading.{listRefusal, listTable};
@@ -10,6 +10,7 @@ ghost use Rattle.list_writer.specs.Lists.{listAfter, wroteList};
 ghost use Rattle.labels.specs.Labelling.{labelled, labelsAfter};
 ghost use Rattle.notice.specs.Notice.{dimensionAt, noticed, tableAfter};
 ghost use Rattle.hop.specs.Hop.{decisionKind, decisionValue, hopped};
+ghost use Rattle.repair.specs.Repairing.{namersAfter, repairRefusal, resultAfter};
 ghost use Rattle.walk.specs.Walk.{rowBytes};
 ghost use Rattle.why.specs.HopReasons.{hopReason};
 ghost use Rattle.why.specs.NodeReasons.{labelsLeft, nodeReason};
@@ -305,7 +306,7 @@ pub extern "C" fn hcube_write_notice(n: u32, faults: &[u8], out: &mut [u8]) -> u
 // Reads a list text into the fault table: 0, or the refusal, which leaves the table as it was.
 #[no_mangle]
 pub extern "C" fn hcube_read_list(n: u32, text: &[u8], faults: &mut [u8]) -> u32
-    ensures answer { λ r. ⌜ r ≡ listNumber (listRefusal n (now (text .entry)) (now (faults .entry))) ⌝ }
+    ensures answer { λ r. ⌜ r ≡ doneNumber (listRefusal n (now (text .entry)) (now (faults .entry))) ⌝ }
     ensures faults { λ r. ⌜ now (faults .exit) ≡ listTable n (now (text .entry)) (now (faults .entry)) ⌝ }
 {
     let answer = list_reader::read(n as usize, text, faults);
@@ -320,4 +321,21 @@ pub extern "C" fn hcube_write_list(n: u32, faults: &[u8], out: &mut [u8]) -> u32
 {
     let answer = list_writer::write(n as usize, faults, out);
     pack_written(answer)
+}
+
+// Repairs a fault table by what its working nodes find dead: 0, or the refusal, which leaves the result and the row as they were.
+#[no_mangle]
+pub extern "C" fn hcube_repair(
+    n: u32,
+    faults: &[u8],
+    masks: &[u16],
+    result: &mut [u8],
+    row: &mut [u16],
+) -> u32
+    ensures answer { λ r. ⌜ r ≡ doneNumber (repairRefusal n (now (faults .entry)) (now (masks .entry)) (length (now (result .entry))) (length (now (row .entry)))) ⌝ }
+    ensures result { λ r. ⌜ now (result .exit) ≡ resultAfter n (now (faults .entry)) (now (masks .entry)) (now (result .entry)) (now (row .entry)) ⌝ }
+    ensures row { λ r. ⌜ now (row .exit) ≡ namersAfter n (now (faults .entry)) (now (masks .entry)) (now (result .entry)) (now (row .entry)) ⌝ }
+{
+    let answer = repair::repair(n as usize, faults, masks, result, row);
+    pack(answer, 0, 0)
 }

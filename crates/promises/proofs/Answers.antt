@@ -33,12 +33,14 @@ use Rattle.list_reader.specs.Reading.{listRefusal, listTable}
 use Rattle.list_reader.proofs.Functions as list_reader
 use Rattle.list_writer.specs.Lists.{listAfter, wroteList}
 use Rattle.list_writer.proofs.Functions as list_writer
+use Rattle.repair.specs.Repairing.{namersAfter, repairRefusal, resultAfter}
+use Rattle.repair.proofs.Functions as repair
 use Rattle.hcube.specs.Answers.{
   dimensionNumber,
   hopNumber,
   hopReasonNumber,
   labelNumber,
-  listNumber,
+  doneNumber,
   nodeReasonNumber,
   noticeNumber,
   rowAfter,
@@ -116,10 +118,30 @@ module _ (n : ℕ) (text before : List ℕ) where
   reads-list =
       may list_reader.read two (n, (lend text, (lend before, tt))) (listRefusal n text before) (n, (lend text, (lend read-table, tt))) (refl, refl)
 
-  c-reads-list : May hcube.read-list (n, text, before) (listNumber (listRefusal n text before)) read-table
+  c-reads-list : May hcube.read-list (n, text, before) (doneNumber (listRefusal n text before)) read-table
   c-reads-list =
-      may hcube.read-list two (n, (lend text, (lend before, tt))) (listNumber (listRefusal n text before))
+      may hcube.read-list two (n, (lend text, (lend before, tt))) (doneNumber (listRefusal n text before))
       (n, (lend text, (lend read-table, tt))) (refl, refl)
+
+module _ (n : ℕ) (faults masks result row : List ℕ) where
+  abbrev done : ℕ
+  done = repairRefusal n faults masks (length result) (length row)
+
+  abbrev t : List ℕ
+  t = resultAfter n faults masks result row
+
+  abbrev r : List ℕ
+  r = namersAfter n faults masks result row
+
+  repairs : May repair.repair (n, faults, masks, result, row) done (t, r)
+  repairs =
+      may repair.repair four (n, (lend faults, (lend masks, (lend result, (lend row, tt))))) done (n, (lend faults, (lend masks, (lend t, (lend r, tt)))))
+      (refl, (refl, refl))
+
+  c-repairs : May hcube.repair (n, faults, masks, result, row) (doneNumber done) (t, r)
+  c-repairs =
+      may hcube.repair four (n, (lend faults, (lend masks, (lend result, (lend row, tt))))) (doneNumber done)
+      (n, (lend faults, (lend masks, (lend t, (lend r, tt))))) (refl, (refl, refl))
 
 module _ (K : Cabinet) (j : ℕ) (before : List ℕ) where
   abbrev answer : Labelled
@@ -195,6 +217,7 @@ rattle-answers =
       writes = λ n faults before. (_, _, writes n faults before);
       reads-list = λ n text before. (_, _, reads-list n text before);
       writes-list = λ n faults before. (_, _, writes-list n faults before);
+      repairs = λ n faults masks result row. (_, _, _, repairs n faults masks result row);
       labels = λ K j before. (_, _, labels K j before);
       hops = λ n j a b l. (_, hops n j a b l);
       why-nodes = λ K j x before. (_, _, why-nodes K j before x);
@@ -210,6 +233,7 @@ c-answers =
       writes = λ n faults before. (_, _, (_, c-writes n faults before, refl));
       reads-list = λ n text before. (_, _, (_, c-reads-list n text before, refl));
       writes-list = λ n faults before. (_, _, (_, c-writes-list n faults before, refl));
+      repairs = λ n faults masks result row. (_, _, _, (_, c-repairs n faults masks result row, refl));
       labels = λ K j before. (_, _, (_, c-labels K j before, refl));
       hops = λ n j a b l. (_, (_, c-hops n j a b l, refl));
       why-nodes = λ K j x before. (_, _, (_, c-why-nodes K j before x, refl));

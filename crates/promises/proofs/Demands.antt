@@ -13,6 +13,7 @@ use Rattle.rule.specs.Cabinet.{Cabinet, byRule, cabinet, exchangesOf, labelsOf,
 use Rattle.rule.proofs.Cabinet.{plain-out}
 use Rattle.enough.specs.Enough.{FewOut, outOfWork}
 use Rattle.enough.proofs.Enough.{few-out-safe}
+use Rattle.spelling.specs.Laws.{IsTable}
 use Rattle.notice.specs.Laws.{TableOf}
 use Rattle.notice.specs.Notice as N
 use Rattle.notice.specs.declared.Noticed.the-variants as noticed
@@ -84,22 +85,29 @@ module _ (lib : Library) (F : Faithful lib) where
       let f = F .reads r in
       subst (TableOf n m (N.addressesOf bytes)) (sym (f .1)) (notice-laws .written bytes old n m taken (sym (f .0)))
 
+  -- labelling accepts what is a table
+  pub table-labels :
+      {faults draining closed before after : List ℕ} {n rule j : ℕ} {x : Labelled} → IsTable n faults
+      → Rule rule → Job j → WellFormed n draining → WellFormed n closed → BothHalves n (length before)
+      → lib .labels (cabinet n rule faults draining closed) j before x after → (exchanges : ℕ) × (x ≡ labelled.Exchanges exchanges)
+  unfolding labelBytes
+  table-labels {faults} {draining} {closed} {before} {after} {n} {rule} {j} {x} t k job drains shut long l =
+      let K = cabinet n rule faults draining closed in (
+        exchangesOf K,
+        F .labels l .0
+            ∙ answered K j (length before)
+            (fits K j (length before) (t .dimension) (rule-bounds k) (job-below job) (t .sized) (table-length n (length draining) (drains .0))
+            (table-length n (length closed) (shut .0)) (t .unused) (all-used n draining drains) (all-used n closed shut) long),
+      )
+
   notice-labels :
       {bytes faults draining closed before after old : List ℕ} {n rule j m taken : ℕ} {x : Labelled} → lib .reads bytes old (noticed.Notice n m taken) faults
       → Rule rule → Job j → WellFormed n draining → WellFormed n closed → BothHalves n (length before)
       → lib .labels (cabinet n rule faults draining closed) j before x after → (exchanges : ℕ) × (x ≡ labelled.Exchanges exchanges)
-  unfolding labelBytes
-  notice-labels {bytes} {faults} {draining} {closed} {before} {after} {old} {n} {rule} {j} {m} {taken} {x} r k job drains shut long l =
-      let f = F .reads r in
-      let K = cabinet n rule faults draining closed in
-      let d = notice-laws .accepted bytes old n m taken (sym (f .0)) .dimension in
-      let t = table r in (
-        exchangesOf K,
-        F .labels l .0
-            ∙ answered K j (length before)
-            (fits K j (length before) d (rule-bounds k) (job-below job) (t .sized) (table-length n (length draining) (drains .0))
-            (table-length n (length closed) (shut .0)) (t .unused) (all-used n draining drains) (all-used n closed shut) long),
-      )
+  notice-labels {bytes} {faults} {draining} {closed} {before} {after} {old} {n} {rule} {j} {m} {taken} r =
+      let d = notice-laws .accepted bytes old n m taken (sym (F .reads r .0)) .dimension in
+      let t = table r in
+      table-labels (record { dimension = d; sized = t .sized; unused = t .unused })
 
   -- a walk with the labels that labelling left is the cabinet's
   is-walk : {K : Cabinet} {j exchanges s d : ℕ} {before buffer : List ℕ} {w : Walked} → lib .labels K j before (labelled.Exchanges exchanges) buffer

@@ -38,13 +38,14 @@ use Rattle.writer.specs.declared.Wrote.{Wrote}
 use Rattle.writer.proofs.Functions as writer
 use Rattle.list_reader.proofs.Functions as list_reader
 use Rattle.list_writer.proofs.Functions as list_writer
+use Rattle.repair.proofs.Functions as repair
 use Rattle.hcube.specs.Answers.{
   dimensionNumber,
   hasRow,
   hopNumber,
   hopReasonNumber,
   labelNumber,
-  listNumber,
+  doneNumber,
   nodeReasonNumber,
   noticeNumber,
   rowAfter,
@@ -103,8 +104,12 @@ written-same : {n r : ℕ} {x : Wrote} {faults before after after′ : List ℕ}
 written-same m v = told hcube.write-notice-says m .0 ∙ ap writtenNumber (sym (told writer.write-says v .0))
 
 list-read-same : {n r k : ℕ} {text before after after′ : List ℕ} → May hcube.read-list (n, text, before) r after
-    → May list_reader.read (n, text, before) k after′ → r ≡ listNumber k
-list-read-same m v = told hcube.read-list-says m .0 ∙ ap listNumber (sym (told list_reader.read-says v .0))
+    → May list_reader.read (n, text, before) k after′ → r ≡ doneNumber k
+list-read-same m v = told hcube.read-list-says m .0 ∙ ap doneNumber (sym (told list_reader.read-says v .0))
+
+repaired-same : {n r k : ℕ} {faults masks result row : List ℕ} {o o′ : List ℕ × List ℕ} → May hcube.repair (n, faults, masks, result, row) r o
+    → May repair.repair (n, faults, masks, result, row) k o′ → r ≡ doneNumber k
+repaired-same m v = told hcube.repair-says m .0 ∙ ap doneNumber (sym (told repair.repair-says v .0))
 
 list-written-same : {n r : ℕ} {x : Wrote} {faults before after after′ : List ℕ} → May hcube.write-list (n, faults, before) r after
     → May list_writer.write (n, faults, before) x after′ → r ≡ writtenNumber x
@@ -216,6 +221,7 @@ in-c =
       reads-list = λ {n} {r} m v. let e = list-read-same m v in omega arith;
       writes-list-length = λ {n} {r} m v. let e = list-written-same m v in omega arith;
       writes-list-refuses = λ {n} {r} m v. let e = list-written-same m v in omega arith;
+      repairs = λ {n} {r} m v. let e = repaired-same m v in omega arith;
       row-nodes = λ m h v. row-nodes m h v;
       row-bytes = row-bytes;
       row-once = row-once;

@@ -5,6 +5,7 @@ pub mod Sizes
 pub mod Eight
 pub mod LabelRefusals
 pub mod WriteRefusals
+pub mod RepairRefusals
 pub mod Refusals
 pub mod Why
 pub mod Outcomes
@@ -13,6 +14,7 @@ pub mod Demands
 pub mod Written
 pub mod Writes
 pub mod Lists
+pub mod Repairs
 pub mod InC
 pub mod InRattle
 pub mod Answers

@@ -35,6 +35,8 @@ use Rattle.list_reader.proofs.Functions as list_reader
 use Rattle.list_writer.specs.Lists.{listAfter, wroteList}
 use Rattle.list_writer.proofs.Functions as list_writer
 use Rattle.hcube.specs.Decoded.{hopReasonFrom, hoppedFrom, labelledFrom, nodeReasonFrom, noticedFrom, refusalPart, valuePart, walkedFrom, wroteFrom}
+use Rattle.repair.specs.Repairing.{namersAfter, repairRefusal, resultAfter}
+use Rattle.repair.proofs.Functions as repair
 use Rattle.hcube.proofs.Decoded.{decodes}
 use Rattle.hcube.proofs.Functions as hcube
 use Rattle.promises.specs.Library.{Library, rattle, c}
@@ -51,6 +53,10 @@ pub record Faithful (lib : Library) : Type 0 where
   pub writes-list :
       {n : ℕ} {faults before after : List ℕ} {x : Wrote} → lib .writes-list n faults before x after
       → (x ≡ wroteList n faults (length before)) × (after ≡ listAfter n faults before)
+  pub repairs :
+      {n k : ℕ} {faults masks result row t r : List ℕ} → lib .repairs n faults masks result row k t r
+      → (k ≡ repairRefusal n faults masks (length result) (length row)) × (t ≡ resultAfter n faults masks result row)
+      × (r ≡ namersAfter n faults masks result row)
   pub labels :
       {K : Cabinet} {j : ℕ} {before after : List ℕ} {x : Labelled} → lib .labels K j before x after
       → (x ≡ labelled K j (length before)) × (after ≡ labelsAfter K j before)
@@ -63,6 +69,13 @@ pub record Faithful (lib : Library) : Type 0 where
   pub walks :
       {n j s d room : ℕ} {buffer : List ℕ} {w : Walked} → lib .walks n j s d buffer room w → w ≡ walked n j s d (length buffer) room (labelFor n j buffer)
 
+-- of two that are left
+first : {s t s′ t′ : List ℕ} → _≡_ {A = List ℕ × List ℕ} (s, t) (s′, t′) → s ≡ s′
+first e = ap (λ (p : List ℕ × List ℕ). p .0) e
+
+second : {s t s′ t′ : List ℕ} → _≡_ {A = List ℕ × List ℕ} (s, t) (s′, t′) → t ≡ t′
+second e = ap (λ (p : List ℕ × List ℕ). p .1) e
+
 pub rattle-faithful : Faithful rattle
 rattle-faithful =
     record {
@@ -71,6 +84,7 @@ rattle-faithful =
       writes = told writer.write-says;
       reads-list = told list_reader.read-says;
       writes-list = told list_writer.write-says;
+      repairs = λ m. let t = told repair.repair-says m in (t .0, first (t .1), second (t .1));
       labels = told labels.label-says;
       hops = λ m. told hop.hop-says m .0;
       why-nodes = told why.why-node-says;
@@ -96,6 +110,8 @@ c-faithful =
           (sym (m .2) ∙ ap refusalPart (t .0) ∙ decodes .list-read n text before, t .1);
       writes-list = λ {n} {faults} {before} m. let t = told hcube.write-list-says (m .1) in
           (sym (m .2) ∙ ap wroteFrom (t .0) ∙ decodes .list-written n faults (length before), t .1);
+      repairs = λ {n} {k} {faults} {masks} {result} {row} m. let t = told hcube.repair-says (m .1) in
+          (sym (m .2) ∙ ap refusalPart (t .0) ∙ decodes .repaired n faults masks (length result) (length row), first (t .1), second (t .1));
       labels = λ {K} {j} {before} m. let t = told hcube.label-says (m .1) in
           (sym (m .2) ∙ ap labelledFrom (t .0) ∙ decodes .label K j (length before), t .1);
       hops = λ {n} {j} {c} {d} {buffer} m. let t = told hcube.hop-says (m .1) in

@@ -6,6 +6,7 @@ use Rattle.notice.proofs.Laws.{notice-laws}
 use Rattle.reader.proofs.Laws.{reader-laws}
 use Rattle.spelling.proofs.Laws.{spelling-laws}
 use Rattle.ranges.proofs.Laws.{ranges-laws}
+use Rattle.repair.proofs.Laws.{repair-laws}
 use Rattle.rule.proofs.Exchanges.{exchanged}
 use Rattle.rule.proofs.Good.{labels-good}
 use Rattle.rule.proofs.Largest.{safe-largest}
@@ -45,6 +46,7 @@ use Rattle.promises.proofs.Why.{c-whys, rattle-whys}
 use Rattle.promises.proofs.Worked.{worked}
 use Rattle.promises.proofs.Writes.{c-writes, rattle-writes}
 use Rattle.promises.proofs.Lists.{c-lists, rattle-lists}
+use Rattle.promises.proofs.Repairs.{c-repairs, rattle-repairs}
 
 pub promises : Promises
 promises =
@@ -66,6 +68,8 @@ promises =
       c-writes = c-writes;
       rattle-lists = rattle-lists;
       c-lists = c-lists;
+      rattle-repairs = rattle-repairs;
+      c-repairs = c-repairs;
       in-c = in-c;
       in-rattle = in-rattle;
       decodes = decodes;
@@ -102,6 +106,7 @@ promises =
       reader = reader-laws;
       spelling = spelling-laws;
       ranges = ranges-laws;
+      repair = repair-laws;
       message = message-laws;
       worked = worked;
     }

@@ -58,6 +58,7 @@ use Rattle.promises.proofs.Given.{
   wrong-job,
 }
 use Rattle.promises.proofs.Eight.{eight}
+use Rattle.promises.proofs.RepairRefusals.{repair-given}
 use Rattle.promises.proofs.WriteRefusals.{read-list-given, write-given, write-list-given}
 use Rattle.promises.proofs.LabelRefusals.{label-given, label-refusal, node-given, node-refusal}
 use Rattle.promises.proofs.Notices.{notice-given, notice-one, number-given}
@@ -193,5 +194,6 @@ refusals = record {
   writing = write-given;
   list-reading = read-list-given;
   list-writing = write-list-given;
+  repairing = repair-given;
   dimension = dimension-given;
 }

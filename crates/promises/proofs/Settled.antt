@@ -5,6 +5,7 @@ use Rattle.groups.proofs.Functions as groups
 use Rattle.notice.proofs.Functions as notice
 use Rattle.reader.proofs.Functions as reader
 use Rattle.jobs.proofs.Functions as jobs
+use Rattle.passes.proofs.Functions as passes
 use Rattle.labels.proofs.Functions as labels
 use Rattle.hop.proofs.Functions as hop
 use Rattle.walk.proofs.Functions as walk
@@ -12,6 +13,7 @@ use Rattle.why.proofs.Functions as why
 use Rattle.writer.proofs.Functions as writer
 use Rattle.list_reader.proofs.Functions as list_reader
 use Rattle.list_writer.proofs.Functions as list_writer
+use Rattle.repair.proofs.Functions as repair
 use Rattle.hcube.proofs.Functions as hcube
 use Rattle.promises.specs.Settled.{Settled, Unasked}
 
@@ -28,9 +30,10 @@ settled =
       hcube-write-notice = settles hcube.write-notice-says;
       hcube-read-list = settles hcube.read-list-says;
       hcube-write-list = settles hcube.write-list-says;
+      hcube-repair = settles hcube.repair-says;
       labels-label = settles labels.label-says;
       labels-label-refusal = settles labels.label-refusal-says;
-      labels-settle = settles labels.settle-says;
+      passes-settle = settles passes.settle-says;
       hop-hop = settles hop.hop-says;
       hop-place-refusal = settles hop.place-refusal-says;
       walk-walk = settles walk.walk-says;
@@ -43,6 +46,7 @@ settled =
       writer-table-refusal = settles writer.table-refusal-says;
       list-reader-read = settles list_reader.read-says;
       list-writer-write = settles list_writer.write-says;
+      repair-repair = settles repair.repair-says;
       notice-tail = settles notice.tail-says;
       notice-clear = settles notice.clear-says;
       groups-number-at = settles groups.number-at-says;
@@ -52,9 +56,9 @@ settled =
       cube-distance = settles cube.distance-says;
       cube-is-dimension = settles cube.is-dimension-says;
       jobs-is-job = settles jobs.is-job-says;
-      labels-start = settles labels.start-says;
-      labels-sweep = settles labels.sweep-says;
-      labels-finish = settles labels.finish-says;
+      passes-start = settles passes.start-says;
+      passes-sweep = settles passes.sweep-says;
+      passes-finish = settles passes.finish-says;
       hop-gather = settles hop.gather-says;
       hop-chosen = settles hop.chosen-says;
       hop-hop-at = settles hop.hop-at-says;
@@ -81,9 +85,10 @@ unasked =
       hcube-write-notice = hcube.write-notice-asks;
       hcube-read-list = hcube.read-list-asks;
       hcube-write-list = hcube.write-list-asks;
+      hcube-repair = hcube.repair-asks;
       labels-label = labels.label-asks;
       labels-label-refusal = labels.label-refusal-asks;
-      labels-settle = labels.settle-asks;
+      passes-settle = passes.settle-asks;
       hop-hop = hop.hop-asks;
       hop-place-refusal = hop.place-refusal-asks;
       walk-walk = walk.walk-asks;
@@ -96,6 +101,7 @@ unasked =
       writer-table-refusal = writer.table-refusal-asks;
       list-reader-read = list_reader.read-asks;
       list-writer-write = list_writer.write-asks;
+      repair-repair = repair.repair-asks;
       notice-tail = notice.tail-asks;
       notice-clear = notice.clear-asks;
       groups-number-at = groups.number-at-asks;

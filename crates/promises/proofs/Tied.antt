@@ -2,7 +2,8 @@
 use mathlib.Core.Path.{refl}
 use borrow.Fn.World.{w₀}
 use Rattle.reader.proofs.Functions as reader
-use Rattle.promises.specs.Tied.{AllTied, InOrder}
+use Rattle.promises.specs.Handed.{InOrder}
+use Rattle.promises.specs.Tied.{AllTied}
 
 pub all-tied : AllTied
 all-tied =
@@ -17,12 +18,13 @@ all-tied =
       hcube-write-notice = record { clauses = λ w. refl; asked = refl; post = refl };
       hcube-read-list = record { clauses = λ w. refl; asked = refl; post = refl };
       hcube-write-list = record { clauses = λ w. refl; asked = refl; post = refl };
+      hcube-repair = record { clauses = λ w. refl; asked = refl; post = refl };
       labels-label = record { clauses = λ w. refl; asked = refl; post = refl };
       labels-label-refusal = record { clauses = λ w. refl; asked = refl; post = refl };
-      labels-start = record { clauses = λ w. refl; asked = refl; post = refl };
-      labels-sweep = record { clauses = λ w. refl; asked = refl; post = refl };
-      labels-settle = record { clauses = λ w. refl; asked = refl; post = refl };
-      labels-finish = record { clauses = λ w. refl; asked = refl; post = refl };
+      passes-start = record { clauses = λ w. refl; asked = refl; post = refl };
+      passes-sweep = record { clauses = λ w. refl; asked = refl; post = refl };
+      passes-settle = record { clauses = λ w. refl; asked = refl; post = refl };
+      passes-finish = record { clauses = λ w. refl; asked = refl; post = refl };
       hop-hop = record { clauses = λ w. refl; asked = refl; post = refl };
       hop-place-refusal = record { clauses = λ w. refl; asked = refl; post = refl };
       hop-gather = record { clauses = λ w. refl; asked = refl; post = refl };
@@ -38,6 +40,7 @@ all-tied =
       writer-table-refusal = record { clauses = λ w. refl; asked = refl; post = refl };
       list-reader-read = record { clauses = λ w. refl; asked = refl; post = refl };
       list-writer-write = record { clauses = λ w. refl; asked = refl; post = refl };
+      repair-repair = record { clauses = λ w. refl; asked = refl; post = refl };
       notice-clear = record { clauses = λ w. refl; asked = refl; post = refl };
       notice-set-bit = record { clauses = λ w. refl; asked = refl; post = refl };
       notice-tail = record { clauses = λ w. refl; asked = refl; post = refl };
@@ -70,6 +73,7 @@ in-order =
       hcube-write-notice = λ κs a. refl;
       hcube-read-list = λ κs a. refl;
       hcube-write-list = λ κs a. refl;
+      hcube-repair = λ κs a. refl;
       labels-label = λ κs a. refl;
       hop-hop = λ κs a. refl;
       walk-walk = λ κs a. refl;
@@ -81,4 +85,5 @@ in-order =
       writer-write = λ κs a. refl;
       list-reader-read = λ κs a. refl;
       list-writer-write = λ κs a. refl;
+      repair-repair = λ κs a. refl;
     }

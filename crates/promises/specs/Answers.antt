@@ -17,6 +17,7 @@ pub record Answers (lib : Library) : Type 0 where
   pub writes : (n : ℕ) (faults before : List ℕ) → (x : Wrote) × (after : List ℕ) × lib .writes n faults before x after
   pub reads-list : (n : ℕ) (text before : List ℕ) → (k : ℕ) × (after : List ℕ) × lib .reads-list n text before k after
   pub writes-list : (n : ℕ) (faults before : List ℕ) → (x : Wrote) × (after : List ℕ) × lib .writes-list n faults before x after
+  pub repairs : (n : ℕ) (faults masks result row : List ℕ) → (k : ℕ) × (t r : List ℕ) × lib .repairs n faults masks result row k t r
   pub labels : (K : Cabinet) (j : ℕ) (before : List ℕ) → (x : Labelled) × (after : List ℕ) × lib .labels K j before x after
   pub hops : (n j c d : ℕ) (buffer : List ℕ) → (x : Hopped) × lib .hops n j c d buffer x
   pub why-nodes : (K : Cabinet) (j x : ℕ) (before : List ℕ) → (a : NodeReason) × (after : List ℕ) × lib .why-nodes K j x before a after

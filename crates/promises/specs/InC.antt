@@ -22,6 +22,7 @@ use Rattle.writer.specs.declared.Wrote.the-variants as wrote
 use Rattle.writer.proofs.Functions as writer
 use Rattle.list_reader.proofs.Functions as list_reader
 use Rattle.list_writer.proofs.Functions as list_writer
+use Rattle.repair.proofs.Functions as repair
 use Rattle.walk.specs.Walk.{rowBytes}
 use Rattle.walk.specs.declared.Ending.the-variants as ending
 use Rattle.walk.specs.declared.Walked.{Walked}
@@ -117,6 +118,10 @@ pub record InC : Type 0 where
   pub writes-list-refuses :
       {n r k : ℕ} {faults before after after′ : List ℕ} → May hcube.write-list (n, faults, before) r after
       → May list_writer.write (n, faults, before) (wrote.Refused k) after′ → r ≡ k * 16777216
+  -- "repairing a table: kind and value 0"
+  pub repairs :
+      {n r k : ℕ} {faults masks result row : List ℕ} {o o′ : List ℕ × List ℕ} → May hcube.repair (n, faults, masks, result, row) r o
+      → May repair.repair (n, faults, masks, result, row) k o′ → r ≡ k * 16777216
   -- "a lent buffer of exactly 34 bytes, two a node, low byte first": the node is the one that the walk has at that place
   pub row-nodes :
       {n j s d r : ℕ} {buffer before after : List ℕ} {w : Walked} → May hcube.walk (n, j, s, d, buffer, before) r after → refusalPart r ≡ 0

@@ -5,10 +5,12 @@ pub mod Jobs
 pub mod Why
 pub mod Writes
 pub mod Lists
+pub mod Repairs
 pub mod InC
 pub mod InRattle
 pub mod Answers
 pub mod Tied
+pub mod Handed
 pub mod Seen
 pub mod Settled
 pub mod Worked

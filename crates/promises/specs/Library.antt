@@ -1,4 +1,4 @@
--- The library's ten questions as relations: what is handed, what is answered and what is left, wherever the contract of the function allows it.
+-- The library's eleven questions as relations: what is handed, what is answered and what is left, wherever the contract of the function allows it.
 -- `rattle` has the functions that Rattle calls. `c` has those that C calls, and there the answer is what C takes out of the number and the row by the
 -- header's macros.
 use mathlib.Core.List.{List}
@@ -26,6 +26,7 @@ use Rattle.writer.specs.declared.Wrote.{Wrote}
 use Rattle.writer.proofs.Functions as writer
 use Rattle.list_reader.proofs.Functions as list_reader
 use Rattle.list_writer.proofs.Functions as list_writer
+use Rattle.repair.proofs.Functions as repair
 use Rattle.hcube.specs.Decoded.{hopReasonFrom, hoppedFrom, labelledFrom, nodeReasonFrom, noticedFrom, refusalPart, valuePart, walkedFrom, wroteFrom}
 use Rattle.hcube.proofs.Functions as hcube
 
@@ -40,6 +41,8 @@ pub record Library : Type 1 where
   pub reads-list : (n : ℕ) (text before : List ℕ) (k : ℕ) (after : List ℕ) → Type 0
   -- the list text of a fault table of an n-cube is written over the front of a buffer
   pub writes-list : (n : ℕ) (faults before : List ℕ) (x : Wrote) (after : List ℕ) → Type 0
+  -- a fault table of an n-cube is repaired by masks, into a result and a row: its refusal, 0 for none
+  pub repairs : (n : ℕ) (faults masks result row : List ℕ) (k : ℕ) (result′ row′ : List ℕ) → Type 0
   -- a cabinet is labelled for job j, in a label buffer
   pub labels : (K : Cabinet) (j : ℕ) (before : List ℕ) (x : Labelled) (after : List ℕ) → Type 0
   -- a hop is decided at c for d, by the labels that job j has in a buffer
@@ -59,6 +62,7 @@ rattle =
       writes = λ n faults before x after. May writer.write (n, faults, before) x after;
       reads-list = λ n text before k after. May list_reader.read (n, text, before) k after;
       writes-list = λ n faults before x after. May list_writer.write (n, faults, before) x after;
+      repairs = λ n faults masks result row k result′ row′. May repair.repair (n, faults, masks, result, row) k (result′, row′);
       labels = λ K j before x after. May labels.label (K .n, K .rule, j, K .faults, K .draining, K .closed, before) x after;
       hops = λ n j c d buffer x. May hop.hop (n, j, c, d, buffer) x tt;
       why-nodes = λ K j x before a after. May why.why-node (K .n, K .rule, j, x, K .faults, K .draining, K .closed, before) a after;
@@ -75,6 +79,8 @@ c =
       writes = λ n faults before x after. (r : ℕ) × May hcube.write-notice (n, faults, before) r after × (wroteFrom r ≡ x);
       reads-list = λ n text before k after. (r : ℕ) × May hcube.read-list (n, text, before) r after × (refusalPart r ≡ k);
       writes-list = λ n faults before x after. (r : ℕ) × May hcube.write-list (n, faults, before) r after × (wroteFrom r ≡ x);
+      repairs = λ n faults masks result row k result′ row′.
+          (r : ℕ) × May hcube.repair (n, faults, masks, result, row) r (result′, row′) × (refusalPart r ≡ k);
       labels = λ K j before x after.
           (r : ℕ) × May hcube.label (K .n, K .rule, j, K .faults, K .draining, K .closed, before) r after × (labelledFrom r ≡ x);
       hops = λ n j c d buffer x. (r : ℕ) × May hcube.hop (n, j, c, d, buffer) r tt × (hoppedFrom r ≡ x);

@@ -8,6 +8,7 @@ use Rattle.notice.specs.Laws.{NoticeLaws}
 use Rattle.reader.specs.Laws.{ReaderLaws}
 use Rattle.spelling.specs.Laws.{SpellingLaws}
 use Rattle.ranges.specs.Laws.{RangesLaws}
+use Rattle.repair.specs.Laws.{RepairLaws}
 use Rattle.rule.specs.Cabinet.{Cabinet, exchangesOf}
 use Rattle.rule.specs.Closed.{Largest}
 use Rattle.rule.specs.Exchanges.{Exchanges}
@@ -44,11 +45,13 @@ use Rattle.promises.specs.Library as library
 use Rattle.promises.specs.Refusals.{Refusals}
 use Rattle.promises.specs.Seen.{AsSeen}
 use Rattle.promises.specs.Settled.{Settled, Unasked}
-use Rattle.promises.specs.Tied.{AllTied, InOrder}
+use Rattle.promises.specs.Handed.{InOrder}
+use Rattle.promises.specs.Tied.{AllTied}
 use Rattle.promises.specs.Why.{Whys}
 use Rattle.promises.specs.Worked.{Worked}
 use Rattle.promises.specs.Writes.{Writes}
 use Rattle.promises.specs.Lists.{Lists}
+use Rattle.promises.specs.Repairs.{Repairs}
 
 pub record Promises : Type 2 where
   -- the contracts are the code's own, settle everything, ask nothing, and always allow an answer
@@ -74,6 +77,9 @@ pub record Promises : Type 2 where
   -- list text, read and written
   pub rattle-lists : Lists library.rattle
   pub c-lists : Lists library.c
+  -- tables repaired by what the neighbours say
+  pub rattle-repairs : Repairs library.rattle
+  pub c-repairs : Repairs library.c
   -- what C and a caller in Rattle have in hand
   pub in-c : InC
   pub in-rattle : InRattle
@@ -113,5 +119,6 @@ pub record Promises : Type 2 where
   pub reader : ReaderLaws
   pub spelling : SpellingLaws
   pub ranges : RangesLaws
+  pub repair : RepairLaws
   pub message : MessageLaws
   pub worked : Worked

@@ -6,7 +6,7 @@ use mathlib.Core.Logic.{_⊎_, _≢_}
 use mathlib.Core.Path.{_≡_}
 use Prim.Native.Nat.{ℕ, zero, suc, _+_, _*_, _/_, _^_, _≤_, _<_}
 use lib.ListN.{getD, length}
-use Rattle.cube.specs.Cube.{flip}
+use Rattle.cube.specs.Cube.{bit, flip}
 use Rattle.cube.specs.Tables.{nodeBit}
 use Rattle.groups.specs.Number.{numberAt, refusalIn}
 use Rattle.groups.specs.declared.Number.the-variants.{Value}
@@ -17,6 +17,8 @@ use Rattle.ranges.specs.Laws.{Entries, Entry, ListText, holds}
 use Rattle.ranges.specs.Written.{listText}
 use Rattle.list_reader.specs.Reading.{listRefusal}
 use Rattle.list_writer.specs.Lists.{wroteList}
+use Rattle.repair.specs.Repaired.{maskOf}
+use Rattle.repair.specs.Repairing.{repairRefusal}
 use Rattle.rule.specs.Cabinet.{Cabinet}
 use Rattle.labels.specs.Labelling as L
 use Rattle.hop.specs.Hop as H
@@ -211,6 +213,21 @@ pub data ReadListWhen (n : ℕ) (text : List ℕ) (bytes : ℕ) : ℕ → Type 0
 abbrev pub ReadListGiven : (n : ℕ) (text : List ℕ) (bytes : ℕ) → ℕ → Type 0
 ReadListGiven n text bytes = Given (ReadListWhen n text bytes) (1 ∷ 2 ∷ 14 ∷ 12 ∷ [])
 
+-- ---- repairing a table by masks, into a result of so many bytes and a row of so many numbers: "1, 2 (fault table, masks, result, row), 3, then 17"
+
+pub data RepairWhen (n : ℕ) (faults masks : List ℕ) (result row : ℕ) : ℕ → Type 0 where
+  repair-1 : ¬ (Dimension n) → RepairWhen n faults masks result row 1
+  repair-2-faults : ¬ (TableLength n (length faults)) → RepairWhen n faults masks result row 2
+  repair-2-masks : length masks ≢ 2 ^ n → RepairWhen n faults masks result row 2
+  repair-2-result : ¬ (TableLength n result) → RepairWhen n faults masks result row 2
+  repair-2-row : row ≢ 2 ^ n → RepairWhen n faults masks result row 2
+  repair-3 : Unused n faults → RepairWhen n faults masks result row 3
+  -- "a mask with a bit at n or above, from any node": the faulty ones too
+  repair-17 : (w i : ℕ) → w < length masks → n ≤ i → i < 16 → bit i (maskOf masks w) ≡ true → RepairWhen n faults masks result row 17
+
+abbrev pub RepairGiven : (n : ℕ) (faults masks : List ℕ) (result row : ℕ) → ℕ → Type 0
+RepairGiven n faults masks result row = Given (RepairWhen n faults masks result row) (1 ∷ 2 ∷ 3 ∷ 17 ∷ [])
+
 -- ---- each is given then and not otherwise
 
 pub record Refusals : Type 1 where
@@ -229,4 +246,6 @@ pub record Refusals : Type 1 where
   pub writing : (n : ℕ) (faults : List ℕ) (room : ℕ) → WriteGiven n faults room (T.refusalOf (T.wrote n faults room))
   pub list-reading : (n : ℕ) (text faults : List ℕ) → ReadListGiven n text (length faults) (listRefusal n text faults)
   pub list-writing : (n : ℕ) (faults : List ℕ) (room : ℕ) → WriteListGiven n faults room (T.refusalOf (wroteList n faults room))
+  pub repairing :
+      (n : ℕ) (faults masks : List ℕ) (result row : ℕ) → RepairGiven n faults masks result row (repairRefusal n faults masks result row)
   pub dimension : (bytes : List ℕ) → DimensionGiven bytes (refusalIn (N.dimensionAt bytes)) (N.dimensionValue (N.dimensionAt bytes))

@@ -14,6 +14,7 @@ use Rattle.why.proofs.Functions as why
 use Rattle.writer.proofs.Functions as writer
 use Rattle.list_reader.proofs.Functions as list_reader
 use Rattle.list_writer.proofs.Functions as list_writer
+use Rattle.repair.proofs.Functions as repair
 use Rattle.hcube.proofs.Functions as hcube
 
 module _ {T : Ended} {A X B : Type 0} (f : Function T A X B) where
@@ -35,6 +36,7 @@ pub record AsSeen : Type 0 where
   pub hcube-write-notice : Answered hcube.write-notice (λ κs r. r)
   pub hcube-read-list : Answered hcube.read-list (λ κs r. r)
   pub hcube-write-list : Answered hcube.write-list (λ κs r. r)
+  pub hcube-repair : Answered hcube.repair (λ κs r. r)
   pub labels-label : Answered labels.label (λ κs r. r)
   pub hop-hop : Answered hop.hop (λ κs r. r)
   pub walk-walk : Answered walk.walk (λ κs r. r)
@@ -46,7 +48,9 @@ pub record AsSeen : Type 0 where
   pub writer-write : Answered writer.write (λ κs r. r)
   pub list-reader-read : Answered list_reader.read (λ κs r. r)
   pub list-writer-write : Answered list_writer.write (λ κs r. r)
-  -- and what is left: the label buffer, the row, the fault table, the buffer for a notice or a list text
+  pub repair-repair : Answered repair.repair (λ κs r. r)
+  -- and what is left: the label buffer, the row, the fault table, the buffer for a notice or a list text, the result and the row of a
+  -- repair
   pub hcube-label-left : Leaves hcube.label (λ κs e. now (e .1 .1 .1 .1 .1 .1 .0))
   pub hcube-walk-left : Leaves hcube.walk (λ κs e. now (e .1 .1 .1 .1 .1 .0))
   pub hcube-why-node-left : Leaves hcube.why-node (λ κs e. now (e .1 .1 .1 .1 .1 .1 .1 .0))
@@ -54,9 +58,11 @@ pub record AsSeen : Type 0 where
   pub hcube-write-notice-left : Leaves hcube.write-notice (λ κs e. now (e .1 .1 .0))
   pub hcube-read-list-left : Leaves hcube.read-list (λ κs e. now (e .1 .1 .0))
   pub hcube-write-list-left : Leaves hcube.write-list (λ κs e. now (e .1 .1 .0))
+  pub hcube-repair-left : Leaves hcube.repair (λ κs e. (now (e .1 .1 .1 .0), now (e .1 .1 .1 .1 .0)))
   pub labels-label-left : Leaves labels.label (λ κs e. now (e .1 .1 .1 .1 .1 .1 .0))
   pub why-why-node-left : Leaves why.why-node (λ κs e. now (e .1 .1 .1 .1 .1 .1 .1 .0))
   pub notice-read-left : Leaves notice.read (λ κs e. now (e .1 .0))
   pub writer-write-left : Leaves writer.write (λ κs e. now (e .1 .1 .0))
   pub list-reader-read-left : Leaves list_reader.read (λ κs e. now (e .1 .1 .0))
   pub list-writer-write-left : Leaves list_writer.write (λ κs e. now (e .1 .1 .0))
+  pub repair-repair-left : Leaves repair.repair (λ κs e. (now (e .1 .1 .1 .0), now (e .1 .1 .1 .1 .0)))

@@ -6,6 +6,7 @@ use Rattle.groups.proofs.Functions as groups
 use Rattle.notice.proofs.Functions as notice
 use Rattle.reader.proofs.Functions as reader
 use Rattle.jobs.proofs.Functions as jobs
+use Rattle.passes.proofs.Functions as passes
 use Rattle.labels.proofs.Functions as labels
 use Rattle.hop.proofs.Functions as hop
 use Rattle.walk.proofs.Functions as walk
@@ -13,6 +14,7 @@ use Rattle.why.proofs.Functions as why
 use Rattle.writer.proofs.Functions as writer
 use Rattle.list_reader.proofs.Functions as list_reader
 use Rattle.list_writer.proofs.Functions as list_writer
+use Rattle.repair.proofs.Functions as repair
 use Rattle.hcube.proofs.Functions as hcube
 
 pub record Settled : Type 0 where
@@ -26,9 +28,10 @@ pub record Settled : Type 0 where
   pub hcube-write-notice : Settles hcube.write-notice
   pub hcube-read-list : Settles hcube.read-list
   pub hcube-write-list : Settles hcube.write-list
+  pub hcube-repair : Settles hcube.repair
   pub labels-label : Settles labels.label
   pub labels-label-refusal : Settles labels.label-refusal
-  pub labels-settle : Settles labels.settle
+  pub passes-settle : Settles passes.settle
   pub hop-hop : Settles hop.hop
   pub hop-place-refusal : Settles hop.place-refusal
   pub walk-walk : Settles walk.walk
@@ -41,6 +44,7 @@ pub record Settled : Type 0 where
   pub writer-table-refusal : Settles writer.table-refusal
   pub list-reader-read : Settles list_reader.read
   pub list-writer-write : Settles list_writer.write
+  pub repair-repair : Settles repair.repair
   -- the returned part: its bytes, and its place in the caller's memory. (The ghost name that the logic gives a reference is not settled: no
   -- program can see it.)
   pub notice-tail : Settles notice.tail
@@ -53,9 +57,9 @@ pub record Settled : Type 0 where
   pub cube-is-dimension : Settles cube.is-dimension
   pub jobs-is-job : Settles jobs.is-job
   -- what one crate lends another
-  pub labels-start : Settles labels.start
-  pub labels-sweep : Settles labels.sweep
-  pub labels-finish : Settles labels.finish
+  pub passes-start : Settles passes.start
+  pub passes-sweep : Settles passes.sweep
+  pub passes-finish : Settles passes.finish
   pub hop-hop-at : Settles hop.hop-at
   pub hop-gather : Settles hop.gather
   pub hop-chosen : Settles hop.chosen
@@ -81,9 +85,10 @@ pub record Unasked : Type 2 where
   pub hcube-write-notice : AsksNothing hcube.write-notice
   pub hcube-read-list : AsksNothing hcube.read-list
   pub hcube-write-list : AsksNothing hcube.write-list
+  pub hcube-repair : AsksNothing hcube.repair
   pub labels-label : AsksNothing labels.label
   pub labels-label-refusal : AsksNothing labels.label-refusal
-  pub labels-settle : AsksNothing labels.settle
+  pub passes-settle : AsksNothing passes.settle
   pub hop-hop : AsksNothing hop.hop
   pub hop-place-refusal : AsksNothing hop.place-refusal
   pub walk-walk : AsksNothing walk.walk
@@ -96,6 +101,7 @@ pub record Unasked : Type 2 where
   pub writer-table-refusal : AsksNothing writer.table-refusal
   pub list-reader-read : AsksNothing list_reader.read
   pub list-writer-write : AsksNothing list_writer.write
+  pub repair-repair : AsksNothing repair.repair
   pub notice-tail : AsksNothing notice.tail
   pub notice-clear : AsksNothing notice.clear
   pub groups-number-at : AsksNothing groups.number-at

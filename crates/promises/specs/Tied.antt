@@ -1,12 +1,11 @@
 -- The functions that the promises speak of are those of the code: for each public function by its name, the clauses and claims that its crate's
--- Functions gives are those that the check made of that very function; and what a question is handed is what its caller hands it, in that order.
+-- Functions gives are those that the check made of that very function.
 use mathlib.Core.Path.{_≡_}
 use base.Logic.{emp}
 use borrow.Fn.Claims.{AllOf}
 use borrow.Fn.Read.{ReadAt, no-know}
 use borrow.Fn.World.{World, w₀}
 use contract.Lifetimes.{Lfts}
-use denote.Ref.{now}
 use denote.Triple.Clauses.{AtExit, Ended}
 use denote.Triple.Entry.{Args, Res}
 use Rattle.cube.specs.Contracts.{Function, Tied, Written}
@@ -34,13 +33,14 @@ use Rattle.jobs.proofs.Functions as jobs
 use Rattle.jobs.proofs.half as jobs-half
 use Rattle.jobs.proofs.is_job as jobs-is-job
 use Rattle.jobs.proofs.label_bytes as jobs-label-bytes
+use Rattle.passes.proofs.Functions as passes
+use Rattle.passes.proofs.finish as passes-finish
+use Rattle.passes.proofs.settle as passes-settle
+use Rattle.passes.proofs.start as passes-start
+use Rattle.passes.proofs.sweep as passes-sweep
 use Rattle.labels.proofs.Functions as labels
-use Rattle.labels.proofs.finish as labels-finish
 use Rattle.labels.proofs.label as labels-label
 use Rattle.labels.proofs.label_refusal as labels-label-refusal
-use Rattle.labels.proofs.settle as labels-settle
-use Rattle.labels.proofs.start as labels-start
-use Rattle.labels.proofs.sweep as labels-sweep
 use Rattle.hop.proofs.Functions as hop
 use Rattle.hop.proofs.chosen as hop-chosen
 use Rattle.hop.proofs.gather as hop-gather
@@ -60,6 +60,8 @@ use Rattle.list_reader.proofs.Functions as list_reader
 use Rattle.list_reader.proofs.read as list-reader-read
 use Rattle.list_writer.proofs.Functions as list_writer
 use Rattle.list_writer.proofs.write as list-writer-write
+use Rattle.repair.proofs.Functions as repair
+use Rattle.repair.proofs.repair as repair-repair
 use Rattle.hcube.proofs.Functions as hcube
 use Rattle.hcube.proofs.hcube_hop as hcube-hop
 use Rattle.hcube.proofs.hcube_label as hcube-label
@@ -71,6 +73,7 @@ use Rattle.hcube.proofs.hcube_why_node as hcube-why-node
 use Rattle.hcube.proofs.hcube_write_notice as hcube-write-notice
 use Rattle.hcube.proofs.hcube_read_list as hcube-read-list
 use Rattle.hcube.proofs.hcube_write_list as hcube-write-list
+use Rattle.hcube.proofs.hcube_repair as hcube-repair
 
 module _ {T : Ended} {A X B : Type 0} (f : Function T A X B) (written : Written T) where
   -- a method that holds a borrow, of which the check makes no claims: these are its clauses, and the claim is what whoever has its `ensures` learns
@@ -109,24 +112,26 @@ pub record AllTied : Type 2 where
   pub hcube-write-list :
       Tied hcube.write-list (λ w. hcube-write-list.clauses (w .𝓤) (w .H) (w .𝓖 .A) (w .𝓜 .mem) (w .𝓡 .run))
       hcube-write-list.Reads.Asked hcube-write-list.Reads.Post
+  pub hcube-repair :
+      Tied hcube.repair (λ w. hcube-repair.clauses (w .𝓤) (w .H) (w .𝓖 .A) (w .𝓜 .mem) (w .𝓡 .run)) hcube-repair.Reads.Asked hcube-repair.Reads.Post
   pub labels-label :
       Tied labels.label (λ w. labels-label.clauses (w .𝓤) (w .H) (w .𝓖 .A) (w .𝓜 .mem) (w .𝓡 .run))
       labels-label.Reads.Asked labels-label.Reads.Post
   pub labels-label-refusal :
       Tied labels.label-refusal (λ w. labels-label-refusal.clauses (w .𝓤) (w .H) (w .𝓖 .A) (w .𝓜 .mem) (w .𝓡 .run))
       labels-label-refusal.Reads.Asked labels-label-refusal.Reads.Post
-  pub labels-start :
-      Tied labels.start (λ w. labels-start.clauses (w .𝓤) (w .H) (w .𝓖 .A) (w .𝓜 .mem) (w .𝓡 .run))
-      labels-start.Reads.Asked labels-start.Reads.Post
-  pub labels-sweep :
-      Tied labels.sweep (λ w. labels-sweep.clauses (w .𝓤) (w .H) (w .𝓖 .A) (w .𝓜 .mem) (w .𝓡 .run))
-      labels-sweep.Reads.Asked labels-sweep.Reads.Post
-  pub labels-settle :
-      Tied labels.settle (λ w. labels-settle.clauses (w .𝓤) (w .H) (w .𝓖 .A) (w .𝓜 .mem) (w .𝓡 .run))
-      labels-settle.Reads.Asked labels-settle.Reads.Post
-  pub labels-finish :
-      Tied labels.finish (λ w. labels-finish.clauses (w .𝓤) (w .H) (w .𝓖 .A) (w .𝓜 .mem) (w .𝓡 .run))
-      labels-finish.Reads.Asked labels-finish.Reads.Post
+  pub passes-start :
+      Tied passes.start (λ w. passes-start.clauses (w .𝓤) (w .H) (w .𝓖 .A) (w .𝓜 .mem) (w .𝓡 .run))
+      passes-start.Reads.Asked passes-start.Reads.Post
+  pub passes-sweep :
+      Tied passes.sweep (λ w. passes-sweep.clauses (w .𝓤) (w .H) (w .𝓖 .A) (w .𝓜 .mem) (w .𝓡 .run))
+      passes-sweep.Reads.Asked passes-sweep.Reads.Post
+  pub passes-settle :
+      Tied passes.settle (λ w. passes-settle.clauses (w .𝓤) (w .H) (w .𝓖 .A) (w .𝓜 .mem) (w .𝓡 .run))
+      passes-settle.Reads.Asked passes-settle.Reads.Post
+  pub passes-finish :
+      Tied passes.finish (λ w. passes-finish.clauses (w .𝓤) (w .H) (w .𝓖 .A) (w .𝓜 .mem) (w .𝓡 .run))
+      passes-finish.Reads.Asked passes-finish.Reads.Post
   pub hop-hop : Tied hop.hop (λ w. hop-hop.clauses (w .𝓤) (w .H) (w .𝓖 .A) (w .𝓜 .mem) (w .𝓡 .run)) hop-hop.Reads.Asked hop-hop.Reads.Post
   pub hop-place-refusal :
       Tied hop.place-refusal (λ w. hop-place-refusal.clauses (w .𝓤) (w .H) (w .𝓖 .A) (w .𝓜 .mem) (w .𝓡 .run))
@@ -168,6 +173,9 @@ pub record AllTied : Type 2 where
   pub list-writer-write :
       Tied list_writer.write (λ w. list-writer-write.clauses (w .𝓤) (w .H) (w .𝓖 .A) (w .𝓜 .mem) (w .𝓡 .run))
       list-writer-write.Reads.Asked list-writer-write.Reads.Post
+  pub repair-repair :
+      Tied repair.repair (λ w. repair-repair.clauses (w .𝓤) (w .H) (w .𝓖 .A) (w .𝓜 .mem) (w .𝓡 .run))
+      repair-repair.Reads.Asked repair-repair.Reads.Post
   pub notice-tail :
       Tied notice.tail (λ w. notice-tail.clauses (w .𝓤) (w .H) (w .𝓖 .A) (w .𝓜 .mem) (w .𝓡 .run))
       notice-tail.Reads.Asked notice-tail.Reads.Post
@@ -213,57 +221,3 @@ pub record AllTied : Type 2 where
       Tied jobs.label-bytes (λ w. jobs-label-bytes.clauses (w .𝓤) (w .H) (w .𝓖 .A) (w .𝓜 .mem) (w .𝓡 .run))
       jobs-label-bytes.Reads.Asked jobs-label-bytes.Reads.Post
   pub jobs-half : Tied jobs.half (λ w. jobs-half.clauses (w .𝓤) (w .H) (w .𝓖 .A) (w .𝓜 .mem) (w .𝓡 .run)) jobs-half.Reads.Asked jobs-half.Reads.Post
-
--- f is seen to be handed this of its parameters
-abbrev pub Handed : {T : Ended} {A X B : Type 0} → Function T A X B → ((κs : Lfts (T .signature .lifetimes)) → Args (T .signature) κs → A) → Type 0
-Handed {T} f seen = (κs : Lfts (T .signature .lifetimes)) (a : Args (T .signature) κs) → f .handed κs a ≡ seen κs a
-
--- the questions are handed their parameters one after the other, numbers as they are and tables by their bytes: so the first number is the dimension and
--- the job stands before the nodes, the first node is the one that a hop is decided at, a walk begins at or a label is asked about, and of labelling's tables
--- the first is the fault table, the second that of the draining nodes and the third that of the nodes that the job closes
-pub record InOrder : Type 0 where
-  pub hcube-label :
-      Handed hcube.label (λ κs a.
-      (a .0, a .1 .0, a .1 .1 .0, now (a .1 .1 .1 .0), now (a .1 .1 .1 .1 .0), now (a .1 .1 .1 .1 .1 .0), now (a .1 .1 .1 .1 .1 .1 .0)))
-  pub hcube-hop : Handed hcube.hop (λ κs a. (a .0, a .1 .0, a .1 .1 .0, a .1 .1 .1 .0, now (a .1 .1 .1 .1 .0)))
-  pub hcube-walk : Handed hcube.walk (λ κs a. (a .0, a .1 .0, a .1 .1 .0, a .1 .1 .1 .0, now (a .1 .1 .1 .1 .0), now (a .1 .1 .1 .1 .1 .0)))
-  pub hcube-why-node :
-      Handed hcube.why-node (λ κs a. (
-        a .0,
-        a .1 .0,
-        a .1 .1 .0,
-        a .1 .1 .1 .0,
-        now (a .1 .1 .1 .1 .0),
-        now (a .1 .1 .1 .1 .1 .0),
-        now (a .1 .1 .1 .1 .1 .1 .0),
-        now (a .1 .1 .1 .1 .1 .1 .1 .0),
-      ))
-  pub hcube-why-hop : Handed hcube.why-hop (λ κs a. (a .0, a .1 .0, a .1 .1 .0, a .1 .1 .1 .0, now (a .1 .1 .1 .1 .0)))
-  pub hcube-notice-dimension : Handed hcube.notice-dimension (λ κs a. now (a .0))
-  pub hcube-read-notice : Handed hcube.read-notice (λ κs a. (now (a .0), now (a .1 .0)))
-  pub hcube-write-notice : Handed hcube.write-notice (λ κs a. (a .0, now (a .1 .0), now (a .1 .1 .0)))
-  pub hcube-read-list : Handed hcube.read-list (λ κs a. (a .0, now (a .1 .0), now (a .1 .1 .0)))
-  pub hcube-write-list : Handed hcube.write-list (λ κs a. (a .0, now (a .1 .0), now (a .1 .1 .0)))
-  pub labels-label :
-      Handed labels.label (λ κs a.
-      (a .0, a .1 .0, a .1 .1 .0, now (a .1 .1 .1 .0), now (a .1 .1 .1 .1 .0), now (a .1 .1 .1 .1 .1 .0), now (a .1 .1 .1 .1 .1 .1 .0)))
-  pub hop-hop : Handed hop.hop (λ κs a. (a .0, a .1 .0, a .1 .1 .0, a .1 .1 .1 .0, now (a .1 .1 .1 .1 .0)))
-  pub walk-walk : Handed walk.walk (λ κs a. (a .0, a .1 .0, a .1 .1 .0, a .1 .1 .1 .0, now (a .1 .1 .1 .1 .0)))
-  pub walk-walk-for : Handed walk.walk-for (λ κs a. (a .0, a .1 .0, a .1 .1 .0, a .1 .1 .1 .0, now (a .1 .1 .1 .1 .0), a .1 .1 .1 .1 .1 .0))
-  pub why-why-node :
-      Handed why.why-node (λ κs a. (
-        a .0,
-        a .1 .0,
-        a .1 .1 .0,
-        a .1 .1 .1 .0,
-        now (a .1 .1 .1 .1 .0),
-        now (a .1 .1 .1 .1 .1 .0),
-        now (a .1 .1 .1 .1 .1 .1 .0),
-        now (a .1 .1 .1 .1 .1 .1 .1 .0),
-      ))
-  pub why-why-hop : Handed why.why-hop (λ κs a. (a .0, a .1 .0, a .1 .1 .0, a .1 .1 .1 .0, now (a .1 .1 .1 .1 .0)))
-  pub notice-dimension : Handed notice.dimension (λ κs a. now (a .0))
-  pub notice-read : Handed notice.read (λ κs a. (now (a .0), now (a .1 .0)))
-  pub writer-write : Handed writer.write (λ κs a. (a .0, now (a .1 .0), now (a .1 .1 .0)))
-  pub list-reader-read : Handed list_reader.read (λ κs a. (a .0, now (a .1 .0), now (a .1 .1 .0)))
-  pub list-writer-write : Handed list_writer.write (λ κs a. (a .0, now (a .1 .0), now (a .1 .1 .0)))

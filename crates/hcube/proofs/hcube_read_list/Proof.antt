@@ -3,7 +3,7 @@ use mathlib.Core.Path.{ap, _∙_}
 use native.Mathlib.Omega.{arith}
 use borrow.Author.Needs.{needs}
 use Rattle.list_reader.proofs.Outcomes.{refusal-few}
-use Rattle.hcube.specs.Answers.{listNumber}
+use Rattle.hcube.specs.Answers.{doneNumber}
 use Rattle.hcube.proofs.hcube_read_list.Statement.{statement}
 use Rattle.hcube.proofs.hcube_read_list.Tie as tie
 
@@ -19,7 +19,7 @@ same-length : tie.Need-same-length
 same-length c = search needs
 
 returns : tie.Need-returns
-returns c = let e = c .before .before .before .read .ensures in (c .pack .ensures ∙ ap listNumber (e .0), e .1)
+returns c = let e = c .before .before .before .read .ensures in (c .pack .ensures ∙ ap doneNumber (e .0), e .1)
 
 pub hcube-read-list-spec : {M : Type 1} → statement M
 hcube-read-list-spec = tie.close (tie.spec read-requires pack-requires same-length returns)
