@@ -5,8 +5,8 @@
  * The rules in whole stand in docs/RULES.md of the source repository: Labels for
  * hcube_label, One hop for hcube_hop, Walk for hcube_walk, Why for the questions
  * that say why, Tables and the notice for the functions that read and write a
- * notice, List text for those that read and write a list, Refusal numbers for
- * all refusals, To C for the answers.
+ * notice, List text for those that read and write a list, Asking the neighbours
+ * for hcube_repair, Refusal numbers for all refusals, To C for the answers.
  *
  * A cube of dimension n, 1 to 12, has the nodes 0 to 2^n - 1. Nodes whose
  * numbers differ in bit i alone are neighbours across dimension i.
@@ -29,6 +29,8 @@
  * - A pointer is not null and its bytes may be read (where it is not const,
  *   also written) for the whole length given beside it, also when that length
  *   is a wrong one. Length 0 is allowed, with any pointer that is not null.
+ * - A length counts bytes; beside a pointer to uint16_t it counts numbers, and
+ *   the pointer is aligned as a uint16_t has to be.
  * - A buffer that is not const shares no byte with another of the same call.
  *   Nobody else changes a lent buffer during the call, but for the other job's
  *   half of a label buffer. Nothing of a buffer is kept after the call.
@@ -76,7 +78,7 @@ extern "C" {
 /* The version of this interface. Whatever a program that was right with an
  * earlier one would notice raises MAJOR, what is new MINOR, all else PATCH. */
 #define HCUBE_VERSION_MAJOR 1
-#define HCUBE_VERSION_MINOR 3
+#define HCUBE_VERSION_MINOR 4
 #define HCUBE_VERSION_PATCH 0
 #define HCUBE_VERSION                                                          \
     (HCUBE_VERSION_MAJOR * 10000 + HCUBE_VERSION_MINOR * 100 +                 \
@@ -91,9 +93,10 @@ extern "C" {
 #define HCUBE_LIST_BYTES_MAX 12913  /* the longest list that is written */
 
 /* Sizes in bytes: of one job's labels, a label buffer with both jobs' halves, a
- * fault, draining or closed table, a walk's row. Test n first, or take it from
- * an answer that was accepted: C leaves a shift open that is as wide as size_t
- * or wider, so with any other n these may be any number. */
+ * fault, draining or closed table, a walk's row. HCUBE_NODES(n) also is how many
+ * numbers the masks and the row of hcube_repair have. Test n first, or take it
+ * from an answer that was accepted: C leaves a shift open that is as wide as
+ * size_t or wider, so with any other n these may be any number. */
 #ifdef __cplusplus
 #define HCUBE_NODES(n) (static_cast<size_t>(1) << (n))
 #else
@@ -143,6 +146,7 @@ extern "C" {
 #define HCUBE_NO_ROOM 13         /* a lent buffer is too short for what is to be
                                   * written */
 #define HCUBE_BAD_LIST 14        /* list text that is no list */
+#define HCUBE_BAD_MASK 17        /* a mask with a bit at n or above */
 #define HCUBE_BAD_RULE 18        /* the rule's number is not 2 or 3 */
 #define HCUBE_BAD_JOB 19         /* the job's number is not 0 or 1 */
 
@@ -195,6 +199,8 @@ HCUBE_INLINE const char *hcube_refusal_text(uint32_t number)
         return "a lent buffer is too short for what is to be written";
     case HCUBE_BAD_LIST:
         return "the text is not a list such as 0-3,8";
+    case HCUBE_BAD_MASK:
+        return "a mask has a bit at n or above";
     case HCUBE_BAD_RULE:
         return "the rule's number is not 2 or 3";
     case HCUBE_BAD_JOB:
@@ -575,6 +581,56 @@ uint32_t hcube_read_list(uint32_t n, const uint8_t *text, size_t text_len,
  */
 uint32_t hcube_write_list(uint32_t n, const uint8_t *faults, size_t faults_len,
                           uint8_t *out, size_t out_len);
+
+/*
+ * Repairs the fault table `faults` of an n-cube by what its nodes say of their
+ * neighbours. A notice may be older than the cabinet: a node that died since is
+ * not in it, but whoever sits beside that node finds it dead.
+ *
+ * `masks` has a number for each node: bit i of masks[w] is set where node w finds
+ * its neighbour across dimension i dead. Then w names that neighbour. Only the
+ * nodes that work by `faults` are heard; the mask of a faulty node names nobody.
+ *
+ * `result` becomes the old faults and each node that is named by at least one
+ * node that is heard. `row` becomes, for each node k that was added, one more
+ * than the lowest node that is heard and names k, and 0 for every other node: for
+ * an old fault, named or not, and for a node that nobody names.
+ *
+ * In the cube of n = 4 with the faulty nodes 2, 4, 8 and 15, let masks[1] be 8,
+ * masks[11] 2, and the others 0: nodes 1 and 11 both name node 9, across the
+ * dimensions 3 and 1. Then `result` has 2, 4, 8, 9 and 15, row[9] is 2, and the
+ * rest of `row` is 0.
+ *
+ * Asking again with the result and the same masks adds nothing, and gives a row
+ * of zeros: nobody is heard then who was not heard before, and whom those name is
+ * in the table already. What a node said that was itself named counts all the
+ * same, for the old table called it working.
+ *
+ * `result` is another buffer than `faults`: who is heard goes by the old table to
+ * the end, so a table is not repaired in place.
+ *
+ * The result is a fault table as any other: hcube_label takes it, and so does
+ * hcube_write_notice. A driver repairs the table of the last notice and labels
+ * anew, here with bytes for HCUBE_FAULT_BYTES(n):
+ *   said = hcube_repair(n, faults, bytes, masks, HCUBE_NODES(n),
+ *                       result, bytes, row, HCUBE_NODES(n));
+ *   if (HCUBE_REFUSAL(said) == HCUBE_ACCEPTED)
+ *       said = hcube_label(n, rule, job, result, bytes, draining, bytes,
+ *                          closed, bytes, labels, HCUBE_LABEL_BYTES(n));
+ *
+ * Refusals, in order:
+ *   1   n is not 1 to 12
+ *   2   faults_len is not HCUBE_FAULT_BYTES(n), masks_len not HCUBE_NODES(n),
+ *       result_len not HCUBE_FAULT_BYTES(n), or row_len not HCUBE_NODES(n)
+ *   3   n is 1 or 2 and a bit for a node of 2^n or more is set in `faults`
+ *   17  a mask has a bit at n or above, be its node faulty or not
+ * Accepted: kind 0, value 0. All of `result` and all of `row` is written; what
+ * they held before does not matter.
+ */
+uint32_t hcube_repair(uint32_t n, const uint8_t *faults, size_t faults_len,
+                      const uint16_t *masks, size_t masks_len,
+                      uint8_t *result, size_t result_len,
+                      uint16_t *row, size_t row_len);
 
 #ifdef __cplusplus
 }

@@ -14,9 +14,9 @@
 static struct asked {
     char call[80];
     unsigned count;
-    struct {
+    struct buffer {
         const char *name;
-        size_t len;
+        size_t len, width; /* how many numbers, and the bytes of each */
         uint8_t bytes[MOST_SHOWN];
     } buffers[MOST_BUFFERS];
 } *last;
@@ -26,13 +26,25 @@ void keep_questions(void)
     last = shared_memory(sizeof *last);
 }
 
+static void keep_buffer(const char *name, const void *content, size_t len,
+                        size_t width)
+{
+    struct buffer *buffer = &last->buffers[last->count++];
+    buffer->name = name;
+    buffer->len = len;
+    buffer->width = width;
+    if (len <= MOST_SHOWN / width)
+        memcpy(buffer->bytes, content, len * width);
+}
+
 static void keep_bytes(const char *name, const uint8_t *bytes, size_t len)
 {
-    last->buffers[last->count].name = name;
-    last->buffers[last->count].len = len;
-    if (len <= MOST_SHOWN)
-        memcpy(last->buffers[last->count].bytes, bytes, len);
-    last->count++;
+    keep_buffer(name, bytes, len, 1);
+}
+
+static void keep_numbers(const char *name, const uint16_t *numbers, size_t len)
+{
+    keep_buffer(name, numbers, len, 2);
 }
 
 static void keep_tables(struct label_question asked)
@@ -145,11 +157,27 @@ void keep_list(struct list_question asked)
     keep_bytes("faults", asked.faults, asked.faults_len);
 }
 
-static void print_bytes(const uint8_t *bytes, size_t len)
+void keep_repair(struct repair_question asked)
 {
-    for (size_t k = 0; k < len; k++)
-        printf("%s%02x", k % A_LINE == 0 && len > A_LINE ? "\n      " : " ",
-               bytes[k]);
+    if (!last)
+        return;
+    snprintf(last->call, sizeof last->call, "hcube_repair, n %u", asked.n);
+    last->count = 0;
+    keep_bytes("faults", asked.faults, asked.faults_len);
+    keep_numbers("masks", asked.masks, asked.masks_len);
+    keep_bytes("result", asked.result, asked.result_len);
+    keep_numbers("row", asked.row, asked.row_len);
+}
+
+/* Bytes in two digits, numbers of 16 bits in four. */
+static void print_buffer(const struct buffer *buffer)
+{
+    size_t a_line = A_LINE / buffer->width;
+    for (size_t k = 0; k < buffer->len; k++) {
+        printf(k % a_line == 0 && buffer->len > a_line ? "\n      " : " ");
+        for (size_t byte = buffer->width; byte-- > 0;) /* the low one first in memory */
+            printf("%02x", buffer->bytes[k * buffer->width + byte]);
+    }
 }
 
 void print_asked(void)
@@ -158,10 +186,11 @@ void print_asked(void)
         return;
     printf("  asked: %s\n", last->call);
     for (unsigned k = 0; k < last->count; k++) {
-        size_t len = last->buffers[k].len;
-        printf("    %s, %lu bytes:", last->buffers[k].name, (unsigned long)len);
-        if (len <= MOST_SHOWN)
-            print_bytes(last->buffers[k].bytes, len);
+        const struct buffer *buffer = &last->buffers[k];
+        printf("    %s, %lu %s:", buffer->name, (unsigned long)buffer->len,
+               buffer->width == 1 ? "bytes" : "numbers of 16 bits");
+        if (buffer->len <= MOST_SHOWN / buffer->width)
+            print_buffer(buffer);
         else
             printf(" too many to show");
         printf("\n");

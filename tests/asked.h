@@ -22,6 +22,7 @@ void keep_notice(const uint8_t *bytes, size_t len, const uint8_t *faults,
 void keep_write(struct write_question asked);
 void keep_list(struct list_question asked);
 void keep_write_list(struct write_question asked);
+void keep_repair(struct repair_question asked);
 
 /* Prints the one that was kept last, if there is one. */
 void print_asked(void);

@@ -1,4 +1,4 @@
-/* cases.c: random numbers, tables, notices and lists for the tests. */
+/* cases.c: random numbers, tables, notices, lists and masks for the tests. */
 #include "cases.h"
 
 #include <string.h>
@@ -162,4 +162,38 @@ void worst_list(uint32_t n, uint8_t *faults)
     for (uint32_t k = 0; k < 1u << n; k++)
         if (k % 3 != 2)
             put_node(faults, k);
+}
+
+void masks_of(uint32_t n, const uint8_t *dead, uint16_t *masks)
+{
+    for (uint32_t w = 0; w < 1u << n; w++) {
+        masks[w] = 0;
+        for (uint32_t i = 0; i < n && !in_table(dead, w); i++)
+            masks[w] |= (uint16_t)(in_table(dead, w ^ 1u << i) << i);
+    }
+}
+
+/* Each bit below n is set with this chance per mille. */
+static void each_bit(uint32_t n, unsigned per_mille, uint16_t *masks)
+{
+    for (uint32_t w = 0; w < 1u << n; w++) {
+        masks[w] = 0;
+        for (uint32_t i = 0; i < n; i++)
+            if (random_below(1000) < per_mille)
+                masks[w] |= (uint16_t)(1u << i);
+    }
+}
+
+void random_masks(uint32_t n, uint16_t *masks)
+{
+    uint8_t dead[512];
+    switch (random_below(8)) {
+    case 0: each_bit(n, 0, masks); return;
+    case 1: each_bit(n, 1000, masks); return;
+    case 2: each_bit(n, random_below(1001), masks); return;
+    case 3: each_bit(n, 1000 / (1u << n) + 1, masks); return;
+    case 4: each_bit(n, 1 + 100 / n, masks); return;
+    }
+    random_faults(n, random_density(n), dead);
+    masks_of(n, dead, masks);
 }

@@ -1,6 +1,6 @@
 /*
  * cases.h: what the tests' inputs are made of: random numbers with a fixed
- * seed, fault, draining and closed tables, label tables, notices, list text.
+ * seed, fault, draining and closed tables, label tables, notices, list text, masks.
  */
 #ifndef CASES_H
 #define CASES_H
@@ -50,5 +50,12 @@ size_t put_list(uint32_t n, const uint8_t *faults, uint8_t *text);
 /* The table of which the text is the longest: nodes in pairs, one left out
  * between each two. */
 void worst_list(uint32_t n, uint8_t *faults);
+
+/* The masks of a cabinet with these dead nodes: all others name their neighbours
+ * that are dead, and the dead say nothing. */
+void masks_of(uint32_t n, const uint8_t *dead, uint16_t *masks);
+/* Masks with no bit at n or above: none, a few bits, any, all, or those of some
+ * cabinet. */
+void random_masks(uint32_t n, uint16_t *masks);
 
 #endif

@@ -36,5 +36,6 @@ uint32_t check_list(struct list_question asked);
 /* The same, over a fault table of random bytes that is not kept. */
 uint32_t check_list_alone(uint32_t n, const void *text, size_t len);
 uint32_t check_write_list(struct write_question asked);
+uint32_t check_repair(struct repair_question asked);
 
 #endif

@@ -51,6 +51,23 @@ void check_all(const char *title, unsigned (*ask)(unsigned from))
     end_group();
 }
 
+void ask_no_dimensions(void (*ask)(uint32_t n, uint32_t fitting))
+{
+    for (uint32_t fitting = 1; fitting <= 12; fitting++) {
+        ask(0, fitting);
+        for (uint32_t n = 13; n < 40; n++)
+            ask(n, fitting);
+        for (unsigned i = 4; i < 32; i++) {
+            ask((1u << i) + fitting, fitting);
+            ask(0u - (1u << i) + fitting, fitting);
+        }
+        ask(0u - fitting, fitting);
+        ask(0xffffffffu, fitting);
+    }
+    for (uint32_t n = 40; n < 600; n++)
+        ask(n, 1 + n % 12);
+}
+
 /* ---- hop and walk */
 
 static uint8_t labels[MOST_LENT], row[MOST_LENT];

@@ -26,6 +26,10 @@ size_t length_of(unsigned kind, size_t exact);
 /* Expects this refusal, or none where it is 0, of combination `from`. */
 void is_due(const char *what, unsigned from, uint64_t answer, unsigned due);
 
+/* Asks with numbers that are no dimension, some of which would be one once narrowed:
+ * with each the dimension that the buffers are to fit. */
+void ask_no_dimensions(void (*ask)(uint32_t n, uint32_t fitting));
+
 /* A group that asks the combinations from 0 on, up to the one that has a part too
  * many. `ask` gives what is left of the number, which is then not 0. */
 void check_all(const char *title, unsigned (*ask)(unsigned from));

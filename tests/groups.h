@@ -6,6 +6,7 @@ void check_worked_numbers(void);  /* worked.c */
 void check_worked_why(void);      /* worked_why.c */
 void check_worked_notices(void);  /* worked_notice.c */
 void check_worked_lists(void);    /* worked_list.c */
+void check_worked_repairs(void);  /* worked_repair.c */
 void check_most_exchanges(void);  /* exchanges.c */
 void check_one_exchange(void);
 void check_ceilings(void);
@@ -77,5 +78,17 @@ void check_write_list_combinations(void);
 void check_list_dimensions(void);
 void check_list_left(void);
 void check_list_lengths(void);    /* list_lengths.c */
+void check_small_repairs(void);   /* repaired.c */
+void check_few_masks(void);
+void check_random_repairs(void);
+void check_cabinets_repaired(void);
+void check_repaired_again(void);  /* repaired_again.c */
+void check_repaired_chain(void);
+void check_repair_combinations(void); /* repair_refused.c */
+void check_repair_strays(void);
+void check_repair_damaged(void);
+void check_repair_dimensions(void);
+void check_repair_left(void);
+void check_repair_lengths(void);  /* repair_lengths.c */
 
 #endif

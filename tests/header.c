@@ -23,7 +23,7 @@
     HCUBE_VERSION % 100 != HCUBE_VERSION_PATCH
 #error the version is not made of its parts
 #endif
-#if HCUBE_VERSION < 10300
+#if HCUBE_VERSION < 10400
 #error the version is older than the newest function
 #endif
 #if HCUBE_DIMENSION_MAX != 12 || HCUBE_NODES_MAX != 4096 || \
@@ -154,7 +154,8 @@ HOLDS(refusals_6, HCUBE_FAULTY_SOURCE == 6 && HCUBE_FAULTY_TARGET == 7 &&
                       HCUBE_TOO_MANY_HOPS == 8 && HCUBE_CUT_SHORT == 9);
 HOLDS(refusals_10, HCUBE_BAD_GROUP == 10 && HCUBE_BAD_COUNT == 11 &&
                        HCUBE_BAD_ADDRESS == 12 && HCUBE_NO_ROOM == 13 &&
-                       HCUBE_BAD_LIST == 14 && HCUBE_BAD_JOB == 19);
+                       HCUBE_BAD_LIST == 14 && HCUBE_BAD_MASK == 17 &&
+                       HCUBE_BAD_JOB == 19);
 
 /* Every macro that takes something, with variables of each type that a caller
  * may have there. */
@@ -164,7 +165,8 @@ size_t sizes_as_size(size_t n, size_t job);
 uint32_t parts_32(uint32_t answer);
 uint64_t parts_64(uint64_t answer);
 uint64_t call_all(const uint8_t *bytes, uint8_t *faults, uint8_t *labels,
-                  uint8_t *row, uint8_t *out);
+                  uint8_t *row, uint8_t *out, const uint16_t *masks,
+                  uint16_t *namers);
 const char *words(const uint8_t *row, uint32_t walked, uint32_t hopped);
 
 #define SIZES(n, job)                                                          \
@@ -202,7 +204,8 @@ uint64_t parts_64(uint64_t answer)
 }
 
 uint64_t call_all(const uint8_t *bytes, uint8_t *faults, uint8_t *labels,
-                  uint8_t *row, uint8_t *out)
+                  uint8_t *row, uint8_t *out, const uint16_t *masks,
+                  uint16_t *namers)
 {
     static const uint8_t none[HCUBE_FAULT_BYTES_MAX] = {0};
     uint32_t n = HCUBE_VALUE(hcube_notice_dimension(bytes, 12));
@@ -220,6 +223,8 @@ uint64_t call_all(const uint8_t *bytes, uint8_t *faults, uint8_t *labels,
     all += parts_32(
         hcube_write_list(n, faults, table, out, HCUBE_LIST_BYTES_MAX));
     all += parts_32(hcube_read_list(n, bytes, 12, faults, table));
+    all += parts_32(hcube_repair(n, faults, table, masks, HCUBE_NODES(n), out,
+                                 table, namers, HCUBE_NODES(n)));
     return all + parts_64(read) + parts_64(why);
 }
 

@@ -12,7 +12,8 @@
 #define ROOM ((MOST_LENT + 2 * GUARD + PAGE - 1) / PAGE * PAGE)
 
 /* Which side a buffer stands at changes from call to call, in no short row. At the
- * low side it stands some bytes further in every second time, at any address. */
+ * low side it stands some bytes further in every second time, at any address that
+ * its numbers may have. */
 static uint32_t turn;
 
 static uint8_t guard[GUARD];
@@ -45,14 +46,15 @@ static uint8_t *guard_of(const struct lent *lent)
 }
 
 /* Its bytes and its guard are put where they stand now. */
-static void put_bytes(struct lent *lent, const uint8_t *content, size_t len)
+static void put_bytes(struct lent *lent, const void *content, size_t len)
 {
     lent->len = len;
     memcpy(lent->bytes, content, len);
     memcpy(guard_of(lent), guard, GUARD);
 }
 
-void lend(struct lent *lent, const uint8_t *content, size_t len)
+static void lend_aligned(struct lent *lent, const void *content, size_t len,
+                         uint32_t width)
 {
     uint32_t place = ++turn * 2654435769u;
     if (!lent->memory)
@@ -60,12 +62,23 @@ void lend(struct lent *lent, const uint8_t *content, size_t len)
     lent->high = place >> 31;
     lent->bytes = lent->high ? lent->memory + ROOM - len : lent->memory;
     if (!lent->high && place >> 30)
-        lent->bytes += place % GUARD;
+        lent->bytes += place % GUARD / width * width;
     put_bytes(lent, content, len);
 }
 
+void lend(struct lent *lent, const uint8_t *content, size_t len)
+{
+    lend_aligned(lent, content, len, 1);
+}
+
+uint16_t *lend_numbers(struct lent *lent, const uint16_t *content, size_t count)
+{
+    lend_aligned(lent, content, count * sizeof *content, sizeof *content);
+    return (uint16_t *)(void *)lent->bytes;
+}
+
 /* From the second page on the memory is read alone. */
-void lend_to_read(struct lent *lent, const uint8_t *content, size_t len,
+void lend_to_read(struct lent *lent, const void *content, size_t len,
                   size_t from)
 {
     if (!lent->memory)
@@ -77,7 +90,7 @@ void lend_to_read(struct lent *lent, const uint8_t *content, size_t len,
     protect(lent->memory + PAGE, ROOM - PAGE, PROT_READ);
 }
 
-int lent_is(const struct lent *lent, const uint8_t *content)
+int lent_is(const struct lent *lent, const void *content)
 {
     return !memcmp(guard_of(lent), guard, GUARD) &&
            !memcmp(lent->bytes, content, lent->len);

@@ -25,9 +25,12 @@ struct lent {
 void lend(struct lent *lent, const uint8_t *content, size_t len);
 /* The same, but the bytes from this place on may only be read: a write to one ends
  * the process, also where it is taken back. A struct is used for either alone. */
-void lend_to_read(struct lent *lent, const uint8_t *content, size_t len,
+void lend_to_read(struct lent *lent, const void *content, size_t len,
                   size_t from);
+/* Lends a copy of so many numbers of 16 bits, aligned as they have to be, and gives
+ * their place. The length that is kept counts bytes. */
+uint16_t *lend_numbers(struct lent *lent, const uint16_t *content, size_t count);
 /* Whether the buffer has this content now and its guard bytes are kept. */
-int lent_is(const struct lent *lent, const uint8_t *content);
+int lent_is(const struct lent *lent, const void *content);
 
 #endif

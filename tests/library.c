@@ -121,6 +121,10 @@ static void check_endings_seen(void)
         CAME_UP("digits of a first number", digits[written][1], 1, 4);
         CAME_UP("digits of a second number", digits[written][2], 1, 4);
     }
+    CAME_UP("repaired n", cube[REPAIR][0], 1, 12);
+    CAME_UP("namers of a node that was added", namers, 1, 12);
+    CAME_UP("dimension to the lowest of them", across, 0, 11);
+    CAME_UP("named by faulty nodes alone, faulty itself", unheard, 0, 1);
     end_group();
 }
 
@@ -130,6 +134,7 @@ static const struct group groups[] = {
     {"worked_why", check_worked_why},
     {"worked_notices", check_worked_notices},
     {"worked_lists", check_worked_lists},
+    {"worked_repairs", check_worked_repairs},
     {"orders", check_orders},
     {"label_combinations", check_label_combinations},
     {"job_combinations", check_job_combinations},
@@ -201,6 +206,18 @@ static const struct group groups[] = {
     {"list_dimensions", check_list_dimensions},
     {"list_left", check_list_left},
     {"list_lengths", check_list_lengths},
+    {"small_repairs", check_small_repairs},
+    {"few_masks", check_few_masks},
+    {"random_repairs", check_random_repairs},
+    {"cabinets_repaired", check_cabinets_repaired},
+    {"repaired_again", check_repaired_again},
+    {"repaired_chain", check_repaired_chain},
+    {"repair_combinations", check_repair_combinations},
+    {"repair_strays", check_repair_strays},
+    {"repair_damaged", check_repair_damaged},
+    {"repair_dimensions", check_repair_dimensions},
+    {"repair_left", check_repair_left},
+    {"repair_lengths", check_repair_lengths},
 };
 
 /* They speak of all that came before them, so that no word runs them alone. */

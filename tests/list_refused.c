@@ -129,19 +129,7 @@ void check_list_dimensions(void)
     begin_group("dimensions tested before they are narrowed, lists");
     random_bytes(out, sizeof out);
     memset(faults, 0, sizeof faults);
-    for (uint32_t fitting = 1; fitting <= 12; fitting++) {
-        no_dimension(0, fitting);
-        for (uint32_t n = 13; n < 40; n++)
-            no_dimension(n, fitting);
-        for (unsigned i = 4; i < 32; i++) {
-            no_dimension((1u << i) + fitting, fitting);
-            no_dimension(0u - (1u << i) + fitting, fitting);
-        }
-        no_dimension(0u - fitting, fitting);
-        no_dimension(0xffffffffu, fitting);
-    }
-    for (uint32_t n = 40; n < 600; n++)
-        no_dimension(n, 1 + n % 12);
+    ask_no_dimensions(no_dimension);
     end_group();
 }
 

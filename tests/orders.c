@@ -209,5 +209,6 @@ void check_orders(void)
     check_order(WALK, walk_answer, walk_orders, COUNT(walk_orders));
     check_write_orders();
     check_list_orders();
+    check_repair_orders();
     end_group();
 }

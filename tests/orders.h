@@ -14,7 +14,8 @@
 struct order {
     unsigned first, second;
     uint32_t n, job, s, d; /* s: the walk's source, the hop's current node, or
-                            * the node whose label is asked about */
+                            * the node whose label is asked about, or whose mask
+                            * it is */
     int rule_more;         /* for labelling: beyond rule 3 */
     uint8_t fault_byte, draining_byte, closed_byte; /* each byte of the table */
     const char *labels; /* for hop and walk: the job's half, a digit a byte, x for
@@ -23,6 +24,8 @@ struct order {
     int labels_more, row_more;
     int out_more; /* beyond what is enough for every notice, or every text */
     const char *text; /* for reading a list */
+    uint16_t mask; /* for repairing: of s; the others are 0 */
+    int masks_more, result_more; /* and row_more */
 };
 
 /* Asks all, and expects that each pair of the refusals of this question, any
@@ -32,9 +35,11 @@ void check_order(unsigned question,
                  const struct order *orders, size_t count);
 
 /* Labelling, and why a node has its label, in orders_label.c; writing a notice in
- * orders_notice.c; reading and writing a list in orders_list.c. */
+ * orders_notice.c; reading and writing a list in orders_list.c; repairing in
+ * orders_repair.c. */
 void check_label_orders(void);
 void check_write_orders(void);
 void check_list_orders(void);
+void check_repair_orders(void);
 
 #endif

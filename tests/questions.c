@@ -18,6 +18,7 @@ const struct question questions[QUESTIONS] = {
     [WRITE] = {"write", {1, 2, 3, 13}},
     [LIST] = {"list", {1, 2, 14, 12}},
     [WRITE_LIST] = {"write a list", {1, 2, 3, 13}},
+    [REPAIR] = {"repair", {1, 2, 3, 17}},
 };
 
 static const uint8_t none[MOST_LENT];
@@ -143,6 +144,22 @@ struct list_question fit_list(uint32_t n, const uint8_t *text, size_t text_len,
     return asked;
 }
 
+struct repair_question fit_repair(uint32_t n, const uint8_t *faults,
+                                  const uint16_t *masks, uint8_t *result,
+                                  uint16_t *row)
+{
+    struct repair_question asked = {.n = n,
+                                    .faults = faults,
+                                    .faults_len = ref_fault_bytes(n),
+                                    .masks = masks,
+                                    .masks_len = HCUBE_NODES(n),
+                                    .result = result,
+                                    .result_len = ref_fault_bytes(n),
+                                    .row = row,
+                                    .row_len = HCUBE_NODES(n)};
+    return asked;
+}
+
 void keep_half(struct label_question asked, uint8_t *half)
 {
     memcpy(half, asked.labels + HCUBE_HALF(asked.n, asked.job),
@@ -220,6 +237,14 @@ uint32_t ask_write_list(struct write_question asked)
     keep_write_list(asked);
     return hcube_write_list(asked.n, asked.faults, asked.faults_len, asked.out,
                             asked.out_len);
+}
+
+uint32_t ask_repair(struct repair_question asked)
+{
+    keep_repair(asked);
+    return hcube_repair(asked.n, asked.faults, asked.faults_len, asked.masks,
+                        asked.masks_len, asked.result, asked.result_len,
+                        asked.row, asked.row_len);
 }
 
 uint32_t row_place(const uint8_t *row, uint32_t k)

@@ -1,7 +1,7 @@
 /*
  * questions.h: what is asked of the library, each question with all that it is
  * handed. A test that says nothing of a parameter leaves it as fit_label,
- * fit_hop, fit_walk, fit_write, fit_list or fit_write_list gives it.
+ * fit_hop, fit_walk, fit_write, fit_list, fit_write_list or fit_repair gives it.
  */
 #ifndef QUESTIONS_H
 #define QUESTIONS_H
@@ -28,6 +28,7 @@ enum {
     WRITE,
     LIST,
     WRITE_LIST,
+    REPAIR,
     QUESTIONS
 };
 
@@ -84,6 +85,19 @@ struct list_question {
     size_t faults_len;
 };
 
+/* The lengths of masks and row count numbers. */
+struct repair_question {
+    uint32_t n;
+    const uint8_t *faults;
+    size_t faults_len;
+    const uint16_t *masks;
+    size_t masks_len;
+    uint8_t *result;
+    size_t result_len;
+    uint16_t *row;
+    size_t row_len;
+};
+
 /* Questions in which each length is the one that n asks for, the rule is 3, no
  * node is draining or closed, and the job is either one, in turn. `half` has that
  * job's labels. They are put into a label buffer with any bytes in its other half,
@@ -105,6 +119,11 @@ struct write_question fit_write_list(uint32_t n, const uint8_t *faults,
 /* A text and a table of that length. */
 struct list_question fit_list(uint32_t n, const uint8_t *text, size_t text_len,
                               uint8_t *faults);
+
+/* Each length is the one that n asks for. */
+struct repair_question fit_repair(uint32_t n, const uint8_t *faults,
+                                  const uint16_t *masks, uint8_t *result,
+                                  uint16_t *row);
 
 /* Copies the job's half out of the question's label buffer; n and job are good. */
 void keep_half(struct label_question asked, uint8_t *half);
@@ -131,6 +150,7 @@ uint64_t ask_notice(const uint8_t *bytes, size_t len, uint8_t *faults,
 uint32_t ask_write(struct write_question asked);
 uint32_t ask_list(struct list_question asked);
 uint32_t ask_write_list(struct write_question asked);
+uint32_t ask_repair(struct repair_question asked);
 
 /* The node at this place of an accepted walk's row. */
 uint32_t row_place(const uint8_t *row, uint32_t k);

@@ -1,6 +1,6 @@
 /*
  * reference.h: the rules of docs/RULES.md once more, in plain C, to hold the
- * library and the listing program against. The first ten functions have the
+ * library and the listing program against. The first eleven functions have the
  * same interface as the library's.
  */
 #ifndef REFERENCE_H
@@ -46,6 +46,10 @@ uint32_t ref_read_list(uint32_t n, const uint8_t *text, size_t text_len,
                        uint8_t *faults, size_t faults_len);
 uint32_t ref_write_list(uint32_t n, const uint8_t *faults, size_t faults_len,
                         uint8_t *out, size_t out_len);
+uint32_t ref_repair(uint32_t n, const uint8_t *faults, size_t faults_len,
+                    const uint16_t *masks, size_t masks_len,
+                    uint8_t *result, size_t result_len,
+                    uint16_t *row, size_t row_len);
 
 /* Reads the number at *place and moves the place behind it. 0, or the refusal,
  * and then the place still is where that number begins. */

@@ -188,3 +188,40 @@ void saw_write_list(struct write_question asked, uint32_t answer,
     SEEN(cube[WRITE_LIST][0], asked.n);
     count_digits(1, out, HCUBE_VALUE(answer));
 }
+
+/* How many of the neighbours of k name it, of those that are faulty or of the
+ * others. */
+static unsigned count_namers(struct repair_question asked, uint32_t k, int faulty)
+{
+    unsigned count = 0;
+    for (uint32_t i = 0; i < asked.n; i++) {
+        uint32_t w = k ^ 1u << i;
+        count += in_table(asked.faults, w) == faulty && asked.masks[w] >> i & 1;
+    }
+    return count;
+}
+
+static void count_named(struct repair_question asked, uint32_t k, uint16_t by)
+{
+    unsigned heard = count_namers(asked, k, 0);
+    uint32_t across = 0;
+    if (heard == 0 && count_namers(asked, k, 1) > 0)
+        SEEN(unheard, (unsigned)in_table(asked.faults, k));
+    if (by == 0)
+        return;
+    while (across < asked.n && (k ^ 1u << across) != by - 1u)
+        across++;
+    SEEN(namers, heard);
+    SEEN(across, across);
+}
+
+void saw_repair(struct repair_question asked, uint32_t answer,
+                const uint16_t *row)
+{
+    SEEN(refusal[REPAIR][0], HCUBE_REFUSAL(answer));
+    if (HCUBE_REFUSAL(answer))
+        return;
+    SEEN(cube[REPAIR][0], asked.n);
+    for (uint32_t k = 0; k < HCUBE_NODES(asked.n); k++)
+        count_named(asked, k, row[k]);
+}

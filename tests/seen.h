@@ -9,7 +9,8 @@
 #include "questions.h"
 
 /* By whose call it is: job 0, job 1, or a number that is no job. A notice, its
- * dimension, list text and writing either have no job and count as job 0. */
+ * dimension, list text, writing either and repairing have no job and count as
+ * job 0. */
 enum { NO_JOB = 2, WHOSE };
 
 struct seen {
@@ -38,6 +39,12 @@ struct seen {
     unsigned long digits[2][3][5]; /* of the numbers of lists that are read, and of
                                     * those written, by how many each has: alone,
                                     * the first and the second of a range */
+    unsigned long namers[13]; /* nodes that came into a table, by how many that are
+                               * heard name them */
+    unsigned long across[12]; /* the same nodes, by the dimension to the lowest of
+                               * these */
+    unsigned long unheard[2]; /* nodes named by faulty ones alone, by whether they
+                               * are faulty too */
     unsigned long tables[8]; /* nodes labelled to n = 5, by the tables that they
                               * are in: 1 faults, 2 draining, 4 closed */
 };
@@ -59,5 +66,8 @@ void saw_list(struct list_question asked, uint32_t answer);
 /* `out` is what writing a text left. */
 void saw_write_list(struct write_question asked, uint32_t answer,
                     const uint8_t *out);
+/* `row` is what repairing left. */
+void saw_repair(struct repair_question asked, uint32_t answer,
+                const uint16_t *row);
 
 #endif
