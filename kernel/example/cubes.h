@@ -1,7 +1,7 @@
 /* SPDX-License-Identifier: GPL-2.0-only OR MIT */
 /*
- * The cubes whose answers the module has stored, for make_answers.c, make_notices.c and make_lists.c. They run where the
- * module is built; the module itself does not read this.
+ * The cubes whose answers the module has stored, for make_answers.c, make_notices.c, make_lists.c and make_repairs.c, and
+ * what these share. They run where the module is built; the module itself does not read this.
  */
 #ifndef CUBES_H
 #define CUBES_H
@@ -48,6 +48,28 @@ static const struct cube cubes[] = {
 };
 
 enum { CUBES = sizeof cubes / sizeof cubes[0] };
+
+/* Puts the nodes of a list into a table, beside those that are in it. */
+static inline void add_nodes(const struct list *list, uint8_t *table)
+{
+	int k;
+
+	for (k = 0; k < list->count; k++)
+		table[list->nodes[k] / 8] |= 1 << list->nodes[k] % 8;
+}
+
+/* Whether some have each of these refusals, 0 for none; says how many. */
+static inline int came_up(const char *what, const unsigned int *counts, const uint8_t *refusals, size_t count)
+{
+	int is_all = 1;
+	size_t k;
+
+	for (k = 0; k < count; k++) {
+		printf("/* refusal %d: %u %s */\n", refusals[k], counts[refusals[k]], what);
+		is_all &= counts[refusals[k]] >= 20;
+	}
+	return is_all;
+}
 
 static void print_bytes(const uint8_t *bytes, size_t count)
 {

@@ -21,11 +21,8 @@ static void print_table(const char *cube, const char *name, const uint8_t *bytes
 
 static void put_nodes(const struct list *list, uint8_t *table)
 {
-	int k;
-
 	memset(table, 0, NODES / 8);
-	for (k = 0; k < list->count; k++)
-		table[list->nodes[k] / 8] |= 1 << list->nodes[k] % 8;
+	add_nodes(list, table);
 }
 
 /* Prints the tables of the cube, and leaves its labels and the answers of labelling. */

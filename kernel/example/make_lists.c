@@ -29,11 +29,8 @@ static unsigned int answered[256], written[256]; /* how many texts and tables ha
 
 static void put_nodes(const struct cube *cube, uint8_t *table)
 {
-	int k;
-
 	memset(table, 0, TABLE_BYTES);
-	for (k = 0; k < cube->faults.count; k++)
-		table[cube->faults.nodes[k] / 8] |= 1 << cube->faults.nodes[k] % 8;
+	add_nodes(&cube->faults, table);
 }
 
 /* ---- texts that are read */
@@ -185,19 +182,6 @@ static void print_writings(const struct cube *cube)
 }
 
 /* ---- all of them */
-
-/* Whether some have each of these refusals, 0 for none; says how many. */
-static int came_up(const char *what, const unsigned int *counts, const uint8_t *refusals, size_t count)
-{
-	int is_all = 1;
-	size_t k;
-
-	for (k = 0; k < count; k++) {
-		printf("/* refusal %d: %u %s */\n", refusals[k], counts[refusals[k]], what);
-		is_all &= counts[refusals[k]] >= 20;
-	}
-	return is_all;
-}
 
 static int all_came_up(void)
 {

@@ -175,8 +175,7 @@ static void print_writings(const struct cube *cube)
 
 	put_numbers(&notice, row.values, row.count);
 	notice_len = notice.len;
-	for (k = 0; k < (size_t)cube->faults.count; k++)
-		table[cube->faults.nodes[k] / 8] |= 1 << cube->faults.nodes[k] % 8;
+	add_nodes(&cube->faults, table);
 	print_rooms(cube->n, table, len, notice_len);
 	for (k = 0; k < sizeof others / sizeof others[0]; k++)
 		print_rooms(others[k], table, len, notice_len);
@@ -188,19 +187,6 @@ static void print_writings(const struct cube *cube)
 		print_rooms(cube->n, table, len, notice_len);
 		table[0] ^= 1 << k;
 	}
-}
-
-/* Whether some have each of these refusals, 0 for none; says how many. */
-static int came_up(const char *what, const unsigned int *counts, const uint8_t *refusals, size_t count)
-{
-	int is_all = 1;
-	size_t k;
-
-	for (k = 0; k < count; k++) {
-		printf("/* refusal %d: %u %s */\n", refusals[k], counts[refusals[k]], what);
-		is_all &= counts[refusals[k]] >= 20;
-	}
-	return is_all;
 }
 
 static int all_came_up(void)

@@ -11,6 +11,7 @@
 #include "answers.h"
 #include "notices.h"
 #include "lists.h"
+#include "repairs.h"
 
 const struct hcube_cube *const hcube_stored = hcube_cubes;
 const size_t hcube_stored_count = ARRAY_SIZE(hcube_cubes);
@@ -22,6 +23,8 @@ const struct hcube_list *const hcube_lists = lists;
 const size_t hcube_list_count = ARRAY_SIZE(lists);
 const struct hcube_list_writing *const hcube_list_writings = list_writings;
 const size_t hcube_list_writing_count = ARRAY_SIZE(list_writings);
+const struct hcube_repairing *const hcube_repairings = repairings;
+const size_t hcube_repairing_count = ARRAY_SIZE(repairings);
 
 uint32_t hcube_label_stored(const struct hcube_cube *cube, uint32_t job, const struct hcube_closing *closing,
 			    uint8_t *labels)
@@ -178,5 +181,28 @@ size_t hcube_wrong_list_writings(void)
 
 	for (k = 0; k < hcube_list_writing_count; k++)
 		wrong += !hcube_list_writing_is_right(&hcube_list_writings[k]);
+	return wrong;
+}
+
+bool hcube_repairing_is_right(const struct hcube_repairing *repairing)
+{
+	uint8_t result[STORED_TABLE_BYTES];
+	uint16_t row[STORED_NUMBERS];
+
+	memset(result, HCUBE_UNTOUCHED, sizeof(result));
+	memset(row, HCUBE_UNTOUCHED, sizeof(row));
+	return hcube_repair(repairing->n, repairing->faults, repairing->faults_len, repairing->masks,
+			    repairing->masks_len, result, repairing->result_len, row, repairing->row_len) ==
+		       repairing->repaired &&
+	       memcmp(result, repairing->result, sizeof(result)) == 0 &&
+	       memcmp(row, repairing->row, sizeof(row)) == 0;
+}
+
+size_t hcube_wrong_repairings(void)
+{
+	size_t wrong = 0, k;
+
+	for (k = 0; k < hcube_repairing_count; k++)
+		wrong += !hcube_repairing_is_right(&hcube_repairings[k]);
 	return wrong;
 }

@@ -1,7 +1,7 @@
 /* SPDX-License-Identifier: GPL-2.0-only OR MIT */
 /*
- * What the module knows of the stored answers, and the comparing with them (stored.c). answers.h, notices.h and
- * lists.h have the answers; make_answers.c, make_notices.c and make_lists.c write these three.
+ * What the module knows of the stored answers, and the comparing with them (stored.c). answers.h, notices.h, lists.h and
+ * repairs.h have the answers; make_answers.c, make_notices.c, make_lists.c and make_repairs.c write these four.
  */
 #ifndef STORED_H
 #define STORED_H
@@ -13,7 +13,8 @@ enum {
 	HCUBE_UNTOUCHED = 0xaa,
 	STORED_NOTICE_BYTES = 16,
 	STORED_TEXT_BYTES = 40,
-	STORED_TABLE_BYTES = 40
+	STORED_TABLE_BYTES = 40,
+	STORED_NUMBERS = 66
 };
 
 /* The answers for one pair. The row of a refused walk keeps the byte HCUBE_UNTOUCHED. */
@@ -85,6 +86,17 @@ struct hcube_list_writing {
 	uint8_t text[STORED_TEXT_BYTES]; /* what the buffer holds then; a byte that is not written keeps HCUBE_UNTOUCHED */
 };
 
+/* A fault table and the masks of its nodes, accepted or refused, and the answer. */
+struct hcube_repairing {
+	uint32_t n;
+	uint8_t faults[STORED_TABLE_BYTES];
+	uint16_t masks[STORED_NUMBERS];
+	size_t faults_len, masks_len, result_len, row_len; /* of what is lent */
+	uint32_t repaired; /* what hcube_repair answers */
+	uint8_t result[STORED_TABLE_BYTES]; /* what these two hold then; a byte that is not written keeps HCUBE_UNTOUCHED */
+	uint16_t row[STORED_NUMBERS];
+};
+
 extern const struct hcube_cube *const hcube_stored;
 extern const size_t hcube_stored_count;
 extern const struct hcube_notice *const hcube_notices;
@@ -95,6 +107,8 @@ extern const struct hcube_list *const hcube_lists;
 extern const size_t hcube_list_count;
 extern const struct hcube_list_writing *const hcube_list_writings;
 extern const size_t hcube_list_writing_count;
+extern const struct hcube_repairing *const hcube_repairings;
+extern const size_t hcube_repairing_count;
 
 /* Ends may be one above the last node, which is refused. */
 static inline size_t hcube_pairs(const struct hcube_cube *cube)
@@ -160,5 +174,11 @@ bool hcube_list_is_right(const struct hcube_list *list);
 size_t hcube_wrong_lists(void);
 bool hcube_list_writing_is_right(const struct hcube_list_writing *writing);
 size_t hcube_wrong_list_writings(void);
+
+/* Repairs the table, and says whether the answer and every byte of result and row and behind them are as stored. */
+bool hcube_repairing_is_right(const struct hcube_repairing *repairing);
+
+/* How many of all that are repaired are not. */
+size_t hcube_wrong_repairings(void);
 
 #endif
