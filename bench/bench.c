@@ -1,7 +1,7 @@
 /*
  * bench.c: times of the archive as a ratio to the same algorithm in plain C, on
- * tables with and without draining and closed nodes, for either job; of notices;
- * and of list text.
+ * tables with and without draining and closed nodes, for either job; of notices; of
+ * list text; and of repairs.
  *
  *   bench REPETITIONS
  */
@@ -161,6 +161,28 @@ static void print_lists(void)
     print_list_row("longest text");
 }
 
+/* The same. Of 81 dead nodes the table knows 41; each is named by all its neighbours
+ * that live. */
+static void print_repairs(void)
+{
+    uint8_t dead[MOST_TABLE];
+    printf("\nrepairs\n n masks             added     repair ratio\n");
+    set_random(41, 0, 0);
+    memset(masks, 0, sizeof masks);
+    print_repair_row("none");
+    set_random(41, 40, 0);
+    for (size_t k = 0; k < sizeof dead; k++)
+        dead[k] = faults[k] | draining[k];
+    masks_of(n, dead, masks);
+    print_repair_row("of 40 that died");
+    set_dimension(12);
+    for (size_t k = 0; k < COUNT(masks); k++)
+        masks[k] = HCUBE_NODES_MAX - 1;
+    print_repair_row("all full");
+    set_random(HCUBE_NODES_MAX / 2, 0, 0);
+    print_repair_row("full, half faulty");
+}
+
 static void print_head(const char *name)
 {
     static const char *const columns[] = {"label", "hop", "walk", "why label",
@@ -192,6 +214,7 @@ int main(int count, char **words)
     print_table();
     print_notices();
     print_lists();
+    print_repairs();
     print_highest();
     return 0;
 }

@@ -1,7 +1,7 @@
 /*
  * plain.h: labelling, hop, walk, the questions that say why, writing and reading a
- * notice and list text in plain C, compiled by two compilers (gcc_, clang_); and
- * what its four files share.
+ * notice and list text, and repairing a table in plain C, compiled by two compilers
+ * (gcc_, clang_); and what its five files share.
  */
 #ifndef PLAIN_H
 #define PLAIN_H
@@ -38,7 +38,11 @@
                                 size_t out_len);                               \
     uint32_t prefix##read_list(uint32_t n, const uint8_t *text,                \
                                size_t text_len, uint8_t *faults,               \
-                               size_t faults_len);
+                               size_t faults_len);                             \
+    uint32_t prefix##repair(uint32_t n, const uint8_t *faults,                 \
+                            size_t faults_len, const uint16_t *masks,          \
+                            size_t masks_len, uint8_t *result,                 \
+                            size_t result_len, uint16_t *row, size_t row_len);
 
 DECLARE(gcc_)
 DECLARE(clang_)

@@ -1,6 +1,7 @@
 /*
  * sides.c: label, hop, walk and the questions that say why, as the archive and
- * the two C builds answer them. The notice is in notices.c, list text in lists.c.
+ * the two C builds answer them. The notice is in notices.c, list text in lists.c,
+ * repairing in repairs.c.
  */
 #include "sides.h"
 

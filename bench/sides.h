@@ -14,6 +14,7 @@
 
 extern uint32_t n, rule, job;
 extern uint8_t faults[MOST_TABLE], draining[MOST_TABLE], closed[MOST_TABLE];
+extern uint16_t masks[8 * MOST_TABLE];
 
 /* A random node of the cube. */
 uint32_t random_node(void);
@@ -24,10 +25,11 @@ void expect(int alike, const char *name);
 void expect_alike(asked *question, const char *name);
 
 /* Measures and prints a row, if the three sides answer alike: of the questions
- * about labels (sides.c), of the notice of `faults` (notices.c) and of its list
- * text (lists.c). */
+ * about labels (sides.c), of the notice of `faults` (notices.c), of its list text
+ * (lists.c) and of its repair by `masks` (repairs.c). */
 void print_row(const char *name);
 void print_notice_row(const char *name);
 void print_list_row(const char *name);
+void print_repair_row(const char *name);
 
 #endif

@@ -1,14 +1,20 @@
 /*
- * why.c: why a node has its label, and why a frame takes each of its hops, in
- * words. All of it is what the library answers; no rule is applied here.
+ * why.c: why a node has its label, why a frame takes each of its hops, and by
+ * whom a node came into a repaired table, in words. All of it is what the library
+ * answers; no rule is applied here. Of those that name a node the library tells the
+ * lowest, and the masks the others.
  *
  *   why NOTICE RULE DRAINING CLOSED X      node X, and each that its causes
  *                                          lead to, a line a node
  *   why NOTICE RULE DRAINING CLOSED S D    each hop of a frame from S to D
+ *   why NOTICE RULE DRAINING CLOSED W:I..  each node that is added by masks, of
+ *                                          which there may be many, a line a node
  *
  * NOTICE is a file with the bytes of a notice. DRAINING and CLOSED are nodes
- * with commas between them, or empty. tools/why hands these over, having seen
- * to it that numbers are numbers, and says which exit status means what.
+ * with commas between them, or empty. A mask W:I has the node, then the dimensions
+ * across which it finds a neighbour dead, with commas between them. tools/why hands
+ * these over, having seen to it that numbers are numbers, and says which exit status
+ * means what.
  */
 #include <stdio.h>
 #include <stdlib.h>
@@ -73,6 +79,11 @@ static void put_nodes(const char *what, const char *list, uint8_t *table)
     }
 }
 
+static int is_faulty(uint32_t k)
+{
+    return faults[k / 8] >> k % 8 & 1;
+}
+
 /* ---- a node, and those that its causes lead to */
 
 static uint32_t found[HCUBE_NODES_MAX], found_count; /* those asked about */
@@ -112,7 +123,7 @@ static const char *label_text(uint32_t x)
     case HCUBE_ORDINARY: return "ordinarily unsafe";
     case HCUBE_STRONG: return "strongly unsafe";
     case HCUBE_DRAINING: return "draining";
-    default: return faults[x / 8] >> x % 8 & 1 ? "faulty" : "closed";
+    default: return is_faulty(x) ? "faulty" : "closed";
     }
 }
 
@@ -224,17 +235,74 @@ static void say_frame(uint32_t s, uint32_t d)
         say_decision(hcube_row_node(row, place), d, place);
 }
 
+/* ---- a repair */
+
+static uint16_t masks[HCUBE_NODES_MAX], row[HCUBE_NODES_MAX];
+
+static void put_mask(const char *word)
+{
+    char *end;
+    unsigned long w = strtoul(word, &end, 10);
+    if (w >= HCUBE_NODES(n)) /* it has no mask */
+        expect_accepted("masks", (uint64_t)HCUBE_BAD_NODE << 24);
+    while (*end)
+        masks[w] |= (uint16_t)(1u << strtoul(end + 1, &end, 10));
+}
+
+/* Where w and k are neighbours, their numbers differ in the bit by which w would
+ * name k. */
+static int names(uint32_t w, uint32_t k)
+{
+    uint32_t apart = w ^ k;
+    return (apart & (apart - 1)) == 0 && masks[w] & apart && !is_faulty(w);
+}
+
+static void say_namers(uint32_t k)
+{
+    uint32_t namers[HCUBE_DIMENSION_MAX], count = 1;
+    namers[0] = row[k] - 1u;
+    for (uint32_t w = row[k]; w < HCUBE_NODES(n); w++)
+        if (names(w, k))
+            namers[count++] = w;
+    printf("node %u: named by", k);
+    for (uint32_t i = 0; i < count; i++)
+        printf("%s %u", i == 0 ? "" : i + 1 < count ? "," : " and", namers[i]);
+    printf("\n");
+}
+
+static void say_repair(int count, char **words)
+{
+    uint8_t result[HCUBE_FAULT_BYTES_MAX];
+    size_t bytes = HCUBE_FAULT_BYTES(n);
+    int some = 0;
+    while (count-- > 0)
+        put_mask(*words++);
+    expect_accepted("masks",
+                    hcube_repair(n, faults, bytes, masks, HCUBE_NODES(n), result,
+                                 bytes, row, HCUBE_NODES(n)));
+    for (uint32_t k = 0; k < HCUBE_NODES(n); k++)
+        if (row[k] != 0) {
+            say_namers(k);
+            some = 1;
+        }
+    if (!some)
+        printf("no node is added\n");
+}
+
 int main(int argc, char **argv)
 {
-    if (argc != 6 && argc != 7) {
-        fprintf(stderr, "why: five or six words are wanted\n");
+    int masked = argc > 5 && strchr(argv[5], ':');
+    if (argc != 6 && argc != 7 && !masked) {
+        fprintf(stderr, "why: five or six words are wanted, or masks\n");
         return 2;
     }
     read_notice(argv[1]);
     rule = (uint32_t)strtoul(argv[2], NULL, 10);
     put_nodes("draining nodes", argv[3], draining);
     put_nodes("closed nodes", argv[4], closed);
-    if (argc == 6)
+    if (masked)
+        say_repair(argc - 5, argv + 5);
+    else if (argc == 6)
         say_chain((uint32_t)strtoul(argv[5], NULL, 10));
     else
         say_frame((uint32_t)strtoul(argv[5], NULL, 10),
