@@ -41,9 +41,9 @@ use Rattle.theorems.proofs.Demand2.{demand2}
 use Rattle.theorems.proofs.Demand3.{demand3}
 use Rattle.theorems.proofs.HowLong.{how-long}
 use Rattle.theorems.proofs.TwoRules.{two-rules}
-use Rattle.promises.specs.Demands.{Demands, WellFormed}
+use Rattle.promises.specs.Demands.{Demands, LabelsTable}
 use Rattle.promises.specs.Library.{Library, rattle, c}
-use Rattle.promises.specs.Refusals.{BothHalves, HopGiven, Job, LabelGiven, NoticeGiven, Rule, WalkGiven}
+use Rattle.promises.specs.Refusals.{HopGiven, Job, LabelGiven, NoticeGiven, WalkGiven}
 use Rattle.promises.proofs.Given.{all-used, job-below, rule-bounds, table-length}
 use Rattle.promises.proofs.Library.{Faithful, rattle-faithful, c-faithful}
 use Rattle.promises.proofs.Outcomes.{answered, labels-kept}
@@ -86,12 +86,9 @@ module _ (lib : Library) (F : Faithful lib) where
       subst (TableOf n m (N.addressesOf bytes)) (sym (f .1)) (notice-laws .written bytes old n m taken (sym (f .0)))
 
   -- labelling accepts what is a table
-  pub table-labels :
-      {faults draining closed before after : List ℕ} {n rule j : ℕ} {x : Labelled} → IsTable n faults
-      → Rule rule → Job j → WellFormed n draining → WellFormed n closed → BothHalves n (length before)
-      → lib .labels (cabinet n rule faults draining closed) j before x after → (exchanges : ℕ) × (x ≡ labelled.Exchanges exchanges)
+  pub table-labels : {n : ℕ} {faults : List ℕ} → IsTable n faults → LabelsTable lib n faults
   unfolding labelBytes
-  table-labels {faults} {draining} {closed} {before} {after} {n} {rule} {j} {x} t k job drains shut long l =
+  table-labels {n} {faults} t rule j draining closed before after x k job drains shut long l =
       let K = cabinet n rule faults draining closed in (
         exchangesOf K,
         F .labels l .0
@@ -99,15 +96,6 @@ module _ (lib : Library) (F : Faithful lib) where
             (fits K j (length before) (t .dimension) (rule-bounds k) (job-below job) (t .sized) (table-length n (length draining) (drains .0))
             (table-length n (length closed) (shut .0)) (t .unused) (all-used n draining drains) (all-used n closed shut) long),
       )
-
-  notice-labels :
-      {bytes faults draining closed before after old : List ℕ} {n rule j m taken : ℕ} {x : Labelled} → lib .reads bytes old (noticed.Notice n m taken) faults
-      → Rule rule → Job j → WellFormed n draining → WellFormed n closed → BothHalves n (length before)
-      → lib .labels (cabinet n rule faults draining closed) j before x after → (exchanges : ℕ) × (x ≡ labelled.Exchanges exchanges)
-  notice-labels {bytes} {faults} {draining} {closed} {before} {after} {old} {n} {rule} {j} {m} {taken} r =
-      let d = notice-laws .accepted bytes old n m taken (sym (F .reads r .0)) .dimension in
-      let t = table r in
-      table-labels (record { dimension = d; sized = t .sized; unused = t .unused })
 
   -- a walk with the labels that labelling left is the cabinet's
   is-walk : {K : Cabinet} {j exchanges s d : ℕ} {before buffer : List ℕ} {w : Walked} → lib .labels K j before (labelled.Exchanges exchanges) buffer
@@ -220,7 +208,9 @@ module _ (lib : Library) (F : Faithful lib) where
         hop-local = λ {n} {j} {c} {d} {buffer} {buffer′} m m′ long own near. F .hops m
             ∙ ap (λ (k : ℕ). H.hopped n j c d k (labelFor n j buffer)) long
             ∙ hop-local n j c d (length buffer′) (labelFor n j buffer) (labelFor n j buffer′) own near ∙ sym (F .hops m′);
-        notice-labels = notice-labels;
+        notice-labels = λ {bytes} {faults} {old} {n} {m} {taken} r.
+            let d = notice-laws .accepted bytes old n m taken (sym (F .reads r .0)) .dimension in
+            table-labels (record { dimension = d; sized = table r .sized; unused = table r .unused });
         walks = λ m hs hd v. walks m hs hd v;
         walk-starts = λ v e. again lib F v e .starts;
         walk-steps = λ v e. steps lib F v e;

@@ -13,7 +13,6 @@ use Rattle.cube.specs.Tables.{nodeBit}
 use Rattle.cube.proofs.Bools.{clash, either, is-false, or-false}
 use Rattle.jobs.specs.Jobs.{labelFor}
 use Rattle.rule.specs.Cabinet.{Cabinet, cabinet}
-use Rattle.notice.specs.declared.Noticed.the-variants as noticed
 use Rattle.spelling.specs.Laws.{Bytes, IsTable}
 use Rattle.spelling.specs.Spelled.{noticeBytes}
 use Rattle.spelling.proofs.Laws.{spelling-laws}
@@ -24,7 +23,6 @@ use Rattle.repair.specs.Repaired.{namers, repaired}
 use Rattle.repair.specs.Repairing.{repairRefusal}
 use Rattle.repair.proofs.Laws.{repair-laws}
 use Rattle.repair.proofs.Outcomes.{Accepted, accepted, result-kept, result-long, result-made, row-kept, row-long, row-made, taken}
-use Rattle.labels.specs.declared.Labelled.the-variants as labelled
 use Rattle.walk.specs.declared.Walked.{Walked}
 use Rattle.theorems.specs.Demand3.{Walks}
 use Rattle.theorems.specs.Words.{Takes, Works, place}

@@ -42,6 +42,13 @@ use Rattle.promises.specs.Refusals.{BothHalves, Dimension, DimensionGive
 abbrev pub WellFormed : (n : ℕ) (table : List ℕ) → Type 0
 WellFormed n table = TableLength n (length table) × (¬ (Unused n table))
 
+-- labelling accepts the fault table of an n-cube: by either rule and for either job, with any tables of draining and of closed nodes that are well formed
+abbrev pub LabelsTable : (lib : Library) (n : ℕ) (faults : List ℕ) → Type 0
+LabelsTable lib n faults =
+    (rule j : ℕ) (draining closed before after : List ℕ) (x : Labelled) → Rule rule → Job j → WellFormed n draining → WellFormed n closed
+    → BothHalves n (length before) → lib .labels (cabinet n rule faults draining closed) j before x after
+    → (exchanges : ℕ) × (x ≡ labelled.Exchanges exchanges)
+
 pub record Demands (lib : Library) : Type 0 where
   -- ---- 1. No input makes it misbehave
 
@@ -101,12 +108,8 @@ pub record Demands (lib : Library) : Type 0 where
       → labelFor n j buffer c ≡ labelFor n j buffer′ c → ((i : ℕ) → i < n → labelFor n j buffer (flip i c) ≡ labelFor n j buffer′ (flip i c)) → x ≡ x′
   -- ---- 3. Walks arrive
 
-  -- labelling accepts the table that an accepted notice left, by either rule and for either job, with any tables of draining and of closed nodes that are well
-  -- formed
-  pub notice-labels :
-      {bytes faults draining closed before after old : List ℕ} {n rule j m taken : ℕ} {x : Labelled} → lib .reads bytes old (noticed.Notice n m taken) faults
-      → Rule rule → Job j → WellFormed n draining → WellFormed n closed → BothHalves n (length before)
-      → lib .labels (cabinet n rule faults draining closed) j before x after → (exchanges : ℕ) × (x ≡ labelled.Exchanges exchanges)
+  -- labelling accepts the table that an accepted notice left
+  pub notice-labels : {bytes faults old : List ℕ} {n m taken : ℕ} → lib .reads bytes old (noticed.Notice n m taken) faults → LabelsTable lib n faults
   -- with the labels that labelling left in the job's half, from a working node to one that works or drains
   pub walks :
       {K : Cabinet} {j exchanges s d : ℕ} {before buffer : List ℕ} {w : Walked} → lib .labels K j before (labelled.Exchanges exchanges) buffer

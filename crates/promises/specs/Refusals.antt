@@ -246,6 +246,5 @@ pub record Refusals : Type 1 where
   pub writing : (n : ℕ) (faults : List ℕ) (room : ℕ) → WriteGiven n faults room (T.refusalOf (T.wrote n faults room))
   pub list-reading : (n : ℕ) (text faults : List ℕ) → ReadListGiven n text (length faults) (listRefusal n text faults)
   pub list-writing : (n : ℕ) (faults : List ℕ) (room : ℕ) → WriteListGiven n faults room (T.refusalOf (wroteList n faults room))
-  pub repairing :
-      (n : ℕ) (faults masks : List ℕ) (result row : ℕ) → RepairGiven n faults masks result row (repairRefusal n faults masks result row)
+  pub repairing : (n : ℕ) (faults masks : List ℕ) (result row : ℕ) → RepairGiven n faults masks result row (repairRefusal n faults masks result row)
   pub dimension : (bytes : List ℕ) → DimensionGiven bytes (refusalIn (N.dimensionAt bytes)) (N.dimensionValue (N.dimensionAt bytes))

@@ -16,15 +16,14 @@ use Rattle.writer.specs.declared.Wrote.{Wrote}
 use Rattle.writer.specs.declared.Wrote.the-variants.{Length}
 use Rattle.repair.specs.Laws.{Holds, Lowest, NamesNode}
 use Rattle.repair.specs.Repaired.{maskOf}
-use Rattle.labels.specs.declared.Labelled.{Labelled}
 use Rattle.labels.specs.declared.Labelled.the-variants as labelled
 use Rattle.walk.specs.Walk.{rowBytes}
 use Rattle.walk.specs.declared.Walked.{Walked}
 use Rattle.theorems.specs.Demand3.{Walks}
 use Rattle.theorems.specs.Words.{Takes, Works, place}
-use Rattle.promises.specs.Demands.{WellFormed}
+use Rattle.promises.specs.Demands.{LabelsTable}
 use Rattle.promises.specs.Library.{Library}
-use Rattle.promises.specs.Refusals.{BothHalves, Job, RepairGiven, Rule, TableLength}
+use Rattle.promises.specs.Refusals.{RepairGiven, TableLength}
 
 -- handed are an old table, the masks, and a result and a row to write into; t and r are what these hold then
 pub record Repairs (lib : Library) : Type 0 where
@@ -88,11 +87,8 @@ pub record Repairs (lib : Library) : Type 0 where
   pub writes :
       {n : ℕ} {faults masks result row t r before after : List ℕ} {x : Wrote} → lib .repairs n faults masks result row 0 t r
       → 4099 ≤ length before → lib .writes n t before x after → (len : ℕ) × (x ≡ Length len)
-  -- and labelling, by either rule and for either job, with any tables of draining and of closed nodes that are well formed
-  pub labels :
-      {n rule j : ℕ} {faults masks result row t r draining closed before after : List ℕ} {x : Labelled} → lib .repairs n faults masks result row 0 t r
-      → Rule rule → Job j → WellFormed n draining → WellFormed n closed → BothHalves n (length before)
-      → lib .labels (cabinet n rule t draining closed) j before x after → (exchanges : ℕ) × (x ≡ labelled.Exchanges exchanges)
+  -- and labelling
+  pub labels : {n : ℕ} {faults masks result row t r : List ℕ} → lib .repairs n faults masks result row 0 t r → LabelsTable lib n t
   -- the chain: a notice was read, its table repaired, and the repaired cabinet labelled. Repairing is then refused only for the masks and the lent buffers,
   pub notice-repairs :
       {n m taken k : ℕ} {bytes old faults masks result row t r : List ℕ} → lib .reads bytes old (noticed.Notice n m taken) faults
