@@ -53,6 +53,20 @@ unfolding xor
 xor-not true = refl
 xor-not false = refl
 
+pub xor-turned : (a b : Bool) → xor a (not b) ≡ not (xor a b)
+unfolding xor
+xor-turned true true = refl
+xor-turned true false = refl
+xor-turned false true = refl
+xor-turned false false = refl
+
+pub xor-differ : (a b : Bool) → xor a b ≡ true → a ≡ not b
+unfolding xor
+xor-differ true true e = sym e
+xor-differ true false e = refl
+xor-differ false true e = refl
+xor-differ false false e = e
+
 -- two tests that come out alike
 pub beq-true : (a b : Bool) → Bool·beq a b ≡ true → a ≡ b
 beq-true true true e = refl
@@ -71,6 +85,16 @@ beq-yes false = refl
 pub beq-no : (b : Bool) → Bool·beq b false ≡ not b
 beq-no true = refl
 beq-no false = refl
+
+pub beq-not : (b : Bool) → Bool·beq b (not b) ≡ false
+beq-not true = refl
+beq-not false = refl
+
+pub beq-turned : (a b : Bool) → Bool·beq (not a) b ≡ Bool·beq a (not b)
+beq-turned true true = refl
+beq-turned true false = refl
+beq-turned false true = refl
+beq-turned false false = refl
 
 pub by-cases : {A : Type 0} (P : A → Type 0) (b : Bool) {x y : A} → (b ≡ true → P x) → (b ≡ false → P y) → P (cond b x y)
 by-cases P true f g = f refl

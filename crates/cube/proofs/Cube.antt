@@ -2,15 +2,15 @@
 -- "the interface" is all that the crates above use.
 use mathlib.Core.Path.{_≡_, refl, sym, ap, _∙_}
 use mathlib.Core.Logic.{_⊎_, inl, inr, _≢_}
-use mathlib.Core.Bool.{Bool, true, false, cond, not, xor, true≢false, false≢true}
-use Prim.Native.Nat.{ℕ, zero, suc, _+_, _*_, _/_, _%_, _^_, _<_}
+use mathlib.Core.Bool.{Bool, true, false, cond, not, xor, _&&_, true≢false, false≢true}
+use Prim.Native.Nat.{ℕ, zero, suc, _+_, _*_, _/_, _%_, _^_, _<_, min}
 use native.Mathlib.Omega.{arith}
 use native.Mathlib.Nat.{mod-lt, pow-suc, zero-lt-suc, mul-mod-left, mul-div-cancel, div-div-eq-div-mul, mul-comm, div-one, one-mul}
 use lib.Dec.{eqb, lit<}
 use native.Mathlib.Decide.{ℕ-discrete}
 use lib.Arith.{lt-one}
 use lib.Pow.{pow-lt, shr-shr, shl-exact}
-use lib.Bits.{bitXor, xor-shr, xor-mod, xor-lt, xor-comm, xor-self}
+use lib.Bits.{bitAnd, bitXor, and-step, xor-shr, xor-mod, xor-lt, xor-comm, xor-self}
 use lib.Count.{ones, ones-step}
 use Rattle.cube.specs.Count.{count}
 use Rattle.cube.specs.Cube.{bit, flip, apart, dist}
@@ -53,6 +53,21 @@ bit-shift m i x = rw (shr-shr x m i)
 pub bit-xor : (i x y : ℕ) → bit i (bitXor x y) ≡ xor (bit i x) (bit i y)
 unfolding bit
 bit-xor i x y = rw (xor-shr x y i) (odd-xor (x / 2 ^ i) (y / 2 ^ i))
+
+pub bit-and : (i x y : ℕ) → bit i (bitAnd x y) ≡ (bit i x && bit i y)
+bit-and zero x y = bit-low (bitAnd x y) ∙ rw (bit-low x, bit-low y) (go (parity x) (parity y))
+  where
+    low : bitAnd x y % 2 ≡ min (x % 2) (y % 2)
+    low = omega (arith, and-step x y)
+
+    go : (x % 2 ≡ 0) ⊎ (x % 2 ≡ 1) → (y % 2 ≡ 0) ⊎ (y % 2 ≡ 1) → eqb (bitAnd x y % 2) 1 ≡ (eqb (x % 2) 1 && eqb (y % 2) 1)
+    go (inl p) (inl q) = rw (low, p, q)
+    go (inl p) (inr q) = rw (low, p, q)
+    go (inr p) (inl q) = rw (low, p, q)
+    go (inr p) (inr q) = rw (low, p, q)
+bit-and (suc i) x y =
+    let h : bitAnd x y / 2 ≡ bitAnd (x / 2) (y / 2) = omega (arith, and-step x y) in
+    bit-suc i (bitAnd x y) ∙ ap (bit i) h ∙ bit-and i (x / 2) (y / 2) ∙ rw (bit-suc i x, bit-suc i y)
 
 pub bit-none : (i : ℕ) → bit i 0 ≡ false
 bit-none zero = bit-low 0

@@ -9,12 +9,13 @@ use lib.Dec.{ltb}
 use lib.ListN.{getD, length}
 use Rattle.cube.specs.Contracts.{AsksNothing, Function, Nothing}
 use Rattle.cube.proofs.Contracts.{Says}
-use Rattle.cube.specs.Count.{some}
+use Rattle.cube.specs.Count.{least, some}
 use Rattle.cube.specs.Cube.{flip}
 use Rattle.cube.specs.Tables.{highest, labelIn}
 use Rattle.jobs.specs.Jobs.{labelFor}
+use Rattle.scans.specs.Scans as scans
 use Rattle.hop.specs.Helpers as helpers
-use Rattle.hop.specs.Helpers.{gathered, placeRefusal}
+use Rattle.hop.specs.Helpers.{gathered, inSet, nearRefusal, placeRefusal}
 use Rattle.hop.specs.Hop as spec
 use Rattle.hop.specs.declared.Decision.{Decision}
 use Rattle.hop.specs.declared.Hopped.{Hopped}
@@ -23,6 +24,9 @@ use Rattle.hop.proofs.place_refusal
 use Rattle.hop.proofs.chosen as chosen-claims
 use Rattle.hop.proofs.gather as gather-claims
 use Rattle.hop.proofs.hop_at
+use Rattle.hop.proofs.last_hop
+use Rattle.hop.proofs.lowest as lowest-claims
+use Rattle.hop.proofs.near_refusal
 
 abbrev pub hop : Function hop-claims.ended (ℕ × ℕ × ℕ × ℕ × List ℕ) Hopped Nothing
 hop =
@@ -57,6 +61,23 @@ place-refusal-asks = record { asked = λ κs a. tt; empty = λ w κs a. (tt, ref
 
 pub place-refusal-says : Says place-refusal (λ i. placeRefusal (i .0) (i .1) (i .2) (i .3) (i .4) (i .5)) (λ i. tt)
 place-refusal-says = record { says = λ κs a r e p. (p, refl) }
+
+abbrev pub near-refusal : Function near_refusal.ended (ℕ × ℕ × ℕ × Bool) ℕ Nothing
+near-refusal =
+    record {
+      clauses = λ w. near_refusal.clauses (w .𝓤) (w .H) (w .𝓖 .A) (w .𝓜 .mem) (w .𝓡 .run);
+      asked = near_refusal.Reads.Asked;
+      post = near_refusal.Reads.Post;
+      handed = λ κs a. (a .0, a .1 .0, a .1 .1 .0, a .1 .1 .1 .0);
+      answered = λ κs r. r;
+      left = λ κs e. tt;
+    }
+
+pub near-refusal-asks : AsksNothing near-refusal
+near-refusal-asks = record { asked = λ κs a. tt; empty = λ w κs a. (tt, refl) }
+
+pub near-refusal-says : Says near-refusal (λ i. nearRefusal (i .0) (i .1) (i .2) (i .3)) (λ i. tt)
+near-refusal-says = record { says = λ κs a r e p. (p, refl) }
 
 abbrev pub hop-at : Function hop_at.ended (ℕ × ℕ × ℕ × List ℕ) Decision Nothing
 hop-at =
@@ -101,3 +122,33 @@ chosen =
 
 pub chosen-says : Says chosen (λ i. helpers.chosen (i .0) (i .1) (i .2) (i .3) (λ k. getD (i .4) k 0)) (λ i. tt)
 chosen-says = record { says = λ κs a r e p. (p, refl) }
+
+-- handed the dimension, a set of dimensions, the labels across them and the highest that will do
+abbrev pub lowest : Function lowest-claims.ended (ℕ × ℕ × List ℕ × ℕ) ℕ Nothing
+lowest =
+    record {
+      clauses = λ w. lowest-claims.clauses (w .𝓤) (w .H) (w .𝓖 .A) (w .𝓜 .mem) (w .𝓡 .run);
+      asked = lowest-claims.Reads.Asked;
+      post = lowest-claims.Reads.Post;
+      handed = λ κs a. (a .0, a .1 .0, now (a .1 .1 .0), a .1 .1 .1 .0);
+      answered = λ κs r. r;
+      left = λ κs e. tt;
+    }
+
+pub lowest-says : Says lowest (λ i. least (i .0) (inSet (i .1) (λ k. getD (i .2) k 0) (i .3))) (λ i. tt)
+lowest-says = record { says = λ κs a r e p. (p, refl) }
+
+-- handed the dimension, both nodes and the labels of the first's neighbours
+abbrev pub last-hop : Function last_hop.ended (ℕ × ℕ × ℕ × List ℕ) ℕ Nothing
+last-hop =
+    record {
+      clauses = λ w. last_hop.clauses (w .𝓤) (w .H) (w .𝓖 .A) (w .𝓜 .mem) (w .𝓡 .run);
+      asked = last_hop.Reads.Asked;
+      post = last_hop.Reads.Post;
+      handed = λ κs a. (a .0, a .1 .0, a .1 .1 .0, now (a .1 .1 .1 .0));
+      answered = λ κs r. r;
+      left = λ κs e. tt;
+    }
+
+pub last-hop-says : Says last-hop (λ i. scans.lowest (i .0) (i .1) (i .2) 0 (λ k. getD (i .3) k 0) 0) (λ i. tt)
+last-hop-says = record { says = λ κs a r e p. (p, refl) }

@@ -59,6 +59,15 @@ module _ (n c d own : ℕ) (near : ℕ → ℕ) where
         omega (arith, leb-true 4 (near i) (l .0), leb-true (near i) 4 (l .1)),
       )
 
+  -- so what it finds leads to d, and where it finds nothing no draining d is next door
+  pub last-hits : lowest n c d own near 0 < n → flip (lowest n c d own near 0) c ≡ d
+  unfolding lowest
+  last-hits l = suits-last (least n (takes c d own near 0)) (the-least n (takes c d own near 0) .hit l) .0
+
+  pub last-misses : n ≤ lowest n c d own near 0 → (i : ℕ) → i < n → flip i c ≡ d → near i ≢ 4
+  unfolding lowest
+  last-misses l i h e q = clash (last-suits i e q) (the-least n (takes c d own near 0) .before i (omega arith))
+
   module _ (i : ℕ) (f : LowestOf n (bitXor c d) i) where
     pub last-taken : flip i c ≡ d → near i ≡ 4 → i ≡ lowest n c d own near 0
     unfolding lowest apart

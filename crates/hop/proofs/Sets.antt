@@ -156,7 +156,7 @@ module _ (n x : ℕ) (near : ℕ → ℕ) (t : ℕ) where
 
 -- ---- the sets of the scans: the forward dimensions are the bits of the exclusive or, the spare ones the other bits below n
 
-full : (n i : ℕ) → i < n → bit i (2 ^ n - 1) ≡ true
+pub full : (n i : ℕ) → i < n → bit i (2 ^ n - 1) ≡ true
 full zero i h = absurd (omega arith)
 full (suc n) zero h = bit-low (2 ^ suc n - 1) ∙ eq-eqb ((2 ^ suc n - 1) % 2) 1 (omega (arith, pow-suc 2 n, pow-pos n))
 full (suc n) (suc i) h =

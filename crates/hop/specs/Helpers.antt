@@ -10,7 +10,7 @@ use Rattle.cube.specs.Refusal.{Test, first, _⇒_}
 use Rattle.cube.specs.Tables.{tab}
 use Rattle.jobs.specs.Jobs.{Halved}
 use Rattle.scans.specs.Scans.{firstScan, lowest, noScan}
-use Rattle.hop.specs.Hop.{nodeTests, sizeTests}
+use Rattle.hop.specs.Hop.{labelTests, nodeTests, sizeTests}
 use Rattle.hop.specs.declared.Decision.{Decision}
 use Rattle.hop.specs.declared.Decision.the-variants.{Hop, Halted}
 
@@ -35,6 +35,11 @@ pub record Placed (n a b m : ℕ) : Type 0 where
   pub sized : m ≡ 2 ^ n
   pub first : a < 2 ^ n
   pub second : b < 2 ^ n
+
+-- ---- those that the labels give
+
+unfoldable pub nearRefusal : (c d own : ℕ) (high : Bool) → ℕ
+nearRefusal c d own high = first (labelTests c d own high)
 
 -- ---- the decision
 

@@ -2,7 +2,7 @@
 -- The decision is a function of n, c, d, c's own label and the labels of its n neighbours, and of nothing else: `hop` takes these from the labels
 -- of all nodes. The question `hopped` is asked for a job of any label buffer: m is the buffer's length, j the job, and lab x the byte of node x in the
 -- job's half.
-use mathlib.Core.Bool.{cond, not, _&&_, _||_}
+use mathlib.Core.Bool.{Bool, cond, not, _&&_, _||_}
 use mathlib.Core.List.{List, [], _∷_, _++_}
 use Prim.Native.Nat.{ℕ, _^_}
 use lib.Dec.{eqb, leb, ltb}
@@ -32,24 +32,29 @@ hop n lab c d = decide n c d (lab c) (λ i. lab (flip i c))
 
 -- ---- the question
 
--- its refusals, by parts: of the dimension, the job and a label buffer of m bytes; of two nodes; of c's label and those of its neighbours: at a faulty
--- node nothing is decided, and at a draining one only that what is addressed to it has arrived
-abbrev pub sizeTests : (n j m : ℕ) → List Test
-sizeTests n j m =
-    not (isDimension n) ⇒ 1
-    ∷ not (isJob j) ⇒ 19
+-- its refusals, by parts: of the dimension, the job and a label buffer of m bytes; of two nodes; of c's label and those of its neighbours, of which one may be
+-- above the highest: at a faulty node nothing is decided, and at a draining one only that what is addressed to it has arrived
+abbrev pub jobTests : (n j m : ℕ) → List Test
+jobTests n j m =
+    not (isJob j) ⇒ 19
     ∷ not (eqb m (labelBytes n)) ⇒ 2
     ∷ []
+
+abbrev pub sizeTests : (n j m : ℕ) → List Test
+sizeTests n j m = not (isDimension n) ⇒ 1 ∷ jobTests n j m
 
 abbrev pub nodeTests : (n a b : ℕ) → List Test
 nodeTests n a b = (leb (2 ^ n) a || leb (2 ^ n) b) ⇒ 5 ∷ []
 
-abbrev pub nearTests : (n c d own : ℕ) (near : ℕ → ℕ) → List Test
-nearTests n c d own near =
-    (ltb highest own || some n (λ i. ltb highest (near i))) ⇒ 4
+abbrev pub labelTests : (c d own : ℕ) (high : Bool) → List Test
+labelTests c d own high =
+    (ltb highest own || high) ⇒ 4
     ∷ eqb own 3 ⇒ 6
     ∷ (eqb own 4 && not (eqb c d)) ⇒ 6
     ∷ []
+
+abbrev pub nearTests : (n c d own : ℕ) (near : ℕ → ℕ) → List Test
+nearTests n c d own near = labelTests c d own (some n (λ i. ltb highest (near i)))
 
 -- and in order: 1, 19, 2, 5, 4, 6
 abbrev pub hopTests : (n j c d m : ℕ) (lab : ℕ → ℕ) → List Test

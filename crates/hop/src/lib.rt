@@ -1,11 +1,11 @@
 // One hop: the decision at a node, for a job. `hop` is the question: it takes any numbers and bytes, and tests them. What reads labels is handed the job's
-// half alone. `place_refusal` and `hop_at` are lent to the walk, which tests that half once; `place_refusal`, `gather` and `chosen` to the crate why, which says
-// which scan took a hop. The other functions are theirs.
+// half alone. `place_refusal` and `hop_at` are lent to the walk, which tests that half once; `place_refusal`, `near_refusal`, `gather` and `chosen` to the crate
+// why, which says which scan took a hop; `near_refusal`, `gather`, `lowest` and `last_hop` to the hop by networks. The other functions are theirs.
 ghost use Prim.Native.Nat.{_+_, _*_, _<_, _≤_, _^_};
 ghost use Rattle.cube.specs.Count.{least, some};
 ghost use Rattle.cube.specs.Cube.{flip};
 ghost use Rattle.cube.specs.Tables.{highest, labelIn};
-ghost use Rattle.hop.specs.Helpers.{Placed, across, chosen, gathered, inSet, placeRefusal};
+ghost use Rattle.hop.specs.Helpers.{Placed, across, chosen, gathered, inSet, nearRefusal, placeRefusal};
 ghost use Rattle.hop.specs.Hop as spec;
 ghost use Rattle.jobs.specs.Jobs.{labelFor};
 ghost use Rattle.scans.specs.Scans as scans;
@@ -21,7 +21,7 @@ use jobs::half;
 use jobs::is_job;
 use jobs::label_bytes;
 
-pub const DRAINING: u8 = 4; // the label of a draining node
+const DRAINING: u8 = 4; // the label of a draining node
 
 const NO_SCAN: usize = 6; // the scans are 0 to 5
 
@@ -102,7 +102,7 @@ pub fn gather(n: usize, labels: &[u8], c: usize, near: &mut [u8; 12]) -> bool
 
 // The lowest dimension of a set whose neighbour's label is at most top; n where there is none. The bits of a number are the set's dimensions:
 // its trailing zeros give the lowest of them, and `rest & (rest - 1)` is the rest without it.
-fn lowest(n: usize, set: usize, near: &[u8; 12], top: u8) -> usize
+pub fn lowest(n: usize, set: usize, near: &[u8; 12], top: u8) -> usize
     requires { ⌜ (n ≤ 12) × (set < 2 ^ n) ⌝ }
     ensures { λ r. ⌜ r ≡ least n (inSet set (λ i. getD (now (near .entry)) i 0) top) ⌝ }
 {
@@ -118,7 +118,7 @@ fn lowest(n: usize, set: usize, near: &[u8; 12], top: u8) -> usize
 }
 
 // The hop before the scans: to d itself, where only one dimension is forward, so that d is the neighbour across it, and d drains. n where it is not so.
-fn last_hop(n: usize, c: usize, d: usize, near: &[u8; 12]) -> usize
+pub fn last_hop(n: usize, c: usize, d: usize, near: &[u8; 12]) -> usize
     requires { ⌜ (n ≤ 12) × (c < 2 ^ n) × (d < 2 ^ n) × (c ≢ d) ⌝ }
     ensures { λ r. ⌜ r ≡ scans.lowest n c d 0 (λ i. getD (now (near .entry)) i 0) 0 ⌝ }
 {
@@ -197,6 +197,22 @@ fn across(picked: usize) -> Decision
     Decision::Halted
 }
 
+// The refusals that the labels give of c and its neighbours, 0 for none: own is c's label, and high says that a neighbour's is above the highest.
+pub fn near_refusal(c: usize, d: usize, own: u8, high: bool) -> u32
+    ensures { λ r. ⌜ r ≡ nearRefusal c d own high ⌝ }
+{
+    if (HIGHEST < own) | high {
+        return 4;
+    }
+    if own == 3 {
+        return 6;
+    }
+    if (own == DRAINING) & (c != d) {
+        return 6;
+    }
+    0
+}
+
 // The decision at c on the way to d, for a job. Of the job's half it reads c's label and each neighbour's once, and no other byte.
 pub fn hop(n: usize, job: usize, c: usize, d: usize, labels: &[u8]) -> Hopped
     ensures { λ r. ⌜ r ≡ spec.hopped n job c d (length (now (labels .entry))) (labelFor n job (now (labels .entry))) ⌝ }
@@ -209,14 +225,9 @@ pub fn hop(n: usize, job: usize, c: usize, d: usize, labels: &[u8]) -> Hopped
     let own = table[c];
     let mut near = [0u8; 12];
     let high = gather(n, table, c, &mut near);
-    if (HIGHEST < own) | high {
-        return Hopped::Refused(4);
-    }
-    if own == 3 {
-        return Hopped::Refused(6);
-    }
-    if (own == DRAINING) & (c != d) {
-        return Hopped::Refused(6);
+    let by_labels = near_refusal(c, d, own, high);
+    if by_labels != 0 {
+        return Hopped::Refused(by_labels);
     }
     if c != d {
         return Hopped::Decided(across(chosen(n, c, d, own, &near)));

@@ -23,11 +23,11 @@ side c d i =
     ⊎-elim (λ (a : apart i c d ≡ true). inl (apart-differ i c d a)) (λ (a : apart i c d ≡ false). inr (apart-agree i c d a)) (either (apart i c d))
 
 module _ (lab : ℕ → ℕ) (d x : ℕ) where
-  rank-near : dist x d ≤ 1 → rank lab d x ≡ dist x d
+  pub rank-near : dist x d ≤ 1 → rank lab d x ≡ dist x d
   unfolding rank
   rank-near h = rw (le-leb (dist x d) 1 h)
 
-  rank-far : 1 < dist x d → rank lab d x ≡ dist x d + 2 * lab x
+  pub rank-far : 1 < dist x d → rank lab d x ≡ dist x d + 2 * lab x
   unfolding rank
   rank-far h = rw (lt-leb (dist x d) 1 h)
 

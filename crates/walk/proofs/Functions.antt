@@ -7,10 +7,13 @@ use denote.Ref.{now}
 use lib.ListN.{length}
 use Rattle.cube.specs.Contracts.{AsksNothing, Function, Nothing}
 use Rattle.cube.proofs.Contracts.{Says}
+use Rattle.cube.specs.Tables.{labelIn}
 use Rattle.jobs.specs.Jobs.{labelFor}
+use Rattle.walk.specs.Helpers.{tableRefusal}
 use Rattle.walk.specs.Walk.{rowBytes, walked}
 use Rattle.walk.specs.declared.Walked.{Walked}
 use Rattle.walk.proofs.walk as walk-claims
+use Rattle.walk.proofs.table_refusal
 use Rattle.walk.proofs.walk_for
 
 abbrev pub walk : Function walk-claims.ended (ℕ × ℕ × ℕ × ℕ × List ℕ) Walked Nothing
@@ -46,3 +49,18 @@ walk-for-asks = record { asked = λ κs a. tt; empty = λ w κs a. (tt, refl) }
 
 pub walk-for-says : Says walk-for (λ i. walked (i .0) (i .1) (i .2) (i .3) (length (i .4)) (i .5) (labelFor (i .0) (i .1) (i .4))) (λ i. tt)
 walk-for-says = record { says = λ κs a r e p. (p, refl) }
+
+-- handed the dimension, both nodes and the labels
+abbrev pub table-refusal : Function table_refusal.ended (ℕ × ℕ × ℕ × List ℕ) ℕ Nothing
+table-refusal =
+    record {
+      clauses = λ w. table_refusal.clauses (w .𝓤) (w .H) (w .𝓖 .A) (w .𝓜 .mem) (w .𝓡 .run);
+      asked = table_refusal.Reads.Asked;
+      post = table_refusal.Reads.Post;
+      handed = λ κs a. (a .0, a .1 .0, a .1 .1 .0, now (a .1 .1 .1 .0));
+      answered = λ κs r. r;
+      left = λ κs e. tt;
+    }
+
+pub table-refusal-says : Says table-refusal (λ i. tableRefusal (i .0) (i .1) (i .2) (labelIn (i .3))) (λ i. tt)
+table-refusal-says = record { says = λ κs a r e p. (p, refl) }

@@ -1,5 +1,5 @@
 // The walk of a job: a message is moved by hops until a decision is no hop. `walk` and `walk_for` are the questions: they take any numbers and bytes, and
-// test them. The other functions are theirs, and what reads labels is handed the job's half alone.
+// test them. The other functions are theirs, and what reads labels is handed the job's half alone; `table_refusal` is lent to the walk by networks too.
 ghost use Prim.Native.Nat.{_<_};
 ghost use Rattle.cube.specs.Count.{larger, largest};
 ghost use Rattle.cube.specs.Tables.{labelIn};
@@ -125,7 +125,7 @@ fn largest(labels: &[u8]) -> u8
 }
 
 // The refusals that the labels give, 0 for none.
-fn table_refusal(n: usize, s: usize, d: usize, labels: &[u8]) -> u32
+pub fn table_refusal(n: usize, s: usize, d: usize, labels: &[u8]) -> u32
     requires { ⌜ Placed n s d (length (now labels)) ⌝ }
     ensures { λ r. ⌜ r ≡ tableRefusal n s d (labelIn (now (labels .entry))) ⌝ }
 {

@@ -16,13 +16,12 @@ ghost use lib.Dec.{leb};
 ghost use lib.ListN.{length};
 ghost use mathlib.Core.Path.{_≡_};
 use causes::Cause;
-use cube::HIGHEST;
 use cube::neighbour;
 use cube::nodes;
-use hop::DRAINING;
 use hop::NO_CHOICE;
 use hop::chosen;
 use hop::gather;
+use hop::near_refusal;
 use hop::place_refusal;
 use jobs::half;
 use labels::label_refusal;
@@ -266,14 +265,9 @@ pub fn why_hop(n: usize, job: usize, c: usize, d: usize, labels: &[u8]) -> HopRe
     let own = table[c];
     let mut near = [0u8; 12];
     let high = gather(n, table, c, &mut near);
-    if (HIGHEST < own) | high {
-        return HopReason::Refused(4);
-    }
-    if own == 3 {
-        return HopReason::Refused(6);
-    }
-    if (own == DRAINING) & (c != d) {
-        return HopReason::Refused(6);
+    let by_labels = near_refusal(c, d, own, high);
+    if by_labels != 0 {
+        return HopReason::Refused(by_labels);
     }
     if c != d {
         return taken(chosen(n, c, d, own, &near));

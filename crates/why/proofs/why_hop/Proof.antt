@@ -5,13 +5,12 @@ use mathlib.Core.List.{List}
 use Prim.Native.Nat.{ℕ, _^_}
 use native.Mathlib.Omega.{arith}
 use borrow.Author.Needs.{needs}
-use borrow.Author.Tests.{eq-eqb, ne-eqb}
 use lib.ListN.{length}
 use Rattle.cube.specs.Cube.{flip}
 use Rattle.cube.specs.Refusal.{first}
 use Rattle.cube.specs.Tables.{labelIn}
 use Rattle.jobs.specs.Jobs.{half}
-use Rattle.hop.specs.Helpers.{Asked, Placed}
+use Rattle.hop.specs.Helpers.{Asked, Placed, nearRefusal}
 use Rattle.hop.specs.Hop.{hopRefusal, nearTests}
 use Rattle.hop.proofs.Gathered.{chosen-is}
 use Rattle.hop.proofs.Refusals.{half-placed, hop-misplaced, hop-placed, placed}
@@ -30,8 +29,8 @@ start c = c .before .before .before
 abbrev halved-at : tie.After-gather → tie.After-half
 halved-at c = c .before .before .before
 
-abbrev gathered-at : tie.Else4 → tie.After-gather
-gathered-at c = c .before .before .before
+abbrev gathered-at : tie.Else2 → tie.After-gather
+gathered-at c = c .before .before
 
 -- the job's half, as the specification takes it from the buffer and as the code has it
 abbrev own-half : tie.After-half → List ℕ
@@ -81,44 +80,30 @@ shared-slice-read-own c = omega (arith, good (c .before))
 gather-requires : tie.Need-gather-requires
 gather-requires c κs = let g = good (c .before .before) in (g .small, g .first, g .sized, refl)
 
+near-refusal-requires : tie.Need-near-refusal-requires
+near-refusal-requires c κs = search needs
+
+-- what the labels gathered refuse
+by-labels : (c : tie.After-near-refusal) → let h = halved-at (c .before) in refusal-by h (table h) ≡ c .near-refusal .result
+unfolding labelIn nearRefusal
+by-labels c = near-is (halved-at (c .before)) ∙ sym (rw (c .before .gather .ensures .1) at (c .near-refusal .ensures))
+
 returns-2 : tie.Need-returns-2
-unfolding labelIn first
-returns-2 c =
-    let h = halved-at (c .before) in
-    refuses h 4 (λ z. omega arith) (near-is h ∙ rw (rw (c .before .gather .ensures .1) at (c .if2 .taken)))
+returns-2 c = refuses (halved-at (c .before .before)) _ (c .if2 .taken) (by-labels (c .before))
 
-returns-3 : tie.Need-returns-3
-unfolding labelIn first
-returns-3 c =
-    let g = c .before .before in
-    let h = halved-at g in
-    refuses h 6 (λ z. omega arith) (near-is h ∙ rw (rw (g .gather .ensures .1) at (c .before .if2 .left), eq-eqb _ _ (c .if3 .taken)))
-
-returns-4 : tie.Need-returns-4
-unfolding labelIn first
-returns-4 c =
-    let e = c .before in
-    let g = e .before .before in
-    let h = halved-at g in
-    refuses h 6 (λ z. omega arith)
-    (near-is h ∙ rw (rw (g .gather .ensures .1) at (e .before .if2 .left), ne-eqb _ _ (e .if3 .left), c .if4 .taken))
-
--- past the fourth test nothing is refused
-nothing : (c : tie.Else4) → let h = halved-at (gathered-at c) in refusal-by h (table h) ≡ 0
-unfolding labelIn first
-nothing c =
-    let g = gathered-at c in
-    near-is (halved-at g) ∙ rw (rw (g .gather .ensures .1) at (c .before .before .if2 .left), ne-eqb _ _ (c .before .if3 .left), c .if4 .left)
+-- past the second test nothing is refused
+nothing : (c : tie.Else2) → let h = halved-at (gathered-at c) in refusal-by h (table h) ≡ 0
+nothing c = by-labels (c .before) ∙ c .if2 .left
 
 chosen-requires : tie.Need-chosen-requires
-chosen-requires c κs = let g = good (halved-at (gathered-at (c .before .before))) in (g .small, g .first, g .second, c .before .if5 .taken)
+chosen-requires c κs = let g = good (halved-at (gathered-at (c .before .before))) in (g .small, g .first, g .second, c .before .if3 .taken)
 
 taken-requires : tie.Need-taken-requires
 taken-requires c κs = search needs
 
-returns-5 : tie.Need-returns-5
+returns-3 : tie.Need-returns-3
 unfolding labelIn
-returns-5 c =
+returns-3 c =
     let far = c .before .before .before in
     let g = gathered-at (far .before) in
     let h = halved-at g in
@@ -126,12 +111,12 @@ returns-5 c =
     let p = good h in
     let picked = c .before .chosen .ensures ∙ chosen-is _ lab _ _ (p .small) (g .gather .ensures .0) _ in
     answers h _
-    (c .taken .ensures ∙ taken-is _ _ _ _ _ lab (nothing (far .before)) (p .small) (p .first) (p .second) (far .if5 .taken) _ picked)
+    (c .taken .ensures ∙ taken-is _ _ _ _ _ lab (nothing (far .before)) (p .small) (p .first) (p .second) (far .if3 .taken) _ picked)
 
-returns-6 : tie.Need-returns-6
-returns-6 c =
+returns-4 : tie.Need-returns-4
+returns-4 c =
     let h = halved-at (gathered-at (c .before)) in
-    answers h _ (delivers-is _ _ _ _ _ _ (nothing (c .before)) (c .if5 .left))
+    answers h _ (delivers-is _ _ _ _ _ _ (nothing (c .before)) (c .if3 .left))
 
 pub why-hop-spec : {M : Type 1} → statement M
 why-hop-spec =
@@ -142,10 +127,9 @@ why-hop-spec =
     half-requires
     shared-slice-read-own
     gather-requires
+    near-refusal-requires
     returns-2
-    returns-3
-    returns-4
     chosen-requires
     taken-requires
-    returns-5
-    returns-6)
+    returns-3
+    returns-4)
