@@ -1,0 +1,14 @@
+pub mod Phases
+pub mod Blocks
+pub mod Picks
+pub mod Calls
+pub mod Figure
+pub mod Rising
+pub mod Turns
+pub mod Aside
+pub mod Ahead
+pub mod Progress
+pub mod Arrival
+pub mod Board
+pub mod Laws
+pub mod Worked
