@@ -1,0 +1,7 @@
+pub mod Turning
+pub mod Calling
+pub mod Deciding
+pub mod Refusals
+pub mod Local
+pub mod Outcomes
+pub mod Functions

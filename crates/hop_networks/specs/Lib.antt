@@ -1,0 +1,3 @@
+pub mod Hopping
+pub mod Local
+pub mod Helpers

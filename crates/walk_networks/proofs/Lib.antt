@@ -1,0 +1,5 @@
+pub mod Steps
+pub mod Refusals
+pub mod Local
+pub mod Outcomes
+pub mod Functions
