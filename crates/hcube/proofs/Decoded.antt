@@ -7,7 +7,7 @@ use Prim.Native.Nat.{ℕ, _+_, _*_, _/_, _%_, _<_}
 use native.Mathlib.Omega.{arith}
 use lib.Dec.{eqb, leb}
 use lib.ListN.{getD, length}
-use borrow.Author.Tests.{eqb-false, eqb-true, ne-eqb}
+use borrow.Author.Tests.{eqb-false, eqb-true}
 use Rattle.cube.specs.Tables.{tab}
 use Rattle.cube.proofs.Bools.{by-cases}
 use Rattle.cube.proofs.Front.{getD-tab, tab-cong}
@@ -16,10 +16,6 @@ use Rattle.jobs.specs.Jobs.{labelFor}
 use Rattle.rule.specs.Cabinet.{Cabinet, exchangesOf}
 use Rattle.labels.specs.Labelling as L
 use Rattle.labels.specs.declared.Labelled.the-variants as labelled
-use Rattle.hop.specs.Hop as H
-use Rattle.hop.specs.declared.Decision.{Decision}
-use Rattle.hop.specs.declared.Decision.the-variants.{Deliver, Hop, Halted}
-use Rattle.hop.specs.declared.Hopped.the-variants as hopped
 use Rattle.walk.specs.Walk as W
 use Rattle.walk.specs.declared.Ending.{Ending}
 use Rattle.walk.specs.declared.Ending.the-variants as ending
@@ -28,7 +24,6 @@ use Rattle.walk.proofs.Local.{spot-lt}
 use Rattle.walk.proofs.Refusals.{walk-good}
 use Rattle.hcube.specs.Answers.{
   hasRow,
-  hopNumber,
   labelNumber,
   packed,
   rowAfter,
@@ -39,9 +34,7 @@ use Rattle.hcube.specs.Answers.{
 use Rattle.hcube.specs.Fits.{WalkFits}
 use Rattle.hcube.specs.Decoded.{
   Decodes,
-  decisionFrom,
   endingFrom,
-  hoppedFrom,
   kindPart,
   labelledFrom,
   nodeAt,
@@ -50,17 +43,10 @@ use Rattle.hcube.specs.Decoded.{
   walkedFrom,
 }
 use Rattle.hcube.proofs.DecodedNotices.{dimension-decoded, list-decoded, list-refused, notice-decoded, repair-refused, written-decoded}
+use Rattle.hcube.proofs.DecodedHops.{channels-decoded, hop-decoded, hop-networks-decoded, walk-networks-decoded}
 use Rattle.hcube.proofs.DecodedReasons.{hop-reason-decoded, node-reason-decoded}
-use Rattle.hcube.proofs.Parts.{cut, kind-is, refusal-is, value-is}
-use Rattle.hcube.proofs.Small.{HopFits, LabelFits, has-row, hop-small, label-small, walk-small, written}
-
--- ---- the choice by a number's refusal
-
-accepted : {A : Type 0} (x : A) (y : ℕ → A) (k : ℕ) → k ≡ 0 → cond (eqb k 0) x (y k) ≡ x
-accepted x y k e = rw e
-
-refused : {A : Type 0} (x : A) (y : ℕ → A) (k j : ℕ) → k ≡ j → (j ≡ 0 → ⊥) → cond (eqb k 0) x (y k) ≡ y j
-refused x y k j e h = rw (e, ne-eqb j 0 h)
+use Rattle.hcube.proofs.Parts.{accepted, cut, kind-is, refusal-is, refused, value-is}
+use Rattle.hcube.proofs.Small.{LabelFits, has-row, label-small, walk-small, written}
 
 -- ---- labelling
 
@@ -78,39 +64,6 @@ module _ (K : Cabinet) (j m : ℕ) where
       (λ e f. refused (labelled.Exchanges (valuePart (packed label-k 0 0))) labelled.Refused (refusalPart (packed label-k 0 0)) label-k
       (refusal-is label-k 0 0 (f .0) (omega arith) (omega arith)) (eqb-false label-k 0 e))
       (label-small K j m)
-
--- ---- the hop
-
-decision-decoded : (x : Decision) → H.decisionValue x < 65536
-    → decisionFrom (kindPart (packed 0 (H.decisionKind x) (H.decisionValue x))) (valuePart (packed 0 (H.decisionKind x) (H.decisionValue x))) ≡ x
-decision-decoded Deliver h = refl
-decision-decoded (Hop i) h = rw (kind-is 0 1 i (omega arith) h) (ap Hop (value-is 0 1 i h))
-decision-decoded Halted h = refl
-
-kind-small : (x : Decision) → H.decisionKind x < 256
-kind-small Deliver = omega arith
-kind-small (Hop i) = omega arith
-kind-small Halted = omega arith
-
-module _ (n j c d m : ℕ) (lab : ℕ → ℕ) where
-  abbrev hop-k : ℕ
-  hop-k = H.hopRefusal n j c d m lab
-
-  abbrev x : Decision
-  x = H.hop n lab c d
-
-  abbrev number : ℕ
-  number = packed 0 (H.decisionKind x) (H.decisionValue x)
-
-  hop-decoded : hoppedFrom (hopNumber (H.hopped n j c d m lab)) ≡ H.hopped n j c d m lab
-  unfolding H.hopped hoppedFrom
-  hop-decoded =
-      by-cases (λ a. HopFits a → hoppedFrom (hopNumber a) ≡ a) (eqb hop-k 0)
-      (λ _ f. accepted (hopped.Decided (decisionFrom (kindPart number) (valuePart number))) hopped.Refused (refusalPart number)
-      (refusal-is 0 (H.decisionKind x) (H.decisionValue x) (omega arith) (kind-small x) (f .1)) ∙ ap hopped.Decided (decision-decoded x (f .1)))
-      (λ e f. refused (hopped.Decided (decisionFrom (kindPart (packed hop-k 0 0)) (valuePart (packed hop-k 0 0)))) hopped.Refused
-      (refusalPart (packed hop-k 0 0)) hop-k (refusal-is hop-k 0 0 (f .0) (omega arith) (omega arith)) (eqb-false hop-k 0 e))
-      (hop-small n j c d m lab)
 
 -- ---- the walk
 
@@ -207,6 +160,9 @@ decodes =
       label = label-decoded;
       hop = hop-decoded;
       walk = walk-decoded;
+      hop-networks = hop-networks-decoded;
+      walk-networks = walk-networks-decoded;
+      channels = channels-decoded;
       why-node = node-reason-decoded;
       why-hop = hop-reason-decoded;
       dimension = dimension-decoded;

@@ -1,8 +1,8 @@
 -- A reason comes out of its number as it was put in. A node's label tells the cases apart, and of an unsafe node the number of its cause and the rule.
-use mathlib.Core.Path.{_≡_, refl, sym, ap, _∙_}
-use Prim.Native.Nat.{ℕ, _+_, _*_, _^_, _≤_, _<_}
+use mathlib.Core.Path.{_≡_, refl, ap, _∙_}
+use Prim.Native.Nat.{ℕ, _+_, _*_, _≤_, _<_}
 use native.Mathlib.Omega.{arith}
-use lib.Dec.{eqb, leb}
+use lib.Dec.{eqb}
 use borrow.Author.Tests.{eqb-false, eqb-true, le-leb, lt-leb, ne-eqb}
 use Rattle.cube.proofs.Bools.{by-cases}
 use Rattle.rule.specs.Cabinet.{Cabinet}

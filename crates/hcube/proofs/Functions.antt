@@ -42,6 +42,7 @@ use Rattle.hcube.proofs.hcube_write_notice
 use Rattle.hcube.proofs.hcube_read_list
 use Rattle.hcube.proofs.hcube_write_list
 use Rattle.hcube.proofs.hcube_repair
+pub use Rattle.hcube.proofs.NetworkFunctions.{hop-networks, hop-networks-asks, hop-networks-says, walk-networks, walk-networks-asks, walk-networks-says}
 
 abbrev pub label : Function hcube_label.ended (ℕ × ℕ × ℕ × List ℕ × List ℕ × List ℕ × List ℕ) ℕ (List ℕ)
 label =

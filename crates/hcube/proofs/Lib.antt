@@ -2,6 +2,8 @@ pub mod Small
 pub mod Reasons
 pub mod DecodedReasons
 pub mod DecodedNotices
+pub mod DecodedHops
+pub mod NetworkFunctions
 pub mod Functions
 pub mod Parts
 pub mod Decoded

@@ -1,8 +1,11 @@
 -- The parts of a packed number: where they are small they come out as they were put in, and what stands above the low 32 bits is in none of the three that
 -- every answer has.
+use mathlib.Core.Bool.{cond}
 use mathlib.Core.Path.{_≡_}
 use Prim.Native.Nat.{ℕ, _+_, _*_, _/_, _%_, _≤_, _<_}
 use native.Mathlib.Omega.{arith}
+use lib.Dec.{eqb}
+use borrow.Author.Tests.{ne-eqb}
 use Rattle.hcube.specs.Answers.{packed, packedNotice, packedReason}
 use Rattle.hcube.specs.Decoded.{
   Shows,
@@ -25,6 +28,13 @@ kind-is k kind v a b = omega arith
 
 pub value-is : (k kind v : ℕ) → v < 65536 → valuePart (packed k kind v) ≡ v
 value-is k kind v b = omega arith
+
+-- the choice by a number's refusal
+pub accepted : {A : Type 0} (x : A) (y : ℕ → A) (k : ℕ) → k ≡ 0 → cond (eqb k 0) x (y k) ≡ x
+accepted x y k e = rw e
+
+pub refused : {A : Type 0} (x : A) (y : ℕ → A) (k j : ℕ) → k ≡ j → (j ≡ 0 → ⊥) → cond (eqb k 0) x (y k) ≡ y j
+refused x y k j e h = rw (e, ne-eqb j 0 h)
 
 -- what stands above the low 32 bits is in none of the three
 pub shows : (high low : ℕ) → Shows (high * 4294967296 + low) low

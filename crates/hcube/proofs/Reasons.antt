@@ -1,7 +1,6 @@
 -- The parts of a reason are small too: a label is at most 4, a round at most 4097, a dimension or a count of neighbours at most 12, and a scan is one of six.
-use mathlib.Core.Path.{_≡_, refl}
 use mathlib.Core.Bool.{Bool, not}
-use Prim.Native.Nat.{ℕ, _+_, _*_, _^_, _≤_, _<_}
+use Prim.Native.Nat.{ℕ, _^_, _≤_, _<_}
 use native.Mathlib.Omega.{arith}
 use lib.Dec.{eqb, leb}
 use borrow.Author.Tests.{eqb-false, eqb-true}

@@ -25,14 +25,13 @@ use Rattle.notice.proofs.Refusals.{refused-notice}
 use Rattle.hop.specs.Hop as H
 use Rattle.walk.specs.Walk as W
 use Rattle.hop.specs.declared.Decision.{Decision}
-use Rattle.hop.specs.declared.Hopped.{Hopped}
 use Rattle.hop.specs.declared.Decision.the-variants.{Deliver, Hop, Halted}
 use Rattle.walk.specs.declared.Walked.{Walked}
 use Rattle.walk.proofs.Refusals.{hops-few, walk-good}
 use Rattle.hop.proofs.Local.{hop-dim}
 use Rattle.hop.proofs.Refusals.{hop-good}
 use Rattle.hcube.specs.Answers.{hasRow, rowAfter, rowByte}
-use Rattle.hcube.specs.Fits.{RowFits, WalkFits}
+use Rattle.hcube.specs.Fits.{HopFits, RowFits, WalkFits}
 
 -- ---- labelling
 
@@ -58,9 +57,6 @@ dimension-small s (Refused k at) e =
     (omega (arith, p .number .1), omega (arith, p .near))
 
 -- ---- the hop
-
-abbrev pub HopFits : Hopped → Type 0
-HopFits a = (H.refusalOf a < 256) × (H.valueOf a < 65536)
 
 module _ (n j c d m : ℕ) (lab : ℕ → ℕ) where
   pub hop-refusal : H.hopRefusal n j c d m lab ≤ 19

@@ -20,6 +20,8 @@ use Rattle.walk.specs.declared.Ending.{Ending}
 use Rattle.walk.specs.declared.Ending.the-variants as ending
 use Rattle.hop.specs.declared.Hopped.{Hopped}
 use Rattle.walk.specs.declared.Walked.{Walked}
+use Rattle.walk_networks.specs.Crossing as C
+use Rattle.walk_networks.specs.declared.Crossed.{Crossed}
 use Rattle.why.specs.HopReasons as X
 use Rattle.why.specs.NodeReasons as Y
 use Rattle.why.specs.declared.HopReason.{HopReason}
@@ -33,13 +35,17 @@ packed refusal kind value = refusal * 16777216 + kind * 65536 + value
 abbrev pub labelNumber : Labelled → ℕ
 labelNumber a = packed (L.refusalOf a) 0 (L.valueOf a)
 
--- hop: kind 0 deliver, 1 hop, with the dimension as the value, 2 halted
+-- hop: kind 0 deliver, 1 hop, with the dimension as the value, or by networks network * 16 + dimension, 2 halted
 abbrev pub hopNumber : Hopped → ℕ
 hopNumber a = packed (H.refusalOf a) (H.kindOf a) (H.valueOf a)
 
 -- walk: kind 0 delivered, 1 halted, the value is the hop count
 abbrev pub walkNumber : Walked → ℕ
 walkNumber w = packed (W.refusalOf (w .ending)) (W.kindOf (w .ending)) (w .hops)
+
+-- a walk by networks: the same
+abbrev pub crossedNumber : Crossed → ℕ
+crossedNumber a = packed (C.refusalOf a) (C.kindOf a) (C.hopsOf a)
 
 -- why a node has its label: the label is the kind, the round the value, and above them cause * 2 ^ 56 + third * 2 ^ 48 + second * 2 ^ 40 + first * 2 ^ 32
 abbrev pub packedReason : (cause third second first low : ℕ) → ℕ

@@ -3,7 +3,7 @@
 use mathlib.Core.Bool.{cond}
 use mathlib.Core.List.{List}
 use mathlib.Core.Path.{_≡_}
-use Prim.Native.Nat.{ℕ, _+_, _*_, _/_, _%_}
+use Prim.Native.Nat.{ℕ, _+_, _*_, _/_, _%_, _≤_, _<_}
 use lib.Dec.{eqb, leb}
 use lib.ListN.{getD}
 use Rattle.cube.specs.Tables.{tab}
@@ -25,6 +25,11 @@ use Rattle.walk.specs.Walk.{refused}
 use Rattle.walk.specs.declared.Ending.{Ending}
 use Rattle.walk.specs.declared.Ending.the-variants as ending
 use Rattle.walk.specs.declared.Walked.{Walked}
+use Rattle.blocks.specs.Phase.{after, channelNumber}
+use Rattle.hop_networks.specs.Hopping.{hoppedIn}
+use Rattle.walk_networks.specs.Crossing.{crossing}
+use Rattle.walk_networks.specs.declared.Crossed.{Crossed}
+use Rattle.walk_networks.specs.declared.Crossed.the-variants as crossed
 use Rattle.why.specs.HopReasons.{hopReason}
 use Rattle.why.specs.NodeReasons.{nodeReason}
 use Rattle.why.specs.declared.HopReason.{HopReason}
@@ -38,6 +43,7 @@ use Rattle.writer.specs.Writing.{wrote}
 use Rattle.writer.specs.declared.Wrote.{Wrote}
 use Rattle.writer.specs.declared.Wrote.the-variants as written
 use Rattle.hcube.specs.Answers.{
+  crossedNumber,
   dimensionNumber,
   hopNumber,
   hopReasonNumber,
@@ -88,6 +94,13 @@ scanPart r = r / 256 % 256
 abbrev pub acrossPart : ℕ → ℕ
 acrossPart r = r % 256
 
+-- HCUBE_HOP_NETWORK and HCUBE_HOP_DIMENSION, of a hop by networks
+abbrev pub networkPart : ℕ → ℕ
+networkPart h = h / 16 % 16
+
+abbrev pub crossPart : ℕ → ℕ
+crossPart h = h % 16
+
 -- the node at place k of a row: two bytes, low byte first
 abbrev pub nodeAt : (row : List ℕ) (k : ℕ) → ℕ
 nodeAt row k = getD row (2 * k) 0 + 256 * getD row (2 * k + 1) 0
@@ -105,6 +118,10 @@ labelledFrom r = cond (eqb (refusalPart r) 0) (labelled.Exchanges (valuePart r))
 
 unfoldable pub hoppedFrom : ℕ → Hopped
 hoppedFrom r = cond (eqb (refusalPart r) 0) (hopped.Decided (decisionFrom (kindPart r) (valuePart r))) (hopped.Refused (refusalPart r))
+
+unfoldable pub crossedFrom : ℕ → Crossed
+crossedFrom r =
+    cond (eqb (refusalPart r) 0) (cond (eqb (kindPart r) 0) (crossed.Delivered (valuePart r)) (crossed.Halted (valuePart r))) (crossed.Refused (refusalPart r))
 
 unfoldable pub walkedFrom : ℕ → (row : List ℕ) → Walked
 walkedFrom r row =
@@ -151,6 +168,12 @@ pub record Decodes : Type 0 where
   pub walk :
       (n j s d : ℕ) (labels before : List ℕ)
       → walkedFrom (walkNumber (walkedBy n j s d labels before)) (rowAfter (walkedBy n j s d labels before) before) ≡ walkedBy n j s d labels before
+  pub hop-networks :
+      (n N j c d w g m : ℕ) (lab : ℕ → ℕ) → hoppedFrom (hopNumber (hoppedIn n N j c d w g m lab)) ≡ hoppedIn n N j c d w g m lab
+  pub walk-networks :
+      (n N j s d m room : ℕ) (lab : ℕ → ℕ) → crossedFrom (crossedNumber (crossing n N j s d m room lab)) ≡ crossing n N j s d m room lab
+  -- a hop's network and dimension come out of its number, of any board
+  pub channels : (n p c i : ℕ) → n ≤ 12 → i < n → after p c i < 10 → (networkPart (channelNumber p c i) ≡ after p c i / 2) × (crossPart (channelNumber p c i) ≡ i)
   pub why-node : (K : Cabinet) (j m x : ℕ) → nodeReasonFrom (K .rule) (nodeReasonNumber (nodeReason K j m x)) ≡ nodeReason K j m x
   pub why-hop : (n j c d m : ℕ) (lab : ℕ → ℕ) → hopReasonFrom (hopReasonNumber (hopReason n j c d m lab)) ≡ hopReason n j c d m lab
   pub dimension :

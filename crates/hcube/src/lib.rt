@@ -2,8 +2,9 @@
 // narrowed, so none is mistaken for a smaller one.
 ghost use Prim.Native.Nat.{_<_, _≤_};
 ghost use Rattle.cube.specs.Tables.{tab};
-ghost use Rattle.hcube.specs.Answers.{dimensionNumber, doneNumber, hasRow, hopNumber, hopReasonNumber, labelNumber, nodeReasonNumber, noticeNumber, packed, packedNotice, packedReason, rowAfter, rowByte, walkNumber, walkedBy, writtenNumber};
-ghost use Rattle.hcube.specs.Fits.{CauseFits, RowFits, WalkFits};
+ghost use Rattle.hcube.specs.Answers.{crossedNumber, dimensionNumber, doneNumber, hasRow, hopNumber, hopReasonNumber, labelNumber, nodeReasonNumber, noticeNumber, packed, packedNotice, packedReason, rowAfter, rowByte, walkNumber, walkedBy, writtenNumber};
+ghost use Rattle.hcube.specs.Fits.{CauseFits, CrossedFits, HopFits, RowFits, WalkFits};
+ghost use Rattle.hop_networks.specs.Hopping.{hoppedIn};
 ghost use Rattle.jobs.specs.Jobs.{labelFor};
 ghost use Rattle.list_reader.specs.Reading.{listRefusal, listTable};
 ghost use Rattle.list_writer.specs.Lists.{listAfter, wroteList};
@@ -12,6 +13,7 @@ ghost use Rattle.notice.specs.Notice.{dimensionAt, noticed, tableAfter};
 ghost use Rattle.hop.specs.Hop.{decisionKind, decisionValue, hopped};
 ghost use Rattle.repair.specs.Repairing.{namersAfter, repairRefusal, resultAfter};
 ghost use Rattle.walk.specs.Walk.{rowBytes};
+ghost use Rattle.walk_networks.specs.Crossing.{crossing, hopsAfter};
 ghost use Rattle.why.specs.HopReasons.{hopReason};
 ghost use Rattle.why.specs.NodeReasons.{labelsLeft, nodeReason};
 ghost use Rattle.why.specs.declared.NodeReason.the-variants.{Unsafe};
@@ -27,6 +29,7 @@ use labels::Labelled;
 use notice::Noticed;
 use walk::Ending;
 use walk::Walked;
+use walk_networks::Crossed;
 use why::HopReason;
 use why::NodeReason;
 use writer::Wrote;
@@ -80,16 +83,24 @@ fn pack_decision(x: Decision) -> u32
     }
 }
 
+// What a hop answers.
+fn pack_hop(answer: Hopped) -> u32
+    requires { ⌜ HopFits answer ⌝ }
+    ensures { λ r. ⌜ r ≡ hopNumber answer ⌝ }
+{
+    match answer {
+        Hopped::Refused(k) => pack(k, 0, 0),
+        Hopped::Decided(x) => pack_decision(x),
+    }
+}
+
 // Decides one hop at c for d, by the labels of a job.
 #[no_mangle]
 pub extern "C" fn hcube_hop(n: u32, job: u32, c: u32, d: u32, labels: &[u8]) -> u32
     ensures { λ r. ⌜ r ≡ hopNumber (hopped n job c d (length (now (labels .entry))) (labelFor n job (now (labels .entry)))) ⌝ }
 {
     let answer = hop::hop(n as usize, job as usize, c as usize, d as usize, labels);
-    match answer {
-        Hopped::Refused(k) => pack(k, 0, 0),
-        Hopped::Decided(x) => pack_decision(x),
-    }
+    pack_hop(answer)
 }
 
 // Byte k of a row, two bytes a node, low byte first.
@@ -169,6 +180,71 @@ pub extern "C" fn hcube_walk(n: u32, job: u32, s: u32, d: u32, labels: &[u8], ro
     );
     write_row(walked, row);
     pack_walk(walked)
+}
+
+// Decides one hop at c for d on a board with so many networks, by the labels of a job, for a message that is in that network.
+#[no_mangle]
+pub extern "C" fn hcube_hop_networks(
+    n: u32,
+    networks: u32,
+    job: u32,
+    c: u32,
+    d: u32,
+    network: u32,
+    down: u32,
+    labels: &[u8],
+) -> u32
+    ensures { λ r. ⌜ r ≡ hopNumber (hoppedIn n networks job c d network down (length (now (labels .entry))) (labelFor n job (now (labels .entry)))) ⌝ }
+{
+    let answer = hop_networks::hop_networks(
+        n as usize,
+        networks as usize,
+        job as usize,
+        c as usize,
+        d as usize,
+        network as usize,
+        down as usize,
+        labels,
+    );
+    pack_hop(answer)
+}
+
+// What a walk by networks answers: how it ended and its hop count.
+fn pack_crossed(answer: Crossed) -> u32
+    requires { ⌜ CrossedFits answer ⌝ }
+    ensures { λ r. ⌜ r ≡ crossedNumber answer ⌝ }
+{
+    match answer {
+        Crossed::Delivered(hops) => pack(0, 0, hops),
+        Crossed::Halted(hops) => pack(0, 1, hops),
+        Crossed::Refused(k) => pack(k, 0, 0),
+    }
+}
+
+// Walks from s to d on a board with so many networks, by the labels of a job: the hops go to the front of the lent list, and none where the walk is refused.
+#[no_mangle]
+pub extern "C" fn hcube_walk_networks(
+    n: u32,
+    networks: u32,
+    job: u32,
+    s: u32,
+    d: u32,
+    labels: &[u8],
+    hops: &mut [u8],
+) -> u32
+    ensures answer { λ r. ⌜ r ≡ crossedNumber (crossing n networks job s d (length (now (labels .entry))) (length (now (hops .entry))) (labelFor n job (now (labels .entry)))) ⌝ }
+    ensures hops { λ r. ⌜ now (hops .exit) ≡ hopsAfter n networks job s d (length (now (labels .entry))) (labelFor n job (now (labels .entry))) (now (hops .entry)) ⌝ }
+{
+    let answer = walk_networks::walk_networks(
+        n as usize,
+        networks as usize,
+        job as usize,
+        s as usize,
+        d as usize,
+        labels,
+        hops,
+    );
+    pack_crossed(answer)
 }
 
 // The number of a node's reason: the label is the kind and the round the value, and above stand the cause and what goes with it.

@@ -1,10 +1,8 @@
 -- The answer that a contract gives is one that it allows: lent bytes stand somewhere in memory, and the equations hold of it.
-use mathlib.Core.List.{List, []}
+use mathlib.Core.List.{List}
 use mathlib.Core.Logic.{inl}
 use mathlib.Core.Path.{refl}
 use Prim.Native.Nat.{ℕ}
-use contract.Lifetimes.{Lfts}
-use denote.Ref.{RefT}
 use lib.ListN.{length, length-replicate, replicate}
 use Rattle.cube.specs.Contracts.{May}
 use Rattle.cube.proofs.Contracts.{may}
@@ -51,19 +49,8 @@ use Rattle.hcube.specs.Answers.{
 use Rattle.hcube.proofs.Functions as hcube
 use Rattle.promises.specs.Answers.{Answers}
 use Rattle.promises.specs.Library.{rattle, c}
-
-abbrev lend : List ℕ → RefT (List ℕ)
-lend l = record { ptr = (0, 0); name = 0; now = l }
-
--- one lifetime, two, or four
-abbrev one : Lfts 1
-one = ([], tt)
-
-abbrev two : Lfts 2
-two = ([], one)
-
-abbrev four : Lfts 4
-four = ([], ([], two))
+use Rattle.promises.proofs.Lent.{four, lend, one, two}
+use Rattle.promises.proofs.NetworkAnswers as networks
 
 module _ (bytes : List ℕ) where
   sizes : May notice.dimension bytes (dimensionAt bytes) tt
@@ -223,6 +210,8 @@ rattle-answers =
       why-nodes = λ K j x before. (_, _, why-nodes K j before x);
       why-hops = λ n j a b l. (_, why-hops n j a b l);
       walks = λ n j a b l room. (_, inl (walks n j a b l room));
+      hops-networks = λ n N j a b w g l. (_, networks.hops n N j a b w g l);
+      walks-networks = λ n N j a b l before. (_, _, networks.walks n N j a b l before);
     }
 
 pub c-answers : Answers c
@@ -239,4 +228,6 @@ c-answers =
       why-nodes = λ K j x before. (_, _, (_, c-why-nodes K j before x, refl));
       why-hops = λ n j a b l. (_, (_, c-why-hops n j a b l, refl));
       walks = λ n j a b l room. (_, (_, replicate room 0, _, c-walks n j a b l (replicate room 0), length-replicate room 0, refl));
+      hops-networks = λ n N j a b w g l. (_, (_, networks.c-hops n N j a b w g l, refl));
+      walks-networks = λ n N j a b l before. (_, _, (_, networks.c-walks n N j a b l before, refl));
     }

@@ -54,13 +54,13 @@ use Rattle.promises.proofs.Walks.{again, blank, decided, ends, frame-on
 module _ (lib : Library) (F : Faithful lib) where
   -- ---- what labelling left
 
-  record Left (K : Cabinet) (j exchanges : ℕ) (buffer : List ℕ) : Type 0 where
-    accepted : Accepted K j
-    count : exchangesOf K ≡ exchanges
-    long : length buffer ≡ labelBytes (K .n)
-    bytes : labelsOf K ≡ half j (2 ^ K .n) buffer
+  pub record Left (K : Cabinet) (j exchanges : ℕ) (buffer : List ℕ) : Type 0 where
+    pub accepted : Accepted K j
+    pub count : exchangesOf K ≡ exchanges
+    pub long : length buffer ≡ labelBytes (K .n)
+    pub bytes : labelsOf K ≡ half j (2 ^ K .n) buffer
 
-  left : {K : Cabinet} {j exchanges : ℕ} {before buffer : List ℕ} → lib .labels K j before (labelled.Exchanges exchanges) buffer → Left K j exchanges buffer
+  pub left : {K : Cabinet} {j exchanges : ℕ} {before buffer : List ℕ} → lib .labels K j before (labelled.Exchanges exchanges) buffer → Left K j exchanges buffer
   left {K} {j} {exchanges} {before} {buffer} m =
       let f = F .labels m in
       let o = of-exchanges K j (length before) exchanges (sym (f .0)) in
@@ -155,7 +155,7 @@ module _ (lib : Library) (F : Faithful lib) where
 
   -- ---- enough nodes work
 
-  some-safe : {K : Cabinet} {j exchanges : ℕ} {before buffer : List ℕ} → lib .labels K j before (labelled.Exchanges exchanges) buffer
+  pub some-safe : {K : Cabinet} {j exchanges : ℕ} {before buffer : List ℕ} → lib .labels K j before (labelled.Exchanges exchanges) buffer
       → FewOut K → SomeSafe (K .n) (labelFor (K .n) j buffer)
   some-safe {K} m few = of-left (λ (lab : ℕ → ℕ) _. SomeSafe (K .n) lab) m (few-out-safe K few)
 

@@ -28,6 +28,8 @@ use Rattle.walk.specs.declared.Ending.{Ending}
 use Rattle.walk.specs.declared.Walked.{Walked}
 use Rattle.walk.proofs.Functions as walk
 use Rattle.walk.proofs.Refusals.{hops-few}
+use Rattle.hop_networks.proofs.Functions as hop_networks
+use Rattle.walk_networks.proofs.Functions as walk_networks
 use Rattle.theorems.specs.Words.{place}
 use Rattle.causes.specs.declared.Cause.the-variants as cause
 use Rattle.why.specs.declared.HopReason.{HopReason}
@@ -40,6 +42,7 @@ use Rattle.list_reader.proofs.Functions as list_reader
 use Rattle.list_writer.proofs.Functions as list_writer
 use Rattle.repair.proofs.Functions as repair
 use Rattle.hcube.specs.Answers.{
+  crossedNumber,
   dimensionNumber,
   hasRow,
   hopNumber,
@@ -61,6 +64,7 @@ use Rattle.hcube.proofs.Small.{row-fits, written}
 use Rattle.promises.specs.InC.{InC, nodeNumber}
 use Rattle.promises.proofs.Demands.{c-demands, rattle-demands}
 use Rattle.promises.proofs.Library.{c-faithful}
+use Rattle.promises.proofs.Numbers.{crossed-in-number, hop-in-number}
 
 -- ---- the number of the library's own answer
 
@@ -222,6 +226,12 @@ in-c =
       writes-list-length = λ {n} {r} m v. let e = list-written-same m v in omega arith;
       writes-list-refuses = λ {n} {r} m v. let e = list-written-same m v in omega arith;
       repairs = λ {n} {r} m v. let e = repaired-same m v in omega arith;
+      hop-networks-number = λ {x = x} m v.
+          told hcube.hop-networks-says m .0 ∙ ap hopNumber (sym (told hop_networks.hop-networks-says v .0)) ∙ hop-in-number x;
+      walk-networks-number = λ {x = x} m v.
+          let s = told hcube.walk-networks-says m in
+          let t = told walk_networks.walk-networks-says v in
+          (s .0 ∙ ap crossedNumber (sym (t .0)) ∙ crossed-in-number x, s .1 ∙ sym (t .1));
       row-nodes = λ m h v. row-nodes m h v;
       row-bytes = row-bytes;
       row-once = row-once;

@@ -7,6 +7,8 @@ pub mod LabelRefusals
 pub mod WriteRefusals
 pub mod RepairRefusals
 pub mod Refusals
+pub mod Sixteen
+pub mod NetworkRefusals
 pub mod Why
 pub mod Outcomes
 pub mod Walks
@@ -15,9 +17,14 @@ pub mod Written
 pub mod Writes
 pub mod Lists
 pub mod Repairs
+pub mod Numbers
 pub mod InC
 pub mod InRattle
+pub mod Lent
+pub mod NetworkAnswers
 pub mod Answers
+pub mod Waiting
+pub mod Networks
 pub mod Tied
 pub mod Seen
 pub mod Settled

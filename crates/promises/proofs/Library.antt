@@ -22,6 +22,11 @@ use Rattle.hop.proofs.Functions as hop
 use Rattle.walk.specs.Walk.{rowBytes, walked}
 use Rattle.walk.specs.declared.Walked.{Walked}
 use Rattle.walk.proofs.Functions as walk
+use Rattle.hop_networks.specs.Hopping.{hoppedIn}
+use Rattle.hop_networks.proofs.Functions as hop_networks
+use Rattle.walk_networks.specs.Crossing.{crossing, hopsAfter}
+use Rattle.walk_networks.specs.declared.Crossed.{Crossed}
+use Rattle.walk_networks.proofs.Functions as walk_networks
 use Rattle.why.specs.HopReasons.{hopReason}
 use Rattle.why.specs.NodeReasons.{labelsLeft, nodeReason}
 use Rattle.why.specs.declared.HopReason.{HopReason}
@@ -34,7 +39,7 @@ use Rattle.list_reader.specs.Reading.{listRefusal, listTable}
 use Rattle.list_reader.proofs.Functions as list_reader
 use Rattle.list_writer.specs.Lists.{listAfter, wroteList}
 use Rattle.list_writer.proofs.Functions as list_writer
-use Rattle.hcube.specs.Decoded.{hopReasonFrom, hoppedFrom, labelledFrom, nodeReasonFrom, noticedFrom, refusalPart, valuePart, walkedFrom, wroteFrom}
+use Rattle.hcube.specs.Decoded.{crossedFrom, hopReasonFrom, hoppedFrom, labelledFrom, nodeReasonFrom, noticedFrom, refusalPart, valuePart, walkedFrom, wroteFrom}
 use Rattle.repair.specs.Repairing.{namersAfter, repairRefusal, resultAfter}
 use Rattle.repair.proofs.Functions as repair
 use Rattle.hcube.proofs.Decoded.{decodes}
@@ -68,6 +73,13 @@ pub record Faithful (lib : Library) : Type 0 where
       {n j c d : ℕ} {buffer : List ℕ} {a : HopReason} → lib .why-hops n j c d buffer a → a ≡ hopReason n j c d (length buffer) (labelFor n j buffer)
   pub walks :
       {n j s d room : ℕ} {buffer : List ℕ} {w : Walked} → lib .walks n j s d buffer room w → w ≡ walked n j s d (length buffer) room (labelFor n j buffer)
+  pub hops-networks :
+      {n N j c d w g : ℕ} {buffer : List ℕ} {x : Hopped} → lib .hops-networks n N j c d w g buffer x
+      → x ≡ hoppedIn n N j c d w g (length buffer) (labelFor n j buffer)
+  pub walks-networks :
+      {n N j s d : ℕ} {buffer before after : List ℕ} {x : Crossed} → lib .walks-networks n N j s d buffer before x after
+      → (x ≡ crossing n N j s d (length buffer) (length before) (labelFor n j buffer))
+      × (after ≡ hopsAfter n N j s d (length buffer) (labelFor n j buffer) before)
 
 -- of two that are left
 first : {s t s′ t′ : List ℕ} → _≡_ {A = List ℕ × List ℕ} (s, t) (s′, t′) → s ≡ s′
@@ -93,6 +105,8 @@ rattle-faithful =
           ⊎-elim (λ (m : May walk.walk-for (n, j, s, d, buffer, room) w tt). told walk.walk-for-says m .0)
           (λ (m : May walk.walk (n, j, s, d, buffer) w tt × (room ≡ rowBytes)). told walk.walk-says (m .0) .0
           ∙ ap (λ (k : ℕ). walked n j s d (length buffer) k (labelFor n j buffer)) (sym (m .1)));
+      hops-networks = λ m. told hop_networks.hop-networks-says m .0;
+      walks-networks = told walk_networks.walk-networks-says;
     }
 
 pub c-faithful : Faithful c
@@ -123,4 +137,8 @@ c-faithful =
       walks = λ {n} {j} {s} {d} {room} {buffer} m. let t = told hcube.walk-says (m .3) in
           sym (m .5) ∙ ap₂ walkedFrom (t .0) (t .1) ∙ decodes .walk n j s d buffer (m .1)
           ∙ ap (λ (k : ℕ). walked n j s d (length buffer) k (labelFor n j buffer)) (m .4);
+      hops-networks = λ {n} {N} {j} {c} {d} {w} {g} {buffer} m. let t = told hcube.hop-networks-says (m .1) in
+          sym (m .2) ∙ ap hoppedFrom (t .0) ∙ decodes .hop-networks n N j c d w g (length buffer) (labelFor n j buffer);
+      walks-networks = λ {n} {N} {j} {s} {d} {buffer} {before} m. let t = told hcube.walk-networks-says (m .1) in
+          (sym (m .2) ∙ ap crossedFrom (t .0) ∙ decodes .walk-networks n N j s d (length buffer) (length before) (labelFor n j buffer), t .1);
     }

@@ -22,6 +22,11 @@ use Rattle.hop.proofs.Local.{hop-local}
 use Rattle.walk.proofs.Laws.{message-laws}
 use Rattle.walk.proofs.Local.{walk-local}
 use Rattle.walk.proofs.Once.{once}
+use Rattle.blocks.proofs.Figure.{hop-chosen}
+use Rattle.blocks.proofs.Laws.{every-walk, theorem-7, unblocked}
+use Rattle.blocks.proofs.Worked.{worked-blocks}
+use Rattle.hop_networks.proofs.Local.{hop-in-local}
+use Rattle.walk_networks.proofs.Local.{crossing-local}
 use Rattle.why.proofs.Laws.{why-laws}
 use Rattle.theorems.proofs.Before.{as-before}
 use Rattle.theorems.proofs.Decision.{hop-picked}
@@ -29,6 +34,8 @@ use Rattle.theorems.proofs.Delivers.{few-out-delivers}
 use Rattle.theorems.proofs.Demand2.{demand2}
 use Rattle.theorems.proofs.Demand3.{demand3}
 use Rattle.theorems.proofs.HowLong.{how-long}
+use Rattle.theorems.proofs.Crossings.{more-networks, walk-crosses}
+use Rattle.theorems.proofs.Networks.{five-deliver, hops-rise}
 use Rattle.theorems.proofs.Repeats.{walk-repeats}
 use Rattle.theorems.proofs.TwoRules.{two-rules}
 use Rattle.hcube.proofs.Decoded.{decodes}
@@ -47,6 +54,8 @@ use Rattle.promises.proofs.Worked.{worked}
 use Rattle.promises.proofs.Writes.{c-writes, rattle-writes}
 use Rattle.promises.proofs.Lists.{c-lists, rattle-lists}
 use Rattle.promises.proofs.Repairs.{c-repairs, rattle-repairs}
+use Rattle.promises.proofs.Networks.{c-networks, rattle-networks}
+use Rattle.promises.proofs.NetworkRefusals.{network-refusals}
 
 pub promises : Promises
 promises =
@@ -70,6 +79,8 @@ promises =
       c-lists = c-lists;
       rattle-repairs = rattle-repairs;
       c-repairs = c-repairs;
+      rattle-networks = rattle-networks;
+      c-networks = c-networks;
       in-c = in-c;
       in-rattle = in-rattle;
       decodes = decodes;
@@ -90,15 +101,26 @@ promises =
       few-out-delivers = few-out-delivers;
       as-before = as-before;
       progress = scans-progress;
+      every-walk = every-walk;
+      unblocked = unblocked;
+      theorem-7 = theorem-7;
+      crosses = walk-crosses;
+      more-networks = more-networks;
+      hops-rise = hops-rise;
+      five-deliver = five-deliver;
       refusals = refusals;
+      network-refusals = network-refusals;
       nodes = nodes;
       marks = marks;
       hits = table-hits;
       picked = hop-picked;
+      chosen = hop-chosen;
       repeats = walk-repeats;
       once = once;
       hop-local = hop-local;
       walk-local = walk-local;
+      hop-in-local = hop-in-local;
+      crossing-local = crossing-local;
       cube = cube-laws;
       halves = job-laws;
       number = number-laws;
@@ -109,4 +131,5 @@ promises =
       repair = repair-laws;
       message = message-laws;
       worked = worked;
+      worked-blocks = worked-blocks;
     }

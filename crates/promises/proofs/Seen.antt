@@ -42,5 +42,11 @@ as-seen =
       writer-write-left = λ κs r. refl;
       list-reader-read-left = λ κs r. refl;
       list-writer-write-left = λ κs r. refl;
+      hcube-hop-networks = λ κs r. refl;
+      hcube-walk-networks = λ κs r. refl;
+      hop-networks-hop-networks = λ κs r. refl;
+      walk-networks-walk-networks = λ κs r. refl;
+      hcube-walk-networks-left = λ κs r. refl;
+      walk-networks-walk-networks-left = λ κs r. refl;
       repair-repair-left = λ κs r. refl;
     }

@@ -9,6 +9,8 @@ use Rattle.passes.proofs.Functions as passes
 use Rattle.labels.proofs.Functions as labels
 use Rattle.hop.proofs.Functions as hop
 use Rattle.walk.proofs.Functions as walk
+use Rattle.hop_networks.proofs.Functions as hop_networks
+use Rattle.walk_networks.proofs.Functions as walk_networks
 use Rattle.why.proofs.Functions as why
 use Rattle.writer.proofs.Functions as writer
 use Rattle.list_reader.proofs.Functions as list_reader
@@ -31,6 +33,19 @@ settled =
       hcube-read-list = settles hcube.read-list-says;
       hcube-write-list = settles hcube.write-list-says;
       hcube-repair = settles hcube.repair-says;
+      hop-near-refusal = settles hop.near-refusal-says;
+      hop-networks-hop-networks = settles hop_networks.hop-networks-says;
+      hop-networks-is-board = settles hop_networks.is-board-says;
+      hop-networks-board-refusal = settles hop_networks.board-refusal-says;
+      walk-networks-walk-networks = settles walk_networks.walk-networks-says;
+      hcube-hop-networks = settles hcube.hop-networks-says;
+      hcube-walk-networks = settles hcube.walk-networks-says;
+      hop-lowest = settles hop.lowest-says;
+      hop-last-hop = settles hop.last-hop-says;
+      walk-table-refusal = settles walk.table-refusal-says;
+      hop-networks-list-refusal = settles hop_networks.list-refusal-says;
+      hop-networks-after = settles hop_networks.after-says;
+      hop-networks-pick-at = settles hop_networks.pick-at-says;
       labels-label = settles labels.label-says;
       labels-label-refusal = settles labels.label-refusal-says;
       passes-settle = settles passes.settle-says;
@@ -86,6 +101,13 @@ unasked =
       hcube-read-list = hcube.read-list-asks;
       hcube-write-list = hcube.write-list-asks;
       hcube-repair = hcube.repair-asks;
+      hop-near-refusal = hop.near-refusal-asks;
+      hop-networks-hop-networks = hop_networks.hop-networks-asks;
+      hop-networks-is-board = hop_networks.is-board-asks;
+      hop-networks-board-refusal = hop_networks.board-refusal-asks;
+      walk-networks-walk-networks = walk_networks.walk-networks-asks;
+      hcube-hop-networks = hcube.hop-networks-asks;
+      hcube-walk-networks = hcube.walk-networks-asks;
       labels-label = labels.label-asks;
       labels-label-refusal = labels.label-refusal-asks;
       passes-settle = passes.settle-asks;

@@ -4,10 +4,26 @@ use borrow.Fn.World.{w₀}
 use Rattle.reader.proofs.Functions as reader
 use Rattle.promises.specs.Handed.{InOrder}
 use Rattle.promises.specs.Tied.{AllTied}
+use Rattle.promises.specs.TiedNetworks.{NetworksTied}
+
+networks-tied : NetworksTied
+networks-tied =
+    record {
+      hcube-hop-networks = record { clauses = λ w. refl; asked = refl; post = refl };
+      hcube-walk-networks = record { clauses = λ w. refl; asked = refl; post = refl };
+      hop-networks-hop-networks = record { clauses = λ w. refl; asked = refl; post = refl };
+      hop-networks-is-board = record { clauses = λ w. refl; asked = refl; post = refl };
+      hop-networks-board-refusal = record { clauses = λ w. refl; asked = refl; post = refl };
+      hop-networks-list-refusal = record { clauses = λ w. refl; asked = refl; post = refl };
+      hop-networks-after = record { clauses = λ w. refl; asked = refl; post = refl };
+      hop-networks-pick-at = record { clauses = λ w. refl; asked = refl; post = refl };
+      walk-networks-walk-networks = record { clauses = λ w. refl; asked = refl; post = refl };
+    }
 
 pub all-tied : AllTied
 all-tied =
     record {
+      networks = networks-tied;
       hcube-label = record { clauses = λ w. refl; asked = refl; post = refl };
       hcube-hop = record { clauses = λ w. refl; asked = refl; post = refl };
       hcube-walk = record { clauses = λ w. refl; asked = refl; post = refl };
@@ -27,6 +43,10 @@ all-tied =
       passes-finish = record { clauses = λ w. refl; asked = refl; post = refl };
       hop-hop = record { clauses = λ w. refl; asked = refl; post = refl };
       hop-place-refusal = record { clauses = λ w. refl; asked = refl; post = refl };
+      hop-near-refusal = record { clauses = λ w. refl; asked = refl; post = refl };
+      hop-lowest = record { clauses = λ w. refl; asked = refl; post = refl };
+      hop-last-hop = record { clauses = λ w. refl; asked = refl; post = refl };
+      walk-table-refusal = record { clauses = λ w. refl; asked = refl; post = refl };
       hop-gather = record { clauses = λ w. refl; asked = refl; post = refl };
       hop-chosen = record { clauses = λ w. refl; asked = refl; post = refl };
       hop-hop-at = record { clauses = λ w. refl; asked = refl; post = refl };
@@ -74,6 +94,10 @@ in-order =
       hcube-read-list = λ κs a. refl;
       hcube-write-list = λ κs a. refl;
       hcube-repair = λ κs a. refl;
+      hcube-hop-networks = λ κs a. refl;
+      hcube-walk-networks = λ κs a. refl;
+      hop-networks-hop-networks = λ κs a. refl;
+      walk-networks-walk-networks = λ κs a. refl;
       labels-label = λ κs a. refl;
       hop-hop = λ κs a. refl;
       walk-walk = λ κs a. refl;

@@ -6,6 +6,7 @@ use Rattle.notice.specs.declared.Noticed.{Noticed}
 use Rattle.labels.specs.declared.Labelled.{Labelled}
 use Rattle.hop.specs.declared.Hopped.{Hopped}
 use Rattle.walk.specs.declared.Walked.{Walked}
+use Rattle.walk_networks.specs.declared.Crossed.{Crossed}
 use Rattle.why.specs.declared.HopReason.{HopReason}
 use Rattle.why.specs.declared.NodeReason.{NodeReason}
 use Rattle.writer.specs.declared.Wrote.{Wrote}
@@ -23,3 +24,6 @@ pub record Answers (lib : Library) : Type 0 where
   pub why-nodes : (K : Cabinet) (j x : ℕ) (before : List ℕ) → (a : NodeReason) × (after : List ℕ) × lib .why-nodes K j x before a after
   pub why-hops : (n j c d : ℕ) (buffer : List ℕ) → (a : HopReason) × lib .why-hops n j c d buffer a
   pub walks : (n j s d : ℕ) (buffer : List ℕ) (room : ℕ) → (w : Walked) × lib .walks n j s d buffer room w
+  pub hops-networks : (n N j c d w g : ℕ) (buffer : List ℕ) → (x : Hopped) × lib .hops-networks n N j c d w g buffer x
+  pub walks-networks :
+      (n N j s d : ℕ) (buffer before : List ℕ) → (x : Crossed) × (after : List ℕ) × lib .walks-networks n N j s d buffer before x after

@@ -11,6 +11,7 @@ use Rattle.notice.proofs.Functions as notice
 use Rattle.labels.specs.declared.Labelled.the-variants as labelled
 use Rattle.labels.proofs.Functions as labels
 use Rattle.hop.specs.declared.Decision.the-variants.{Deliver, Hop, Halted}
+use Rattle.hop.specs.declared.Hopped.{Hopped}
 use Rattle.hop.specs.declared.Hopped.the-variants as hopped
 use Rattle.hop.proofs.Functions as hop
 use Rattle.causes.specs.declared.Cause.the-variants as cause
@@ -27,6 +28,10 @@ use Rattle.walk.specs.Walk.{rowBytes}
 use Rattle.walk.specs.declared.Ending.the-variants as ending
 use Rattle.walk.specs.declared.Walked.{Walked}
 use Rattle.walk.proofs.Functions as walk
+use Rattle.hop_networks.proofs.Functions as hop_networks
+use Rattle.walk_networks.specs.declared.Crossed.{Crossed}
+use Rattle.walk_networks.specs.declared.Crossed.the-variants as crossed
+use Rattle.walk_networks.proofs.Functions as walk_networks
 use Rattle.theorems.specs.Words.{place}
 use Rattle.hcube.specs.Decoded.{nodeAt, refusalPart, valuePart}
 use Rattle.hcube.proofs.Functions as hcube
@@ -40,6 +45,18 @@ nodeNumber (because.Unsafe l round (cause.Three a b c)) =
     2 * 72057594037927936 + c * 281474976710656 + b * 1099511627776 + a * 4294967296 + l * 65536 + round
 nodeNumber (because.Out l) = l * 65536
 nodeNumber (because.Refused k) = k * 16777216
+
+-- the number of a hop by networks, and of a walk, case by case
+abbrev pub hopInNumber : Hopped → ℕ
+hopInNumber (hopped.Decided Deliver) = 0
+hopInNumber (hopped.Decided (Hop h)) = 65536 + h
+hopInNumber (hopped.Decided Halted) = 131072
+hopInNumber (hopped.Refused k) = k * 16777216
+
+abbrev pub crossedInNumber : Crossed → ℕ
+crossedInNumber (crossed.Delivered hops) = hops
+crossedInNumber (crossed.Halted hops) = 65536 + hops
+crossedInNumber (crossed.Refused k) = k * 16777216
 
 pub record InC : Type 0 where
   -- "to C each answers one number: refusal × 16,777,216 + kind × 65,536 + value": that of the answer that the library's own function gives.
@@ -88,6 +105,13 @@ pub record InC : Type 0 where
   pub walk-refuses :
       {n j s d r k : ℕ} {buffer before after : List ℕ} {w : Walked} → May hcube.walk (n, j, s, d, buffer, before) r after
       → May walk.walk-for (n, j, s, d, buffer, length before) w tt → w .ending ≡ ending.Refused k → (r ≡ k * 16777216) × (after ≡ before)
+  -- "A hop by networks: the hop's kind, value is network × 16 + dimension; a walk by networks: the walk's kind, value is the hop count"
+  pub hop-networks-number :
+      {n N j c d w g r : ℕ} {buffer : List ℕ} {x : Hopped} → May hcube.hop-networks (n, N, j, c, d, w, g, buffer) r tt
+      → May hop_networks.hop-networks (n, N, j, c, d, w, g, buffer) x tt → r ≡ hopInNumber x
+  pub walk-networks-number :
+      {n N j s d r : ℕ} {buffer before after after′ : List ℕ} {x : Crossed} → May hcube.walk-networks (n, N, j, s, d, buffer, before) r after
+      → May walk_networks.walk-networks (n, N, j, s, d, buffer, before) x after′ → (r ≡ crossedInNumber x) × (after ≡ after′)
   -- the dimension of a notice by itself: the dimension, or refusal × 16,777,216, its place being 0
   pub dimension-reads :
       {r n next : ℕ} {bytes : List ℕ} → May hcube.notice-dimension bytes r tt → May notice.dimension bytes (number.Value n next) tt → r ≡ n

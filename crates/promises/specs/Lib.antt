@@ -1,14 +1,17 @@
 pub mod Library
 pub mod Refusals
+pub mod NetworkRefusals
 pub mod Demands
 pub mod Jobs
 pub mod Why
 pub mod Writes
 pub mod Lists
 pub mod Repairs
+pub mod Networks
 pub mod InC
 pub mod InRattle
 pub mod Answers
+pub mod TiedNetworks
 pub mod Tied
 pub mod Handed
 pub mod Seen

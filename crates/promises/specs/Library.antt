@@ -1,4 +1,4 @@
--- The library's eleven questions as relations: what is handed, what is answered and what is left, wherever the contract of the function allows it.
+-- The library's thirteen questions as relations: what is handed, what is answered and what is left, wherever the contract of the function allows it.
 -- `rattle` has the functions that Rattle calls. `c` has those that C calls, and there the answer is what C takes out of the number and the row by the
 -- header's macros.
 use mathlib.Core.List.{List}
@@ -19,6 +19,9 @@ use Rattle.hop.proofs.Functions as hop
 use Rattle.walk.specs.Walk.{rowBytes}
 use Rattle.walk.specs.declared.Walked.{Walked}
 use Rattle.walk.proofs.Functions as walk
+use Rattle.hop_networks.proofs.Functions as hop_networks
+use Rattle.walk_networks.specs.declared.Crossed.{Crossed}
+use Rattle.walk_networks.proofs.Functions as walk_networks
 use Rattle.why.specs.declared.HopReason.{HopReason}
 use Rattle.why.specs.declared.NodeReason.{NodeReason}
 use Rattle.why.proofs.Functions as why
@@ -27,7 +30,7 @@ use Rattle.writer.proofs.Functions as writer
 use Rattle.list_reader.proofs.Functions as list_reader
 use Rattle.list_writer.proofs.Functions as list_writer
 use Rattle.repair.proofs.Functions as repair
-use Rattle.hcube.specs.Decoded.{hopReasonFrom, hoppedFrom, labelledFrom, nodeReasonFrom, noticedFrom, refusalPart, valuePart, walkedFrom, wroteFrom}
+use Rattle.hcube.specs.Decoded.{crossedFrom, hopReasonFrom, hoppedFrom, labelledFrom, nodeReasonFrom, noticedFrom, refusalPart, valuePart, walkedFrom, wroteFrom}
 use Rattle.hcube.proofs.Functions as hcube
 
 pub record Library : Type 1 where
@@ -53,6 +56,10 @@ pub record Library : Type 1 where
   pub why-hops : (n j c d : ℕ) (buffer : List ℕ) (a : HopReason) → Type 0
   -- a walk goes from s to d, by these labels, for a caller who lends a row of `room` bytes
   pub walks : (n j s d : ℕ) (buffer : List ℕ) (room : ℕ) (w : Walked) → Type 0
+  -- a hop is decided at c for d on a board with N networks, by these labels, for a message in network w that goes up or, where g is 1, down
+  pub hops-networks : (n N j c d w g : ℕ) (buffer : List ℕ) (x : Hopped) → Type 0
+  -- a walk goes from s to d on such a board, by these labels, its hops into a list
+  pub walks-networks : (n N j s d : ℕ) (buffer before : List ℕ) (x : Crossed) (after : List ℕ) → Type 0
 
 abbrev pub rattle : Library
 rattle =
@@ -69,6 +76,8 @@ rattle =
       why-hops = λ n j c d buffer a. May why.why-hop (n, j, c, d, buffer) a tt;
       walks = λ n j s d buffer room w.
           May walk.walk-for (n, j, s, d, buffer, room) w tt ⊎ (May walk.walk (n, j, s, d, buffer) w tt × (room ≡ rowBytes));
+      hops-networks = λ n N j c d w g buffer x. May hop_networks.hop-networks (n, N, j, c, d, w, g, buffer) x tt;
+      walks-networks = λ n N j s d buffer before x after. May walk_networks.walk-networks (n, N, j, s, d, buffer, before) x after;
     }
 
 abbrev pub c : Library
@@ -89,4 +98,7 @@ c =
       why-hops = λ n j c d buffer a. (r : ℕ) × May hcube.why-hop (n, j, c, d, buffer) r tt × (hopReasonFrom r ≡ a);
       walks = λ n j s d buffer room w.
           (r : ℕ) × (before after : List ℕ) × May hcube.walk (n, j, s, d, buffer, before) r after × (length before ≡ room) × (walkedFrom r after ≡ w);
+      hops-networks = λ n N j c d w g buffer x. (r : ℕ) × May hcube.hop-networks (n, N, j, c, d, w, g, buffer) r tt × (hoppedFrom r ≡ x);
+      walks-networks = λ n N j s d buffer before x after.
+          (r : ℕ) × May hcube.walk-networks (n, N, j, s, d, buffer, before) r after × (crossedFrom r ≡ x);
     }

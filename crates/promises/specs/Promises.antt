@@ -1,6 +1,6 @@
 -- All that is promised of the library, in one record: if this is proved, each statement that it names is.
 use mathlib.Core.Bool.{Bool}
-use Prim.Native.Nat.{ℕ, _<_}
+use Prim.Native.Nat.{ℕ, _^_, _<_}
 use Rattle.cube.specs.Laws.{CubeLaws}
 use Rattle.jobs.specs.Laws.{JobLaws}
 use Rattle.groups.specs.Laws.{NumberLaws}
@@ -25,12 +25,18 @@ use Rattle.hop.specs.declared.Decision.{Decision}
 use Rattle.walk.specs.Laws.{MessageLaws}
 use Rattle.walk.specs.Local.{WalkLocal}
 use Rattle.walk.specs.Once.{Once}
+use Rattle.blocks.specs.Figure.{HopChosen}
+use Rattle.blocks.specs.Laws.{EveryWalk, Theorem7, Unblocked}
+use Rattle.blocks.specs.Worked.{WorkedBlocks}
+use Rattle.hop_networks.specs.Local.{HopInLocal}
+use Rattle.walk_networks.specs.Local.{CrossingLocal}
 use Rattle.why.specs.Laws.{WhyLaws}
 use Rattle.theorems.specs.Before.{AsBefore}
 use Rattle.theorems.specs.Delivers.{FewOutDelivers}
 use Rattle.theorems.specs.Demand2.{Demand2}
 use Rattle.theorems.specs.Demand3.{Demand3}
 use Rattle.theorems.specs.HowLong.{HowLong}
+use Rattle.theorems.specs.Networks.{FiveDeliver, HopsRise, MoreNetworks, WalkCrosses}
 use Rattle.theorems.specs.Picked.{HopPicked}
 use Rattle.theorems.specs.Repeats.{WalkRepeats}
 use Rattle.theorems.specs.TwoRules.{TwoRules}
@@ -52,6 +58,8 @@ use Rattle.promises.specs.Worked.{Worked}
 use Rattle.promises.specs.Writes.{Writes}
 use Rattle.promises.specs.Lists.{Lists}
 use Rattle.promises.specs.Repairs.{Repairs}
+use Rattle.promises.specs.Networks.{Networks}
+use Rattle.promises.specs.NetworkRefusals.{NetworkRefusals}
 
 pub record Promises : Type 2 where
   -- the contracts are the code's own, settle everything, ask nothing, and always allow an answer
@@ -80,6 +88,9 @@ pub record Promises : Type 2 where
   -- tables repaired by what the neighbours say
   pub rattle-repairs : Repairs library.rattle
   pub c-repairs : Repairs library.c
+  -- walks by networks
+  pub rattle-networks : Networks library.rattle
+  pub c-networks : Networks library.c
   -- what C and a caller in Rattle have in hand
   pub in-c : InC
   pub in-rattle : InRattle
@@ -102,16 +113,28 @@ pub record Promises : Type 2 where
   pub few-out-delivers : FewOutDelivers
   pub as-before : (j : ℕ) → j < 2 → AsBefore j
   pub progress : ScansProgress
+  -- Algorithm ROUTE_C of the definitions
+  pub every-walk : (n : ℕ) (lab : ℕ → ℕ) (d s : ℕ) → s < 2 ^ n → EveryWalk n lab d s
+  pub unblocked : (n : ℕ) → Unblocked n
+  pub theorem-7 : Theorem7
+  pub crosses : WalkCrosses
+  pub more-networks : MoreNetworks
+  pub hops-rise : HopsRise
+  pub five-deliver : FiveDeliver
   -- the words of RULES, section by section
   pub refusals : Refusals
+  pub network-refusals : NetworkRefusals
   pub nodes : (K : Cabinet) → Nodes K
   pub marks : (n k : ℕ) (F : ℕ → Bool) → Marks n k F
   pub hits : TableHits
   pub picked : (n : ℕ) (lab : ℕ → ℕ) (c d : ℕ) → HopPicked n lab c d
+  pub chosen : (n : ℕ) (lab : ℕ → ℕ) (c d w g : ℕ) → HopChosen n lab c d w g
   pub repeats : WalkRepeats
   pub once : (go : ℕ → Decision) → Once go
   pub hop-local : HopLocal
   pub walk-local : WalkLocal
+  pub hop-in-local : HopInLocal
+  pub crossing-local : CrossingLocal
   pub cube : CubeLaws
   pub halves : JobLaws
   pub number : NumberLaws
@@ -122,3 +145,4 @@ pub record Promises : Type 2 where
   pub repair : RepairLaws
   pub message : MessageLaws
   pub worked : Worked
+  pub worked-blocks : WorkedBlocks

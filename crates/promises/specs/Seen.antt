@@ -1,5 +1,5 @@
 -- What a question is seen to answer and to leave is its result and the bytes of each buffer that it was lent to write, as they are: so a promise on an answer is
--- one on what the caller has in hand. (`InOrder`, in Tied.antt, says it of what is handed.) Proved in proofs/Seen.antt.
+-- one on what the caller has in hand. (`InOrder`, in Handed.antt, says it of what is handed.) Proved in proofs/Seen.antt.
 use mathlib.Core.Path.{_≡_}
 use contract.Lifetimes.{Lfts}
 use denote.Ref.{now}
@@ -10,6 +10,8 @@ use Rattle.notice.proofs.Functions as notice
 use Rattle.labels.proofs.Functions as labels
 use Rattle.hop.proofs.Functions as hop
 use Rattle.walk.proofs.Functions as walk
+use Rattle.hop_networks.proofs.Functions as hop_networks
+use Rattle.walk_networks.proofs.Functions as walk_networks
 use Rattle.why.proofs.Functions as why
 use Rattle.writer.proofs.Functions as writer
 use Rattle.list_reader.proofs.Functions as list_reader
@@ -37,6 +39,8 @@ pub record AsSeen : Type 0 where
   pub hcube-read-list : Answered hcube.read-list (λ κs r. r)
   pub hcube-write-list : Answered hcube.write-list (λ κs r. r)
   pub hcube-repair : Answered hcube.repair (λ κs r. r)
+  pub hcube-hop-networks : Answered hcube.hop-networks (λ κs r. r)
+  pub hcube-walk-networks : Answered hcube.walk-networks (λ κs r. r)
   pub labels-label : Answered labels.label (λ κs r. r)
   pub hop-hop : Answered hop.hop (λ κs r. r)
   pub walk-walk : Answered walk.walk (λ κs r. r)
@@ -49,8 +53,10 @@ pub record AsSeen : Type 0 where
   pub list-reader-read : Answered list_reader.read (λ κs r. r)
   pub list-writer-write : Answered list_writer.write (λ κs r. r)
   pub repair-repair : Answered repair.repair (λ κs r. r)
+  pub hop-networks-hop-networks : Answered hop_networks.hop-networks (λ κs r. r)
+  pub walk-networks-walk-networks : Answered walk_networks.walk-networks (λ κs r. r)
   -- and what is left: the label buffer, the row, the fault table, the buffer for a notice or a list text, the result and the row of a
-  -- repair
+  -- repair, the hop list
   pub hcube-label-left : Leaves hcube.label (λ κs e. now (e .1 .1 .1 .1 .1 .1 .0))
   pub hcube-walk-left : Leaves hcube.walk (λ κs e. now (e .1 .1 .1 .1 .1 .0))
   pub hcube-why-node-left : Leaves hcube.why-node (λ κs e. now (e .1 .1 .1 .1 .1 .1 .1 .0))
@@ -66,3 +72,5 @@ pub record AsSeen : Type 0 where
   pub list-reader-read-left : Leaves list_reader.read (λ κs e. now (e .1 .1 .0))
   pub list-writer-write-left : Leaves list_writer.write (λ κs e. now (e .1 .1 .0))
   pub repair-repair-left : Leaves repair.repair (λ κs e. (now (e .1 .1 .1 .0), now (e .1 .1 .1 .1 .0)))
+  pub hcube-walk-networks-left : Leaves hcube.walk-networks (λ κs e. now (e .1 .1 .1 .1 .1 .1 .0))
+  pub walk-networks-walk-networks-left : Leaves walk_networks.walk-networks (λ κs e. now (e .1 .1 .1 .1 .1 .1 .0))

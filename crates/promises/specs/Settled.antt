@@ -10,6 +10,8 @@ use Rattle.passes.proofs.Functions as passes
 use Rattle.labels.proofs.Functions as labels
 use Rattle.hop.proofs.Functions as hop
 use Rattle.walk.proofs.Functions as walk
+use Rattle.hop_networks.proofs.Functions as hop_networks
+use Rattle.walk_networks.proofs.Functions as walk_networks
 use Rattle.why.proofs.Functions as why
 use Rattle.writer.proofs.Functions as writer
 use Rattle.list_reader.proofs.Functions as list_reader
@@ -29,13 +31,20 @@ pub record Settled : Type 0 where
   pub hcube-read-list : Settles hcube.read-list
   pub hcube-write-list : Settles hcube.write-list
   pub hcube-repair : Settles hcube.repair
+  pub hcube-hop-networks : Settles hcube.hop-networks
+  pub hcube-walk-networks : Settles hcube.walk-networks
   pub labels-label : Settles labels.label
   pub labels-label-refusal : Settles labels.label-refusal
   pub passes-settle : Settles passes.settle
   pub hop-hop : Settles hop.hop
   pub hop-place-refusal : Settles hop.place-refusal
+  pub hop-near-refusal : Settles hop.near-refusal
   pub walk-walk : Settles walk.walk
   pub walk-walk-for : Settles walk.walk-for
+  pub hop-networks-hop-networks : Settles hop_networks.hop-networks
+  pub hop-networks-is-board : Settles hop_networks.is-board
+  pub hop-networks-board-refusal : Settles hop_networks.board-refusal
+  pub walk-networks-walk-networks : Settles walk_networks.walk-networks
   pub why-why-node : Settles why.why-node
   pub why-why-hop : Settles why.why-hop
   pub notice-dimension : Settles notice.dimension
@@ -63,6 +72,12 @@ pub record Settled : Type 0 where
   pub hop-hop-at : Settles hop.hop-at
   pub hop-gather : Settles hop.gather
   pub hop-chosen : Settles hop.chosen
+  pub hop-lowest : Settles hop.lowest
+  pub hop-last-hop : Settles hop.last-hop
+  pub walk-table-refusal : Settles walk.table-refusal
+  pub hop-networks-list-refusal : Settles hop_networks.list-refusal
+  pub hop-networks-after : Settles hop_networks.after
+  pub hop-networks-pick-at : Settles hop_networks.pick-at
   pub cube-nodes : Settles cube.nodes
   pub cube-neighbour : Settles cube.neighbour
   pub cube-table-len : Settles cube.table-len
@@ -73,7 +88,7 @@ pub record Settled : Type 0 where
   -- the half of a job: its bytes, and its place in the caller's memory
   pub jobs-half : Settles jobs.half
 
--- all but those last fourteen
+-- all but those last twenty
 pub record Unasked : Type 2 where
   pub hcube-label : AsksNothing hcube.label
   pub hcube-hop : AsksNothing hcube.hop
@@ -86,13 +101,20 @@ pub record Unasked : Type 2 where
   pub hcube-read-list : AsksNothing hcube.read-list
   pub hcube-write-list : AsksNothing hcube.write-list
   pub hcube-repair : AsksNothing hcube.repair
+  pub hcube-hop-networks : AsksNothing hcube.hop-networks
+  pub hcube-walk-networks : AsksNothing hcube.walk-networks
   pub labels-label : AsksNothing labels.label
   pub labels-label-refusal : AsksNothing labels.label-refusal
   pub passes-settle : AsksNothing passes.settle
   pub hop-hop : AsksNothing hop.hop
   pub hop-place-refusal : AsksNothing hop.place-refusal
+  pub hop-near-refusal : AsksNothing hop.near-refusal
   pub walk-walk : AsksNothing walk.walk
   pub walk-walk-for : AsksNothing walk.walk-for
+  pub hop-networks-hop-networks : AsksNothing hop_networks.hop-networks
+  pub hop-networks-is-board : AsksNothing hop_networks.is-board
+  pub hop-networks-board-refusal : AsksNothing hop_networks.board-refusal
+  pub walk-networks-walk-networks : AsksNothing walk_networks.walk-networks
   pub why-why-node : AsksNothing why.why-node
   pub why-why-hop : AsksNothing why.why-hop
   pub notice-dimension : AsksNothing notice.dimension

@@ -47,8 +47,12 @@ use Rattle.hop.proofs.gather as hop-gather
 use Rattle.hop.proofs.hop as hop-hop
 use Rattle.hop.proofs.hop_at as hop-hop-at
 use Rattle.hop.proofs.place_refusal as hop-place-refusal
+use Rattle.hop.proofs.last_hop as hop-last-hop
+use Rattle.hop.proofs.lowest as hop-lowest
+use Rattle.hop.proofs.near_refusal as hop-near-refusal
 use Rattle.walk.proofs.Functions as walk
 use Rattle.walk.proofs.walk as walk-walk
+use Rattle.walk.proofs.table_refusal as walk-table-refusal
 use Rattle.walk.proofs.walk_for as walk-walk-for
 use Rattle.why.proofs.Functions as why
 use Rattle.why.proofs.why_hop as why-why-hop
@@ -74,6 +78,7 @@ use Rattle.hcube.proofs.hcube_write_notice as hcube-write-notice
 use Rattle.hcube.proofs.hcube_read_list as hcube-read-list
 use Rattle.hcube.proofs.hcube_write_list as hcube-write-list
 use Rattle.hcube.proofs.hcube_repair as hcube-repair
+use Rattle.promises.specs.TiedNetworks.{NetworksTied}
 
 module _ {T : Ended} {A X B : Type 0} (f : Function T A X B) (written : Written T) where
   -- a method that holds a borrow, of which the check makes no claims: these are its clauses, and the claim is what whoever has its `ensures` learns
@@ -84,6 +89,7 @@ module _ {T : Ended} {A X B : Type 0} (f : Function T A X B) (written : Written 
         → (read : ReadAt w₀ (λ w. emp (w .𝓤)) no-know (written w₀ κs a .ensures g r e)) × (f .post κs a r e ≡ AllOf (read .tells))
 
 pub record AllTied : Type 2 where
+  pub networks : NetworksTied
   pub hcube-label :
       Tied hcube.label (λ w. hcube-label.clauses (w .𝓤) (w .H) (w .𝓖 .A) (w .𝓜 .mem) (w .𝓡 .run))
       hcube-label.Reads.Asked hcube-label.Reads.Post
@@ -145,6 +151,18 @@ pub record AllTied : Type 2 where
   pub hop-hop-at :
       Tied hop.hop-at (λ w. hop-hop-at.clauses (w .𝓤) (w .H) (w .𝓖 .A) (w .𝓜 .mem) (w .𝓡 .run))
       hop-hop-at.Reads.Asked hop-hop-at.Reads.Post
+  pub hop-near-refusal :
+      Tied hop.near-refusal (λ w. hop-near-refusal.clauses (w .𝓤) (w .H) (w .𝓖 .A) (w .𝓜 .mem) (w .𝓡 .run))
+      hop-near-refusal.Reads.Asked hop-near-refusal.Reads.Post
+  pub hop-lowest :
+      Tied hop.lowest (λ w. hop-lowest.clauses (w .𝓤) (w .H) (w .𝓖 .A) (w .𝓜 .mem) (w .𝓡 .run))
+      hop-lowest.Reads.Asked hop-lowest.Reads.Post
+  pub hop-last-hop :
+      Tied hop.last-hop (λ w. hop-last-hop.clauses (w .𝓤) (w .H) (w .𝓖 .A) (w .𝓜 .mem) (w .𝓡 .run))
+      hop-last-hop.Reads.Asked hop-last-hop.Reads.Post
+  pub walk-table-refusal :
+      Tied walk.table-refusal (λ w. walk-table-refusal.clauses (w .𝓤) (w .H) (w .𝓖 .A) (w .𝓜 .mem) (w .𝓡 .run))
+      walk-table-refusal.Reads.Asked walk-table-refusal.Reads.Post
   pub walk-walk : Tied walk.walk (λ w. walk-walk.clauses (w .𝓤) (w .H) (w .𝓖 .A) (w .𝓜 .mem) (w .𝓡 .run)) walk-walk.Reads.Asked walk-walk.Reads.Post
   pub walk-walk-for :
       Tied walk.walk-for (λ w. walk-walk-for.clauses (w .𝓤) (w .H) (w .𝓖 .A) (w .𝓜 .mem) (w .𝓡 .run))

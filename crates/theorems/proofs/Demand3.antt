@@ -33,16 +33,16 @@ use Rattle.theorems.proofs.Advances.{endOf}
 use Rattle.theorems.proofs.Walks.{Delivers, Halts, Kept, Nears, WalkFacts, walk-facts}
 
 -- what is known of the label bytes of an accepted table
-record Table (K : Cabinet) (j : ℕ) : Type 0 where
-  dimension : isDimension (K .n) ≡ true
-  small : K .n ≤ 12
-  job : isJob j ≡ true
-  good : Good (K .n) (labelAt K)
-  out-high : (x : ℕ) → x < 2 ^ K .n → out K x ≡ true → 3 ≤ labelAt K x
-  receives : (x : ℕ) → x < 2 ^ K .n → faulty K x ≡ false → Receives (labelAt K x)
-  working : (x : ℕ) → x < 2 ^ K .n → out K x ≡ false → labelAt K x ≤ 2
+pub record Table (K : Cabinet) (j : ℕ) : Type 0 where
+  pub dimension : isDimension (K .n) ≡ true
+  pub small : K .n ≤ 12
+  pub job : isJob j ≡ true
+  pub good : Good (K .n) (labelAt K)
+  pub out-high : (x : ℕ) → x < 2 ^ K .n → out K x ≡ true → 3 ≤ labelAt K x
+  pub receives : (x : ℕ) → x < 2 ^ K .n → faulty K x ≡ false → Receives (labelAt K x)
+  pub working : (x : ℕ) → x < 2 ^ K .n → out K x ≡ false → labelAt K x ≤ 2
 
-table : (K : Cabinet) (j : ℕ) → Accepted K j → Table K j
+pub table : (K : Cabinet) (j : ℕ) → Accepted K j → Table K j
 table K j ok =
     let f = fitting K j (labelBytes (K .n)) ok in
     record {
@@ -54,6 +54,10 @@ table K j ok =
       receives = receives K;
       working = works K;
     }
+
+-- a node whose label says so works
+pub works-at : (K : Cabinet) (j : ℕ) → Table K j → (x : ℕ) → x < 2 ^ K .n → labelAt K x ≤ 2 → Works K x
+works-at K j T x h l = (h, is-false (λ t. omega (arith, T .out-high x h t)))
 
 module _ (K : Cabinet) (j : ℕ) (T : Table K j) (s d : ℕ) (hs : Works K s) (hd : Takes K d) where
   abbrev n : ℕ
@@ -112,9 +116,6 @@ module _ (K : Cabinet) (j : ℕ) (T : Table K j) (s d : ℕ) (hs : Works K s) (h
   abbrev end-place : place w (hops n (route n lab d) s) ≡ endOf n lab d s
   end-place = used (hops n (route n lab d) s) (omega arith)
 
-  works-at : (x : ℕ) → x < 2 ^ n → lab x ≤ 2 → Works K x
-  works-at x h l = (h, is-false (λ t. omega (arith, T .out-high x h t)))
-
   stepped : Kept n lab d s → Stepped K lab d s w
   unfolding turn
   stepped W =
@@ -123,10 +124,10 @@ module _ (K : Cabinet) (j : ℕ) (T : Table K j) (s d : ℕ) (hs : Works K s) (h
         steps = λ k h. let r = W .steps k h in
             let here = used k (omega arith) in
             (r .0, r .1, rw here (r .2), used (k + 1) (omega arith) ∙ r .3 ∙ ap (flip (r .0)) (sym here));
-        works = λ k h. let r = W .works k h in rw (used k (omega arith)) (works-at (spot (route n lab d) s k) (r .0) (r .1));
+        works = λ k h. let r = W .works k h in rw (used k (omega arith)) (works-at K j T (spot (route n lab d) s k) (r .0) (r .1));
         last-works =
             let r = W .end in
-            rw end-place (⊎-elim (λ (l : lab (endOf n lab d s) ≤ 2). inl (works-at _ (r .0) l)) (λ q. inr q) (r .1));
+            rw end-place (⊎-elim (λ (l : lab (endOf n lab d s) ≤ 2). inl (works-at K j T _ (r .0) l)) (λ q. inr q) (r .1));
         unused = row-unused n (route n lab d) s;
       }
 

@@ -11,3 +11,6 @@ pub mod Delivers
 pub mod TwoRules
 pub mod BeforeLabels
 pub mod Before
+pub mod Along
+pub mod Crossings
+pub mod Networks

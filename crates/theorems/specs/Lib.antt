@@ -8,3 +8,4 @@ pub mod Demand3
 pub mod Delivers
 pub mod TwoRules
 pub mod Before
+pub mod Networks
