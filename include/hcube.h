@@ -3,10 +3,11 @@
  * hcube.h: fault-tolerant routing in a hypercube, as C calls it.
  *
  * The rules in whole stand in docs/RULES.md of the source repository: Labels for
- * hcube_label, One hop for hcube_hop, Walk for hcube_walk, Why for the questions
- * that say why, Tables and the notice for the functions that read and write a
- * notice, List text for those that read and write a list, Asking the neighbours
- * for hcube_repair, Refusal numbers for all refusals, To C for the answers.
+ * hcube_label, One hop for hcube_hop, Walk for hcube_walk, Virtual networks for
+ * hcube_hop_networks and hcube_walk_networks, Why for the questions that say why,
+ * Tables and the notice for the functions that read and write a notice, List text
+ * for those that read and write a list, Asking the neighbours for hcube_repair,
+ * Refusal numbers for all refusals, To C for the answers.
  *
  * A cube of dimension n, 1 to 12, has the nodes 0 to 2^n - 1. Nodes whose
  * numbers differ in bit i alone are neighbours across dimension i.
@@ -78,7 +79,7 @@ extern "C" {
 /* The version of this interface. Whatever a program that was right with an
  * earlier one would notice raises MAJOR, what is new MINOR, all else PATCH. */
 #define HCUBE_VERSION_MAJOR 1
-#define HCUBE_VERSION_MINOR 4
+#define HCUBE_VERSION_MINOR 5
 #define HCUBE_VERSION_PATCH 0
 #define HCUBE_VERSION                                                          \
     (HCUBE_VERSION_MAJOR * 10000 + HCUBE_VERSION_MINOR * 100 +                 \
@@ -91,6 +92,8 @@ extern "C" {
 #define HCUBE_FAULT_BYTES_MAX 512
 #define HCUBE_NOTICE_BYTES_MAX 4099 /* the longest notice */
 #define HCUBE_LIST_BYTES_MAX 12913  /* the longest list that is written */
+#define HCUBE_NETWORKS_MAX 5
+#define HCUBE_HOPS_BYTES_MAX 120 /* room for the hops of every walk by networks */
 
 /* Sizes in bytes: of one job's labels, a label buffer with both jobs' halves, a
  * fault, draining or closed table, a walk's row. HCUBE_NODES(n) also is how many
@@ -105,6 +108,10 @@ extern "C" {
 #define HCUBE_LABEL_BYTES(n) (2 * HCUBE_NODES(n))
 #define HCUBE_FAULT_BYTES(n) ((HCUBE_NODES(n) + 7) / 8)
 #define HCUBE_ROW_BYTES 34
+
+/* The bytes of a hop list for hcube_walk_networks: no walk by so many networks has
+ * more hops, whatever the labels. */
+#define HCUBE_HOPS_BYTES(n, networks) (2 * (n) * (networks))
 
 /* Where the half of job 0 or 1 begins in a label buffer, in bytes: the label of
  * node k is labels[HCUBE_HALF(n, job) + k]. */
@@ -144,8 +151,12 @@ extern "C" {
 #define HCUBE_BAD_ADDRESS 12     /* an address, or a node of a list, is 2^n or
                                   * more */
 #define HCUBE_NO_ROOM 13         /* a lent buffer is too short for what is to be
-                                  * written */
+                                  * written, or for the most hops of a walk */
 #define HCUBE_BAD_LIST 14        /* list text that is no list */
+#define HCUBE_BAD_NETWORK 15     /* not 1 to 5 networks, or a current network that
+                                  * the board lacks, or a direction above 1 */
+#define HCUBE_NO_NETWORK 16      /* the next hop needs a network that the board
+                                  * lacks */
 #define HCUBE_BAD_MASK 17        /* a mask with a bit at n or above */
 #define HCUBE_BAD_RULE 18        /* the rule's number is not 2 or 3 */
 #define HCUBE_BAD_JOB 19         /* the job's number is not 0 or 1 */
@@ -196,9 +207,13 @@ HCUBE_INLINE const char *hcube_refusal_text(uint32_t number)
     case HCUBE_BAD_ADDRESS:
         return "an address is 2^n or more";
     case HCUBE_NO_ROOM:
-        return "a lent buffer is too short for what is to be written";
+        return "a lent buffer is too short";
     case HCUBE_BAD_LIST:
         return "the text is not a list such as 0-3,8";
+    case HCUBE_BAD_NETWORK:
+        return "not 1 to 5 networks, or no such network or direction";
+    case HCUBE_NO_NETWORK:
+        return "the next hop needs a network that the board lacks";
     case HCUBE_BAD_MASK:
         return "a mask has a bit at n or above";
     case HCUBE_BAD_RULE:
@@ -255,6 +270,12 @@ HCUBE_INLINE const char *hcube_scan_text(uint32_t scan)
  * dimension. */
 #define HCUBE_WHY_SCAN(answer) (((answer) >> 8) & 0xff)
 #define HCUBE_WHY_DIMENSION(answer) ((answer) & 0xff)
+
+/* Parts of a hop by networks, which is network * 16 + dimension: of the value of
+ * hcube_hop_networks, of kind HCUBE_HOP, and of a byte of the hop list of
+ * hcube_walk_networks. */
+#define HCUBE_HOP_NETWORK(hop) (((hop) >> 4) & 0xf)
+#define HCUBE_HOP_DIMENSION(hop) ((hop) & 0xf)
 
 /*
  * Labels every node of the cube for one job, into that job's half of `labels`.
@@ -380,6 +401,95 @@ uint32_t hcube_hop(uint32_t n, uint32_t job, uint32_t c, uint32_t d,
 uint32_t hcube_walk(uint32_t n, uint32_t job, uint32_t s, uint32_t d,
                     const uint8_t *labels, size_t labels_len,
                     uint8_t *row, size_t row_len);
+
+/*
+ * Decides one hop of a job at node c, for a message to node d, on a board that has
+ * `networks` virtual networks, by Algorithm ROUTE_C (Chiu and Wu 1994, figure 4).
+ * The message came to c in `network`, going up (bits from 0 to 1) where `down` is
+ * 0 and down (from 1 to 0) where it is 1; a message that starts is in network 0,
+ * going up. Of the bytes of `labels` only those of c and of its n neighbours in
+ * the job's half are read, each once. Nothing is written.
+ *
+ * A hop that goes on in the message's direction stays in its network. One that
+ * turns from up to down stays in it too; one that turns from down to up takes the
+ * next network.
+ *
+ * Refusals, in order:
+ *   1   n is not 1 to 12
+ *   15  networks is not 1 to HCUBE_NETWORKS_MAX, or network is `networks` or more,
+ *       or down is above 1
+ *   19  job is not 0 or 1
+ *   2   labels_len is not HCUBE_LABEL_BYTES(n)
+ *   5   c or d is 2^n or more
+ *   4   the label of c or of a neighbour of c is above 4
+ *   6   the label of c is 3, or it is 4 and c is not d
+ *   16  the hop would be in network `networks`, which the board lacks; no other
+ *       hop is tried in its place
+ * Accepted: kind HCUBE_DELIVER (c is d) with value 0; HCUBE_HOP with the network
+ * and the dimension of the hop as HCUBE_HOP_NETWORK and HCUBE_HOP_DIMENSION of
+ * the value; or HCUBE_HALTED with value 0. After the hop the message is in that
+ * network, and goes down where bit `dimension` of c is 1.
+ *
+ * The hop to d is tried first, where c and d differ in one bit alone and d is
+ * draining. Then FORWARD is called for the forward dimensions (c and d differ in
+ * it) and, where it makes no hop, for the spare ones. It tries these blocks, each
+ * from dimension 0 up; l is the number of bits in which c and d differ, "on" is
+ * the message's direction, and a draining neighbour counts as faulty:
+ *   1  on, the neighbour is safe
+ *   2  turning, the neighbour is safe
+ *   3  on, the neighbour is safe or ordinarily unsafe
+ *   4  turning, the neighbour is safe or ordinarily unsafe; but from down to up
+ *      it hops only in network 0 or where l <= 2
+ *   5  on, the neighbour is not faulty, and c is strongly unsafe or l <= 2
+ *   6  turning, the neighbour is not faulty, and c is strongly unsafe or l <= 2;
+ *      but from down to up it hops only where l <= 2
+ * The first block that finds a dimension ends the call; where it may not hop, the
+ * call ends without one.
+ */
+uint32_t hcube_hop_networks(uint32_t n, uint32_t networks, uint32_t job,
+                            uint32_t c, uint32_t d, uint32_t network,
+                            uint32_t down,
+                            const uint8_t *labels, size_t labels_len);
+
+/*
+ * Walks for a job from node s to node d on a board that has `networks` virtual
+ * networks: one hcube_hop_networks after the other, from network 0, going up, over
+ * a half of any label bytes 0 to 4. d may be draining.
+ *
+ * Whatever the half: the pair of network and direction never goes back, so that
+ * all hops up in a network come before its hops down; the walk has at most
+ * HCUBE_HOPS_BYTES(n, networks) hops and uses no channel (node, dimension and
+ * network) twice; and where it is delivered or halted, a board with more networks
+ * gives the same answer and the same hops. The channels stand in an order, the same
+ * for all messages and labels, in which each hop of each message comes after the
+ * hop before it: so messages that hold a channel while they wait for the next
+ * never wait for one another in a circle.
+ *
+ * With the labels that hcube_label wrote, from a node that works to one that works
+ * or is draining, l bits apart: if any node is safe, five networks deliver, in l
+ * hops where s is safe, and otherwise in at most l + 2 from an ordinarily unsafe s
+ * and at most l + 4 from a strongly unsafe one. Every node before the last works.
+ *
+ * Refusals, in order:
+ *   1   n is not 1 to 12
+ *   15  networks is not 1 to HCUBE_NETWORKS_MAX
+ *   19  job is not 0 or 1
+ *   2   labels_len is not HCUBE_LABEL_BYTES(n)
+ *   13  hops_len is below HCUBE_HOPS_BYTES(n, networks)
+ *   5   s or d is 2^n or more
+ *   4   any byte of the job's half is above 4
+ *   6   the label of s is 3 or 4, also where s is d
+ *   7   the label of d is 3
+ *   16  the next hop would be in network `networks`, which the board lacks
+ * Accepted: kind HCUBE_WALK_DELIVERED or HCUBE_WALK_HALTED, value the number of
+ * hops. As many bytes of `hops` are written, one a hop, the first hop first, each
+ * with HCUBE_HOP_NETWORK and HCUBE_HOP_DIMENSION; those behind them keep their
+ * content.
+ */
+uint32_t hcube_walk_networks(uint32_t n, uint32_t networks, uint32_t job,
+                             uint32_t s, uint32_t d,
+                             const uint8_t *labels, size_t labels_len,
+                             uint8_t *hops, size_t hops_len);
 
 /*
  * Says why node x has its label. It is lent what hcube_label is lent, labels

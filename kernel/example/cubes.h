@@ -1,7 +1,7 @@
 /* SPDX-License-Identifier: GPL-2.0-only OR MIT */
 /*
- * The cubes whose answers the module has stored, for make_answers.c, make_notices.c, make_lists.c and make_repairs.c, and
- * what these share. They run where the module is built; the module itself does not read this.
+ * The cubes whose answers the module has stored, for make_answers.c, make_notices.c, make_lists.c, make_repairs.c and
+ * make_networks.c, and what these share. They run where the module is built; the module itself does not read this.
  */
 #ifndef CUBES_H
 #define CUBES_H

@@ -2,8 +2,9 @@
 /*
  * An example of a kernel module that calls the functions of hcube.h; the calls are in stored.c. At load it labels each
  * stored cube for both jobs in one buffer, asks why each node of either has its label, and hop, why that hop, and walk
- * for all pairs, reads the stored notices and lists, writes others, repairs the stored tables, compares with the stored
- * answers and prints one line. Then it compares list text with the kernel's own (hcube_lists.c).
+ * for all pairs, reads the stored notices and lists, writes others, repairs the stored tables, hops and walks by
+ * networks for stored pairs, compares with the stored answers and prints one line. Then it compares list text with the
+ * kernel's own (hcube_lists.c).
  */
 #include <linux/init.h>
 #include <linux/kernel.h>
@@ -70,15 +71,16 @@ static int __init hcube_example_init(void)
 	wrong += said(hcube_wrong_lists(), "lists");
 	wrong += said(hcube_wrong_list_writings(), "lists written");
 	wrong += said(hcube_wrong_repairings(), "tables repaired");
+	wrong += said(hcube_wrong_networkings(), "pairs by networks");
 	for (k = 0; k < hcube_stored_count; k++) {
 		wrong += wrong_answers(&hcube_stored[k], labels);
 		whys += HCUBE_JOBS * hcube_whys(&hcube_stored[k]);
 		pairs += HCUBE_JOBS * hcube_pairs(&hcube_stored[k]);
 	}
 	kfree(labels);
-	pr_info("hcube_example: %zu cubes labelled for two jobs, %zu nodes, %zu pairs, %zu notices read and %zu written, %zu lists read and %zu written, %zu tables repaired compared, %zu wrong\n",
+	pr_info("hcube_example: %zu cubes labelled for two jobs, %zu nodes, %zu pairs, %zu notices read and %zu written, %zu lists read and %zu written, %zu tables repaired, %zu pairs by networks compared, %zu wrong\n",
 		hcube_stored_count, whys, pairs, hcube_notice_count, hcube_writing_count, hcube_list_count,
-		hcube_list_writing_count, hcube_repairing_count, wrong);
+		hcube_list_writing_count, hcube_repairing_count, hcube_networking_count, wrong);
 	error = wrong ? -EIO : hcube_lists_compare();
 	if (!error)
 		error = hcube_jobs_compare();

@@ -2,10 +2,10 @@
 /*
  * The load of kernel/test; a driver needs nothing of it. Whoever writes a number of milliseconds to /proc/hcube_demo,
  * which has the module's name, has all stored answers compared again and again for that long, in his own process and
- * with interrupts on. Meanwhile a timer interrupts every 100 microseconds and compares eight things itself: a pair, of
+ * with interrupts on. Meanwhile a timer interrupts every 100 microseconds and compares nine things itself: a pair, of
  * each cube and of either job in turn; one of the job that the process is not at work for, in the very buffer that it
  * is at work in; a node of that job there, which labels it once more; a notice and a list that are read, and one of each
- * that is written; and a table that is repaired, of which some have random masks.
+ * that is written; a table that is repaired, of which some have random masks; and a pair by networks.
  */
 #include <linux/atomic.h>
 #include <linux/hrtimer.h>
@@ -24,7 +24,7 @@
 #define HAMMER_PERIOD ns_to_ktime(100 * 1000)
 
 static atomic64_t pairs, interrupts, beside, whys, whys_beside, notices, writings, lists, list_writings, repairings,
-	wrong;
+	networkings, wrong;
 
 struct hammer {
 	struct hrtimer timer;
@@ -90,6 +90,8 @@ static enum hrtimer_restart interrupted(struct hrtimer *timer)
 		atomic64_inc(&wrong);
 	if (!hcube_repairing_is_right(&hcube_repairings[hammer->turn % hcube_repairing_count]))
 		atomic64_inc(&wrong);
+	if (!hcube_networking_is_right(&hcube_networkings[hammer->turn % hcube_networking_count]))
+		atomic64_inc(&wrong);
 	atomic64_inc(&interrupts);
 	hrtimer_forward_now(timer, HAMMER_PERIOD);
 	return HRTIMER_RESTART;
@@ -107,7 +109,8 @@ static void set_up(struct hammer *hammer)
 }
 
 /*
- * Labelling, notices, lists and repairs take their turns too: about a twentieth of the time each, repairs by estimate.
+ * Labelling, notices, lists, repairs and pairs by networks take their turns too: about a twentieth of the time each, the
+ * last two by estimate.
  * Asking why, which labels for each node, takes about a third.
  */
 static void compare(const struct hcube_cube *cube, uint32_t job, uint8_t *labels)
@@ -132,6 +135,8 @@ static void compare(const struct hcube_cube *cube, uint32_t job, uint8_t *labels
 	atomic64_add(hcube_list_writing_count, &list_writings);
 	atomic64_add(hcube_wrong_repairings(), &wrong);
 	atomic64_add(hcube_repairing_count, &repairings);
+	atomic64_add(hcube_wrong_networkings(), &wrong);
+	atomic64_add(hcube_networking_count, &networkings);
 }
 
 /* Each job in turn, while the timer asks the other one. */
@@ -189,7 +194,7 @@ int hcube_hammer_start(void)
 void hcube_hammer_stop(void)
 {
 	remove_proc_entry(HAMMER_FILE, NULL);
-	pr_info("hcube_hammer: %lld pairs compared, %lld in interrupts, %lld beside the other job at work, %lld nodes compared, %lld beside the other job at work, %lld notices read, %lld in interrupts, %lld written, %lld in interrupts, %lld lists read, %lld in interrupts, %lld written, %lld in interrupts, %lld tables repaired, %lld in interrupts, %lld wrong\n",
+	pr_info("hcube_hammer: %lld pairs compared, %lld in interrupts, %lld beside the other job at work, %lld nodes compared, %lld beside the other job at work, %lld notices read, %lld in interrupts, %lld written, %lld in interrupts, %lld lists read, %lld in interrupts, %lld written, %lld in interrupts, %lld tables repaired, %lld in interrupts, %lld pairs by networks, %lld in interrupts, %lld wrong\n",
 		(long long)(atomic64_read(&pairs) + atomic64_read(&interrupts) + atomic64_read(&beside)),
 		(long long)atomic64_read(&interrupts), (long long)atomic64_read(&beside),
 		(long long)(atomic64_read(&whys) + atomic64_read(&whys_beside)), (long long)atomic64_read(&whys_beside),
@@ -199,6 +204,8 @@ void hcube_hammer_stop(void)
 		(long long)(atomic64_read(&list_writings) + atomic64_read(&interrupts)),
 		(long long)atomic64_read(&interrupts),
 		(long long)(atomic64_read(&repairings) + atomic64_read(&interrupts)),
+		(long long)atomic64_read(&interrupts),
+		(long long)(atomic64_read(&networkings) + atomic64_read(&interrupts)),
 		(long long)atomic64_read(&interrupts),
 		(long long)atomic64_read(&wrong));
 }

@@ -1,7 +1,7 @@
 // SPDX-License-Identifier: GPL-2.0-only OR MIT
 /*
- * Calls the functions of hcube.h on the stored cubes, notices, lists and tables, and compares with the stored answers.
- * It calls nothing else of the module.
+ * Calls the functions of hcube.h on the stored cubes, notices, lists, tables and pairs, and compares with the stored
+ * answers. It calls nothing else of the module.
  */
 #include <linux/kernel.h>
 #include <linux/string.h>
@@ -12,6 +12,7 @@
 #include "notices.h"
 #include "lists.h"
 #include "repairs.h"
+#include "networks.h"
 
 const struct hcube_cube *const hcube_stored = hcube_cubes;
 const size_t hcube_stored_count = ARRAY_SIZE(hcube_cubes);
@@ -25,6 +26,8 @@ const struct hcube_list_writing *const hcube_list_writings = list_writings;
 const size_t hcube_list_writing_count = ARRAY_SIZE(list_writings);
 const struct hcube_repairing *const hcube_repairings = repairings;
 const size_t hcube_repairing_count = ARRAY_SIZE(repairings);
+const struct hcube_networking *const hcube_networkings = networkings;
+const size_t hcube_networking_count = ARRAY_SIZE(networkings);
 
 uint32_t hcube_label_stored(const struct hcube_cube *cube, uint32_t job, const struct hcube_closing *closing,
 			    uint8_t *labels)
@@ -204,5 +207,28 @@ size_t hcube_wrong_repairings(void)
 
 	for (k = 0; k < hcube_repairing_count; k++)
 		wrong += !hcube_repairing_is_right(&hcube_repairings[k]);
+	return wrong;
+}
+
+bool hcube_networking_is_right(const struct hcube_networking *networking)
+{
+	uint8_t hops[STORED_HOPS];
+
+	memset(hops, HCUBE_UNTOUCHED, sizeof(hops));
+	return hcube_hop_networks(networking->n, networking->networks, networking->job, networking->s, networking->d,
+				  networking->network, networking->down, networking->labels, networking->labels_len) ==
+		       networking->hop &&
+	       hcube_walk_networks(networking->n, networking->networks, networking->job, networking->s, networking->d,
+				   networking->labels, networking->labels_len, hops, networking->hops_len) ==
+		       networking->walk &&
+	       memcmp(hops, networking->hops, sizeof(hops)) == 0;
+}
+
+size_t hcube_wrong_networkings(void)
+{
+	size_t wrong = 0, k;
+
+	for (k = 0; k < hcube_networking_count; k++)
+		wrong += !hcube_networking_is_right(&hcube_networkings[k]);
 	return wrong;
 }

@@ -1,7 +1,8 @@
 /* SPDX-License-Identifier: GPL-2.0-only OR MIT */
 /*
- * What the module knows of the stored answers, and the comparing with them (stored.c). answers.h, notices.h, lists.h and
- * repairs.h have the answers; make_answers.c, make_notices.c, make_lists.c and make_repairs.c write these four.
+ * What the module knows of the stored answers, and the comparing with them (stored.c). answers.h, notices.h, lists.h,
+ * repairs.h and networks.h have the answers; make_answers.c, make_notices.c, make_lists.c, make_repairs.c and
+ * make_networks.c write these five.
  */
 #ifndef STORED_H
 #define STORED_H
@@ -14,7 +15,8 @@ enum {
 	STORED_NOTICE_BYTES = 16,
 	STORED_TEXT_BYTES = 40,
 	STORED_TABLE_BYTES = 40,
-	STORED_NUMBERS = 66
+	STORED_NUMBERS = 66,
+	STORED_HOPS = 64
 };
 
 /* The answers for one pair. The row of a refused walk keeps the byte HCUBE_UNTOUCHED. */
@@ -97,6 +99,16 @@ struct hcube_repairing {
 	uint16_t row[STORED_NUMBERS];
 };
 
+/* A hop and a walk by networks, accepted or refused, and their answers. */
+struct hcube_networking {
+	uint32_t n, networks, job, s, d;
+	uint32_t network, down; /* how the message of the hop came */
+	const uint8_t *labels;
+	size_t labels_len, hops_len; /* of what is lent */
+	uint32_t hop, walk; /* what hcube_hop_networks and hcube_walk_networks answer */
+	uint8_t hops[STORED_HOPS]; /* what the list holds then; a byte that is not written keeps HCUBE_UNTOUCHED */
+};
+
 extern const struct hcube_cube *const hcube_stored;
 extern const size_t hcube_stored_count;
 extern const struct hcube_notice *const hcube_notices;
@@ -109,6 +121,8 @@ extern const struct hcube_list_writing *const hcube_list_writings;
 extern const size_t hcube_list_writing_count;
 extern const struct hcube_repairing *const hcube_repairings;
 extern const size_t hcube_repairing_count;
+extern const struct hcube_networking *const hcube_networkings;
+extern const size_t hcube_networking_count;
 
 /* Ends may be one above the last node, which is refused. */
 static inline size_t hcube_pairs(const struct hcube_cube *cube)
@@ -180,5 +194,11 @@ bool hcube_repairing_is_right(const struct hcube_repairing *repairing);
 
 /* How many of all that are repaired are not. */
 size_t hcube_wrong_repairings(void);
+
+/* Hops and walks by networks, and says whether the answers and every byte of the list and behind it are as stored. */
+bool hcube_networking_is_right(const struct hcube_networking *networking);
+
+/* How many of all of these are not. */
+size_t hcube_wrong_networkings(void);
 
 #endif
