@@ -1,7 +1,7 @@
 /*
  * bench.c: times of the archive as a ratio to the same algorithm in plain C, on
  * tables with and without draining and closed nodes, for either job; of notices; of
- * list text; and of repairs.
+ * list text; of repairs; and of hop and walk by virtual networks.
  *
  *   bench REPETITIONS
  */
@@ -183,6 +183,32 @@ static void print_repairs(void)
     print_repair_row("full, half faulty");
 }
 
+/* The same, of tables as above. */
+static void print_networks(void)
+{
+    static const unsigned counts[] = {0, 41, 410};
+    char name[32];
+    printf("\nby five networks\n n job table                   hop ratio         walk "
+           "ratio\n");
+    job = 0;
+    for (unsigned k = 0; k < COUNT(counts); k++) {
+        set_random(counts[k], 0, 0);
+        snprintf(name, sizeof name, "%u faults", counts[k]);
+        print_networks_row(name);
+    }
+    set_worst();
+    print_networks_row("worst");
+    set_random(137, 137, 137);
+    for (job = 0; job <= 1; job++)
+        print_networks_row("137, 137, 137");
+    job = 0;
+    for (uint32_t dimension = 4; dimension <= 12; dimension += 2) {
+        set_dimension(dimension);
+        add_nodes(faults, 1u << dimension >> 4);
+        print_networks_row("1/16 faulty");
+    }
+}
+
 static void print_head(const char *name)
 {
     static const char *const columns[] = {"label", "hop", "walk", "why label",
@@ -215,6 +241,7 @@ int main(int count, char **words)
     print_notices();
     print_lists();
     print_repairs();
+    print_networks();
     print_highest();
     return 0;
 }

@@ -1,7 +1,8 @@
 /*
  * plain.c: the library's algorithm in plain C, to measure the archive against:
- * labelling, and why a node has its label. Hop and walk are in plain_hop.c, the
- * notice in plain_notice.c. PREFIX is the prefix of the functions' names.
+ * labelling, and why a node has its label. Hop and walk are in plain_hop.c, those by
+ * networks in plain_networks.c, the notice in plain_notice.c. PREFIX is the prefix of
+ * the functions' names.
  */
 #include "plain.h"
 

@@ -1,7 +1,7 @@
 /*
- * plain.h: labelling, hop, walk, the questions that say why, writing and reading a
- * notice and list text, and repairing a table in plain C, compiled by two compilers
- * (gcc_, clang_); and what its five files share.
+ * plain.h: labelling, hop, walk, the same two by networks, the questions that say why,
+ * writing and reading a notice and list text, and repairing a table in plain C, compiled
+ * by two compilers (gcc_, clang_); and what its six files share.
  */
 #ifndef PLAIN_H
 #define PLAIN_H
@@ -20,6 +20,14 @@
     uint32_t prefix##walk(uint32_t n, uint32_t job, uint32_t s, uint32_t d,    \
                           const uint8_t *labels, size_t labels_len,            \
                           uint8_t *row, size_t row_len);                       \
+    uint32_t prefix##hop_networks(uint32_t n, uint32_t networks, uint32_t job, \
+                                  uint32_t c, uint32_t d, uint32_t network,    \
+                                  uint32_t down, const uint8_t *labels,        \
+                                  size_t labels_len);                          \
+    uint32_t prefix##walk_networks(uint32_t n, uint32_t networks,              \
+                                   uint32_t job, uint32_t s, uint32_t d,       \
+                                   const uint8_t *labels, size_t labels_len,   \
+                                   uint8_t *hops, size_t hops_len);            \
     uint64_t prefix##why_node(uint32_t n, uint32_t rule, uint32_t job,         \
                               uint32_t x, const uint8_t *faults,               \
                               size_t faults_len, const uint8_t *draining,      \

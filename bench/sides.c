@@ -1,7 +1,7 @@
 /*
  * sides.c: label, hop, walk and the questions that say why, as the archive and
  * the two C builds answer them. The notice is in notices.c, list text in lists.c,
- * repairing in repairs.c.
+ * repairing in repairs.c, hop and walk by networks in networks.c.
  */
 #include "sides.h"
 

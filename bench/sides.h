@@ -26,10 +26,12 @@ void expect_alike(asked *question, const char *name);
 
 /* Measures and prints a row, if the three sides answer alike: of the questions
  * about labels (sides.c), of the notice of `faults` (notices.c), of its list text
- * (lists.c) and of its repair by `masks` (repairs.c). */
+ * (lists.c), of its repair by `masks` (repairs.c) and of hop and walk by networks
+ * (networks.c). */
 void print_row(const char *name);
 void print_notice_row(const char *name);
 void print_list_row(const char *name);
 void print_repair_row(const char *name);
+void print_networks_row(const char *name);
 
 #endif

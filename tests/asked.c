@@ -12,7 +12,7 @@
 
 /* The call's name and numbers, and its buffers. */
 static struct asked {
-    char call[80];
+    char call[120];
     unsigned count;
     struct buffer {
         const char *name;
@@ -105,6 +105,31 @@ void keep_why_hop(struct hop_question asked)
              asked.c, asked.d);
     last->count = 0;
     keep_bytes("labels", asked.labels, asked.labels_len);
+}
+
+void keep_net_hop(struct net_hop_question asked)
+{
+    if (!last)
+        return;
+    snprintf(last->call, sizeof last->call,
+             "hcube_hop_networks, n %u, networks %u, job %u, c %u, d %u, network %u, "
+             "down %u",
+             asked.n, asked.networks, asked.job, asked.c, asked.d, asked.network,
+             asked.down);
+    last->count = 0;
+    keep_bytes("labels", asked.labels, asked.labels_len);
+}
+
+void keep_net_walk(struct net_walk_question asked)
+{
+    if (!last)
+        return;
+    snprintf(last->call, sizeof last->call,
+             "hcube_walk_networks, n %u, networks %u, job %u, s %u, d %u", asked.n,
+             asked.networks, asked.job, asked.s, asked.d);
+    last->count = 0;
+    keep_bytes("labels", asked.labels, asked.labels_len);
+    keep_bytes("hops", asked.hops, asked.hops_len);
 }
 
 void keep_dimension(const uint8_t *bytes, size_t len)

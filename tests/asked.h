@@ -16,6 +16,8 @@ void keep_hop(struct hop_question asked);
 void keep_walk(struct walk_question asked);
 void keep_why_node(struct label_question asked, uint32_t x);
 void keep_why_hop(struct hop_question asked);
+void keep_net_hop(struct net_hop_question asked);
+void keep_net_walk(struct net_walk_question asked);
 void keep_dimension(const uint8_t *bytes, size_t len);
 void keep_notice(const uint8_t *bytes, size_t len, const uint8_t *faults,
                  size_t faults_len);

@@ -24,6 +24,11 @@ uint32_t check_why_hop(struct hop_question asked);
 /* Also that why it is taken agrees with the hop. */
 uint32_t check_hop(struct hop_question asked);
 uint32_t check_walk(struct walk_question asked);
+uint32_t check_net_hop(struct net_hop_question asked);
+/* Also that each hop is in a network that the board has, that network and direction
+ * never go back, that no channel is used twice, that each node before the last works,
+ * and that a walk that is delivered ends at its destination. */
+uint32_t check_net_walk(struct net_walk_question asked);
 uint32_t check_dimension(const uint8_t *bytes, size_t len);
 /* Also that the dimension of the bytes alone agrees with the whole notice. */
 uint64_t check_notice(const uint8_t *bytes, size_t len,

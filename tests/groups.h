@@ -7,6 +7,7 @@ void check_worked_why(void);      /* worked_why.c */
 void check_worked_notices(void);  /* worked_notice.c */
 void check_worked_lists(void);    /* worked_list.c */
 void check_worked_repairs(void);  /* worked_repair.c */
+void check_worked_networks(void); /* worked_networks.c */
 void check_most_exchanges(void);  /* exchanges.c */
 void check_one_exchange(void);
 void check_ceilings(void);
@@ -90,5 +91,24 @@ void check_repair_damaged(void);
 void check_repair_dimensions(void);
 void check_repair_left(void);
 void check_repair_lengths(void);  /* repair_lengths.c */
+void check_net_small(void);       /* networks.c */
+void check_net_random(void);
+void check_net_reads(void);
+void check_net_blocks(void);      /* networks_blocks.c */
+void check_net_steps(void);       /* networks_walks.c */
+void check_net_arrivals(void);
+void check_net_long(void);        /* networks_long.c */
+void check_net_hop_combinations(void); /* networks_refused.c */
+void check_net_walk_combinations(void);
+void check_net_damaged(void);     /* networks_damaged.c */
+void check_net_numbers(void);
+void check_net_left(void);
+void check_net_lengths(void);     /* networks_lengths.c */
+
+/* Of all that came before; coverage.c. */
+void check_refusals_seen(void);
+void check_endings_seen(void);
+void check_why_seen(void);
+void check_networks_seen(void);
 
 #endif

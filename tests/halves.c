@@ -39,13 +39,28 @@ static void fill_other(uint32_t n, uint32_t job, unsigned fill, uint32_t c)
 /* ---- questions by the labels at hand, for this job, beside such a half */
 
 struct answers {
-    uint32_t hop, walk, label;
-    uint8_t row[ROW_BYTES], half[MOST_NODES];
+    uint32_t hop, walk, label, net_hop, net_walk;
+    uint8_t row[ROW_BYTES], half[MOST_NODES], hops[HCUBE_HOPS_BYTES_MAX];
 };
 
 static void put_own(uint32_t n, uint32_t job)
 {
     memcpy(both + HCUBE_HALF(n, job), labels, HCUBE_NODES(n));
+}
+
+/* By so many networks; the hop is that of a message that came down. */
+static void ask_networks(uint32_t n, uint32_t networks, uint32_t job, uint32_t c,
+                         uint32_t d, struct answers *to)
+{
+    struct net_hop_question hop = fit_net_hop(n, c, d, labels);
+    struct net_walk_question walk = fit_net_walk(n, networks, c, d, labels, to->hops);
+    hop.job = walk.job = job;
+    hop.labels = walk.labels = both;
+    hop.networks = networks;
+    hop.down = 1;
+    memset(to->hops, 0xee, sizeof to->hops);
+    to->net_hop = check_net_hop(hop);
+    to->net_walk = check_net_walk(walk);
 }
 
 static void ask_all(uint32_t n, uint32_t rule, uint32_t job, uint32_t c,
@@ -60,6 +75,7 @@ static void ask_all(uint32_t n, uint32_t rule, uint32_t job, uint32_t c,
     label.draining = draining;
     label.closed = closed;
     memset(to->row, 0xee, sizeof to->row);
+    ask_networks(n, rule - 1, job, c, d, to); /* one network, or two */
     to->hop = check_hop(hop);
     to->walk = check_walk(walk);
     to->label = check_label(label);
@@ -83,6 +99,8 @@ static uint64_t why_beside(uint32_t n, uint32_t rule, uint32_t job, uint32_t c,
 static int same(uint32_t n, const struct answers *a, const struct answers *b)
 {
     return a->hop == b->hop && a->walk == b->walk && a->label == b->label &&
+           a->net_hop == b->net_hop && a->net_walk == b->net_walk &&
+           !memcmp(a->hops, b->hops, sizeof a->hops) &&
            !memcmp(a->row, b->row, sizeof a->row) &&
            !memcmp(a->half, b->half, HCUBE_NODES(n));
 }
@@ -104,7 +122,9 @@ static void any_other_half(uint32_t n, uint32_t job, uint32_t c)
         put_own(n, job);
         fill_other(n, job, fill, c);
         ask_all(n, rule, job, c, d, &now);
-        expect(HCUBE_REFUSAL(now.hop) != 4 && HCUBE_REFUSAL(now.walk) != 4,
+        expect(HCUBE_REFUSAL(now.hop) != 4 && HCUBE_REFUSAL(now.walk) != 4 &&
+                   HCUBE_REFUSAL(now.net_hop) != 4 &&
+                   HCUBE_REFUSAL(now.net_walk) != 4,
                "n = %u, job %u, at %u, other half %u: 4", n, job, c, fill);
         expect(same(n, &calm, &now),
                "n = %u, job %u, at %u, other half %u: another answer", n, job, c,
@@ -125,9 +145,10 @@ static void bad_own_half(uint32_t n, uint32_t job, uint32_t c, uint32_t k)
     put_own(n, job);
     fill_other(n, job, random_below(2) ? ZEROS : LABELS, c);
     ask_all(n, 3, job, c, random_below(1u << n), &now);
-    expect(now.walk == REFUSED(4), "n = %u, job %u: walk over a bad byte at %u", n,
-           job, k);
-    expect((HCUBE_REFUSAL(now.hop) == 4) == near,
+    expect(now.walk == REFUSED(4) && now.net_walk == REFUSED(4),
+           "n = %u, job %u: walk over a bad byte at %u", n, job, k);
+    expect((HCUBE_REFUSAL(now.hop) == 4) == near &&
+               (HCUBE_REFUSAL(now.net_hop) == 4) == near,
            "n = %u, job %u: hop at %u with a bad byte at %u: %08x", n, job, c, k,
            now.hop);
     labels[k] = kept;

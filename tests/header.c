@@ -23,12 +23,13 @@
     HCUBE_VERSION % 100 != HCUBE_VERSION_PATCH
 #error the version is not made of its parts
 #endif
-#if HCUBE_VERSION < 10400
+#if HCUBE_VERSION < 10500
 #error the version is older than the newest function
 #endif
 #if HCUBE_DIMENSION_MAX != 12 || HCUBE_NODES_MAX != 4096 || \
     HCUBE_LABEL_BYTES_MAX != 8192 || HCUBE_FAULT_BYTES_MAX != 512 || \
     HCUBE_NOTICE_BYTES_MAX != 4099 || HCUBE_LIST_BYTES_MAX != 12913 || \
+    HCUBE_NETWORKS_MAX != 5 || HCUBE_HOPS_BYTES_MAX != 120 || \
     HCUBE_ROW_BYTES != 34
 #error the sizes of the largest cube are wrong
 #endif
@@ -44,6 +45,8 @@ HOLDS(longest_notice,
  * two, 600 three and 2,064 four; and a sign stands between each two. */
 HOLDS(longest_list, HCUBE_LIST_BYTES_MAX ==
                         7 * 1 + 60 * 2 + 600 * 3 + 2064 * 4 + 2730);
+HOLDS(most_hops, HCUBE_HOPS_BYTES(12, 5) == HCUBE_HOPS_BYTES_MAX &&
+                     96 / HCUBE_HOPS_BYTES(2 + 1, 1 + 3) == 4);
 /* In an expression. */
 HOLDS(twice_the_longest, 2 * HCUBE_LIST_BYTES_MAX == 25826 &&
                              2 * HCUBE_NOTICE_BYTES_MAX == 8198);
@@ -114,6 +117,12 @@ HOLDS(why_of_two, HCUBE_WHY_CAUSE(THREE | 0) == 2 &&
                       HCUBE_WHY_THIRD(THREE | 0) == 11 &&
                       HCUBE_WHY_SCAN(HOPS | 0) == 5 &&
                       HCUBE_WHY_DIMENSION(HOPS | 0) == 11);
+/* A hop by networks, of an answer and of a list. */
+HOLDS(net_hop, HCUBE_HOP_NETWORK(0x0001003bu | 0) == 3 &&
+                   HCUBE_HOP_DIMENSION(0x0001003bu | 0) == 11 &&
+                   HCUBE_HOP_NETWORK(0x40) == 4 && HCUBE_HOP_DIMENSION(0x40) == 0);
+HOLDS(bits_of_hop, HCUBE_HOP_NETWORK(ALL_BITS) == 0xf &&
+                       HCUBE_HOP_DIMENSION(ALL_BITS) == 0xf);
 HOLDS(causes, HCUBE_CAUSE_NONE == 0 && HCUBE_CAUSE_FAULTY == 1 &&
                   HCUBE_CAUSE_MARKED == 2);
 
@@ -154,7 +163,8 @@ HOLDS(refusals_6, HCUBE_FAULTY_SOURCE == 6 && HCUBE_FAULTY_TARGET == 7 &&
                       HCUBE_TOO_MANY_HOPS == 8 && HCUBE_CUT_SHORT == 9);
 HOLDS(refusals_10, HCUBE_BAD_GROUP == 10 && HCUBE_BAD_COUNT == 11 &&
                        HCUBE_BAD_ADDRESS == 12 && HCUBE_NO_ROOM == 13 &&
-                       HCUBE_BAD_LIST == 14 && HCUBE_BAD_MASK == 17 &&
+                       HCUBE_BAD_LIST == 14 && HCUBE_BAD_NETWORK == 15 &&
+                       HCUBE_NO_NETWORK == 16 && HCUBE_BAD_MASK == 17 &&
                        HCUBE_BAD_JOB == 19);
 
 /* Every macro that takes something, with variables of each type that a caller
@@ -171,7 +181,8 @@ const char *words(const uint8_t *row, uint32_t walked, uint32_t hopped);
 
 #define SIZES(n, job)                                                          \
     (HCUBE_NODES(n) + HCUBE_LABEL_BYTES(n) + HCUBE_FAULT_BYTES(n) +            \
-     HCUBE_HALF(n, job) + HCUBE_EXCHANGES_MAX(n) + HCUBE_ROW_BYTES)
+     HCUBE_HALF(n, job) + HCUBE_EXCHANGES_MAX(n) + HCUBE_ROW_BYTES +            \
+     HCUBE_HOPS_BYTES(n, job))
 
 size_t sizes_32(uint32_t n, uint32_t job)
 {
@@ -191,7 +202,8 @@ size_t sizes_as_size(size_t n, size_t job)
 uint32_t parts_32(uint32_t answer)
 {
     return HCUBE_REFUSAL(answer) + HCUBE_KIND(answer) + HCUBE_VALUE(answer) +
-           HCUBE_WHY_SCAN(answer) + HCUBE_WHY_DIMENSION(answer);
+           HCUBE_WHY_SCAN(answer) + HCUBE_WHY_DIMENSION(answer) +
+           HCUBE_HOP_NETWORK(answer) + HCUBE_HOP_DIMENSION(answer);
 }
 
 uint64_t parts_64(uint64_t answer)
@@ -200,7 +212,8 @@ uint64_t parts_64(uint64_t answer)
            HCUBE_NOTICE_DIMENSION(answer) + HCUBE_NOTICE_COUNT(answer) +
            HCUBE_WHY_CAUSE(answer) + HCUBE_WHY_FIRST(answer) +
            HCUBE_WHY_SECOND(answer) + HCUBE_WHY_THIRD(answer) +
-           HCUBE_WHY_SCAN(answer) + HCUBE_WHY_DIMENSION(answer);
+           HCUBE_WHY_SCAN(answer) + HCUBE_WHY_DIMENSION(answer) +
+           HCUBE_HOP_NETWORK(answer) + HCUBE_HOP_DIMENSION(answer);
 }
 
 uint64_t call_all(const uint8_t *bytes, uint8_t *faults, uint8_t *labels,
@@ -218,6 +231,10 @@ uint64_t call_all(const uint8_t *bytes, uint8_t *faults, uint8_t *labels,
     all += hcube_hop(n, 1, 0, 1, labels, size);
     all += parts_32(hcube_why_hop(n, 1, 0, 1, labels, size));
     all += hcube_walk(n, 1, 0, 1, labels, size, row, HCUBE_ROW_BYTES);
+    all += parts_32(hcube_hop_networks(n, 5, 1, 0, 1, 0, 0, labels, size));
+    all += hcube_walk_networks(n, 5, 1, 0, 1, labels, size, out,
+                               HCUBE_HOPS_BYTES(n, 5));
+    all += HCUBE_HOP_NETWORK(*out) * 16u + HCUBE_HOP_DIMENSION(*out);
     all += parts_32(
         hcube_write_notice(n, faults, table, out, HCUBE_NOTICE_BYTES_MAX));
     all += parts_32(

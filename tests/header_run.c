@@ -30,7 +30,7 @@ static void expect(int holds, const char *what, uint32_t number)
 
 static int is_refusal(uint32_t number)
 {
-    return number <= 14 || (number >= 17 && number <= 19);
+    return number <= 19;
 }
 
 static int is_default(uint32_t number)
@@ -46,7 +46,7 @@ static void texts(void)
     size_t i, k;
     uint32_t number;
 
-    expect(COUNT == 18, "refusals of the header", (uint32_t)COUNT);
+    expect(COUNT == 20, "refusals of the header", (uint32_t)COUNT);
     for (i = 0; i < COUNT; i++) {
         const char *text = hcube_refusal_text(refusals[i].number);
         expect(is_refusal(refusals[i].number), refusals[i].name,
@@ -63,6 +63,8 @@ static void texts(void)
         expect(is_default(large[i]), "the default's text", large[i]);
     expect(strstr(hcube_refusal_text(13), "too short") != 0, "no room", 13);
     expect(strstr(hcube_refusal_text(14), "0-3,8") != 0, "no list", 14);
+    expect(strstr(hcube_refusal_text(15), "1 to 5") != 0, "no board", 15);
+    expect(strstr(hcube_refusal_text(16), "network") != 0, "no network", 16);
     expect(strstr(hcube_refusal_text(17), "mask") != 0, "no mask", 17);
 }
 

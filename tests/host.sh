@@ -53,17 +53,18 @@ OBJDUMP=${OBJDUMP:-${prefix}objdump}
 run_c=$emulator
 run_proved="$emulator $kit_tools/lib/ld-linux-x86-64.so.2 --library-path $kit_tools/lib"
 
-library_files='tests/library.c tests/report.c tests/runs.c tests/asked.c tests/check.c tests/check_notice.c tests/check_list.c tests/check_repair.c tests/seen.c
-    tests/questions.c
-    tests/lent.c tests/cabinet.c tests/worked.c tests/worked_why.c tests/worked_notice.c tests/worked_list.c tests/worked_repair.c tests/orders.c
-    tests/orders_label.c tests/orders_notice.c tests/orders_list.c tests/orders_repair.c
-    tests/combinations.c tests/combinations_label.c tests/refusals.c tests/lengths.c tests/tables.c tests/exchanges.c tests/draining.c
-    tests/bounds.c tests/enough.c tests/closed.c tests/jobs.c tests/halves.c tests/long_walks.c tests/frames.c tests/why_node.c
-    tests/why_cause.c tests/why_named.c tests/why_hop.c tests/dimensions.c tests/notices.c tests/places.c tests/long_notices.c
-    tests/written.c tests/written_back.c tests/written_refused.c tests/list_texts.c tests/list_numbers.c tests/list_written.c
-    tests/list_back.c tests/list_refused.c tests/list_lengths.c tests/repaired.c tests/repaired_again.c tests/repair_refused.c
-    tests/repair_lengths.c tests/cases.c tests/reference.c tests/reference_notice.c tests/reference_write.c tests/reference_list.c
-    tests/reference_why.c tests/reference_repair.c'
+library_files='tests/library.c tests/coverage.c tests/report.c tests/runs.c tests/asked.c tests/check.c tests/check_notice.c tests/check_list.c
+    tests/check_repair.c tests/check_networks.c tests/seen.c tests/seen_networks.c tests/questions.c tests/questions_networks.c tests/lent.c
+    tests/cabinet.c tests/worked.c tests/worked_why.c tests/worked_notice.c tests/worked_list.c tests/worked_repair.c tests/worked_networks.c
+    tests/orders.c tests/orders_label.c tests/orders_notice.c tests/orders_list.c tests/orders_repair.c tests/orders_networks.c
+    tests/combinations.c tests/combinations_label.c tests/refusals.c tests/damage.c tests/lengths.c tests/tables.c tests/exchanges.c
+    tests/draining.c tests/bounds.c tests/enough.c tests/closed.c tests/jobs.c tests/halves.c tests/long_walks.c tests/frames.c tests/why_node.c
+    tests/why_cause.c tests/why_named.c tests/why_hop.c tests/dimensions.c tests/notices.c tests/places.c tests/long_notices.c tests/written.c
+    tests/written_back.c tests/written_refused.c tests/list_texts.c tests/list_numbers.c tests/list_written.c tests/list_back.c
+    tests/list_refused.c tests/list_lengths.c tests/repaired.c tests/repaired_again.c tests/repair_refused.c tests/repair_lengths.c
+    tests/networks.c tests/networks_blocks.c tests/networks_walks.c tests/networks_long.c tests/networks_refused.c tests/networks_damaged.c
+    tests/networks_lengths.c tests/cases.c tests/reference.c tests/reference_notice.c tests/reference_write.c tests/reference_list.c
+    tests/reference_why.c tests/reference_repair.c tests/reference_networks.c'
 reads_files='tests/reads.c tests/reads_asked.c tests/noted.c tests/watch.c tests/cases.c'
 listing_files='tests/listing_cases.c tests/listing_refused.c tests/cases.c tests/reference.c tests/reference_notice.c'
 
@@ -105,6 +106,14 @@ find_archive() {
         build "$ARCHIVE" rt staticlib hcube || give_up "$ARCHIVE could not be built"
     fi
     [ -f "$ARCHIVE" ] || give_up "ARCHIVE is no file: $ARCHIVE"
+}
+
+# The same for ASSEMBLY, that of target/kernel. It is built with the archive.
+find_assembly() {
+    [ -z "${ASSEMBLY:-}" ] || return 0
+    ASSEMBLY=target/kernel/hcube_x86_64.S
+    [ -z "$(find kernel/build kernel/to_kbuild.py -newer "$ASSEMBLY" 2>&1)" ] || rm -f "$ASSEMBLY"
+    build "$ASSEMBLY" kernel/build || give_up "$ASSEMBLY could not be built"
 }
 
 # Makes `program` the C program of a tool, compiled with the archive. It is made anew for

@@ -106,6 +106,30 @@ static void walk_job(uint32_t n, uint32_t job, uint32_t s, uint32_t d)
     holds_both(n, "a walk");
 }
 
+/* Hop and walk by networks. */
+static void net_job(uint32_t n, uint32_t job, uint32_t s, uint32_t d)
+{
+    uint8_t hops[HCUBE_HOPS_BYTES_MAX], want_hops[HCUBE_HOPS_BYTES_MAX];
+    uint32_t networks = 1 + random_below(5), hop_want, want, answer;
+    size_t len = ref_label_bytes(n);
+    struct net_hop_question hop = fit_net_hop(n, s, d, own[job]);
+    struct net_walk_question walk = fit_net_walk(n, networks, s, d, own[job], hops);
+    hop.job = walk.job = job;
+    hop.labels = walk.labels = both;
+    hop_want = ref_hop_networks(n, 5, 0, s, d, 0, 0, own[job], len);
+    random_bytes(hops, sizeof hops);
+    memcpy(want_hops, hops, sizeof hops);
+    want = ref_walk_networks(n, networks, 0, s, d, own[job], len, want_hops,
+                             sizeof want_hops);
+    expect(check_net_hop(hop) == hop_want, "n = %u, job %u: hop %u to %u not %08x", n,
+           job, s, d, hop_want);
+    answer = check_net_walk(walk);
+    expect(answer == want && !memcmp(hops, want_hops, sizeof hops),
+           "n = %u, job %u: walk %u to %u by networks is %08x, not %08x", n, job, s, d,
+           answer, want);
+    holds_both(n, "networks");
+}
+
 /* ---- interleaved */
 
 /* Sets a byte of a job's half, which may then be no label. */
@@ -152,7 +176,7 @@ static void step(uint32_t n)
     uint32_t job = random_below(2), nodes = 1u << n;
     uint32_t s = random_below(nodes + (random_below(16) == 0));
     uint32_t d = random_below(nodes + (random_below(16) == 0));
-    switch (random_below(13)) {
+    switch (random_below(15)) {
     case 0: random_shared(n); return;
     case 1: random_faults(n, random_below(600 / n), shut[job]); return;
     case 2: set_byte(n, job, random_below(nodes), (uint8_t)random_bits()); return;
@@ -163,6 +187,8 @@ static void step(uint32_t n)
     case 7:
     case 8: hop_job(n, job, s, d); return;
     case 9: why_job(n, 2 + random_below(2), job, s); return;
+    case 10:
+    case 11: net_job(n, job, s, d); return;
     default: walk_job(n, job, s, d); return;
     }
 }

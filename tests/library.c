@@ -1,8 +1,8 @@
 /*
  * library.c: holds the library, linked as an archive, against the reference.
  *
- *   library               runs all groups of checks; the last three say that
- *                         every refusal, ending, scan and cause came up
+ *   library               runs all groups of checks; the last four say that
+ *                         every refusal, ending, scan, cause and block came up
  *   library GROUP         runs one, by its word in the table below
  *   library GROUP CASE    runs one case of it, the first being 1, and prints it
  *
@@ -17,117 +17,6 @@
 #include "check.h"
 #include "groups.h"
 
-#define LEAST 20ul /* times that each must come up */
-
-/* A number that there is no room to count did not come up. */
-static void came_up(const char *what, const unsigned long *counts, size_t room,
-                    unsigned number)
-{
-    unsigned long count = number < room ? counts[number] : 0;
-    printf(" %u:%lu", number, count);
-    expect(count >= LEAST, "%s %u came up %lu times", what, number, count);
-}
-
-/* The question was accepted, and refused with each of its refusals, for either
- * job; 19 is for what is no job. */
-static void refusals_came_up(unsigned question, unsigned whose)
-{
-    const char *name = questions[question].name;
-    const unsigned *refusal = questions[question].refusals;
-    printf("  refusals of %s, job %u:", name, whose);
-    do
-        if (*refusal != 19)
-            came_up(name, seen.refusal[question][whose],
-                    COUNT(seen.refusal[question][whose]), *refusal);
-    while (*refusal++);
-    printf("\n");
-}
-
-static void counts_came_up(const char *what, const unsigned long *counts,
-                           size_t room, unsigned first, unsigned last)
-{
-    printf("  %s:", what);
-    for (unsigned k = first; k <= last; k++)
-        came_up(what, counts, room, k);
-    printf("\n");
-}
-#define CAME_UP(what, counts, first, last)                                     \
-    counts_came_up(what, seen.counts, COUNT(seen.counts), first, last)
-
-static void check_refusals_seen(void)
-{
-    begin_group("coverage of refusals");
-    for (unsigned question = 0; question < QUESTIONS; question++)
-        for (unsigned job = 0; job < (question < NOTICE ? NO_JOB : 1); job++)
-            refusals_came_up(question, job);
-    CAME_UP("refusal of label, no job", refusal[LABEL][NO_JOB], 18, 19);
-    CAME_UP("refusal of hop, no job", refusal[HOP][NO_JOB], 19, 19);
-    CAME_UP("refusal of walk, no job", refusal[WALK][NO_JOB], 19, 19);
-    CAME_UP("refusal of why a label, no job", refusal[WHY_NODE][NO_JOB], 18,
-            19);
-    CAME_UP("refusal of why a hop, no job", refusal[WHY_HOP][NO_JOB], 19, 19);
-    end_group();
-}
-
-static void check_why_seen(void)
-{
-    begin_group("coverage of causes, rounds and reasons of hops");
-    CAME_UP("why label", why_label, 0, LAST_LABEL);
-    CAME_UP("cause by rule 2", cause[2], 0, 2);
-    CAME_UP("cause by rule 3", cause[3], 0, 2);
-    CAME_UP("dimension named first", named[0], 0, 9);
-    CAME_UP("dimension named second", named[1], 1, 11);
-    CAME_UP("dimension named third", named[2], 2, 11);
-    CAME_UP("round, the last two being of ten and of a hundred", round, 1, 11);
-    CAME_UP("not safe beside a safe node", beside_safe[0], 0, 2);
-    CAME_UP("not safe beside a safe node, one faulty", beside_safe[1], 1, 2);
-    CAME_UP("reason of a hop, scan", why_scan, 0, 5);
-    end_group();
-}
-
-static void check_endings_seen(void)
-{
-    begin_group("coverage of endings, scans and exchanges");
-    CAME_UP("kind of hop", hop_kind, 0, 2);
-    CAME_UP("hop at a working node, label", hop_at, 0, 2);
-    CAME_UP("hop at a draining node, label", hop_at, 4, 4);
-    CAME_UP("scan", scan, 0, NO_SCAN);
-    CAME_UP("dimension crossed", dimension, 0, 11);
-    CAME_UP("kind of walk", walk_kind, 0, 1);
-    CAME_UP("hops of a walk", walk_hops, 0, 16);
-    CAME_UP("hops of a walk to a draining node", drained_hops, 1, 16);
-    CAME_UP("walk of n + 4 hops, n", longest, 4, 12);
-    CAME_UP("rule", rule, 2, 3);
-    CAME_UP("exchanges", exchanges, 1, 10);
-    CAME_UP("label", label, 0, LAST_LABEL);
-    CAME_UP("tables of a node", tables, 0, 7);
-    for (unsigned job = 0; job < NO_JOB; job++) {
-        CAME_UP("labelled n", cube[LABEL][job], 1, 12);
-        CAME_UP("hop at n", cube[HOP][job], 1, 12);
-        CAME_UP("walk at n", cube[WALK][job], 1, 12);
-        CAME_UP("why a label at n", cube[WHY_NODE][job], 1, 12);
-        CAME_UP("why a hop at n", cube[WHY_HOP][job], 1, 12);
-    }
-    CAME_UP("notice of n", cube[NOTICE][0], 1, 12);
-    CAME_UP("dimension n", cube[DIMENSION][0], 1, 12);
-    CAME_UP("written n", cube[WRITE][0], 1, 12);
-    CAME_UP("groups of a count written", groups[0], 1, 2);
-    CAME_UP("groups of a first address written", groups[1], 1, 2);
-    CAME_UP("groups of a later address written", groups[2], 1, 2);
-    CAME_UP("list of n", cube[LIST][0], 1, 12);
-    CAME_UP("list written n", cube[WRITE_LIST][0], 1, 12);
-    for (unsigned written = 0; written < 2; written++) {
-        CAME_UP("digits of a number alone", digits[written][0], 1, 4);
-        CAME_UP("digits of a first number", digits[written][1], 1, 4);
-        CAME_UP("digits of a second number", digits[written][2], 1, 4);
-    }
-    CAME_UP("repaired n", cube[REPAIR][0], 1, 12);
-    CAME_UP("namers of a node that was added", namers, 1, 12);
-    CAME_UP("dimension to the lowest of them", across, 0, 11);
-    CAME_UP("named by faulty nodes alone, faulty itself", unheard, 0, 1);
-    end_group();
-}
-
 /* The words are also read by tests/run. */
 static const struct group groups[] = {
     {"worked_numbers", check_worked_numbers},
@@ -135,6 +24,7 @@ static const struct group groups[] = {
     {"worked_notices", check_worked_notices},
     {"worked_lists", check_worked_lists},
     {"worked_repairs", check_worked_repairs},
+    {"worked_networks", check_worked_networks},
     {"orders", check_orders},
     {"label_combinations", check_label_combinations},
     {"job_combinations", check_job_combinations},
@@ -218,6 +108,19 @@ static const struct group groups[] = {
     {"repair_dimensions", check_repair_dimensions},
     {"repair_left", check_repair_left},
     {"repair_lengths", check_repair_lengths},
+    {"net_small", check_net_small},
+    {"net_random", check_net_random},
+    {"net_reads", check_net_reads},
+    {"net_blocks", check_net_blocks},
+    {"net_steps", check_net_steps},
+    {"net_arrivals", check_net_arrivals},
+    {"net_long", check_net_long},
+    {"net_hop_combinations", check_net_hop_combinations},
+    {"net_walk_combinations", check_net_walk_combinations},
+    {"net_damaged", check_net_damaged},
+    {"net_numbers", check_net_numbers},
+    {"net_left", check_net_left},
+    {"net_lengths", check_net_lengths},
 };
 
 /* They speak of all that came before them, so that no word runs them alone. */
@@ -225,6 +128,7 @@ static const struct group coverage[] = {
     {NULL, check_refusals_seen},
     {NULL, check_endings_seen},
     {NULL, check_why_seen},
+    {NULL, check_networks_seen},
 };
 
 static int run_all(void)

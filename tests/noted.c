@@ -50,6 +50,33 @@ void expect_neighbours(uint32_t node, uint32_t so_many, const char *what)
         expect_access(0, node ^ 1u << i, what);
 }
 
+/* Which label around the node was read: n is its own, and i that across dimension i;
+ * more where it was none of them. */
+static uint32_t read_around(uint32_t node)
+{
+    int32_t first = (int32_t)HCUBE_HALF(n, job), place = notes[at].place - first;
+    uint32_t i = 0;
+    if (notes[at].is_write || !in_half())
+        return n + 1;
+    while (i < n && (uint32_t)place != (node ^ 1u << i))
+        i++;
+    return i < n || (uint32_t)place == node ? i : n + 1;
+}
+
+void expect_around(uint32_t node, const char *what)
+{
+    uint32_t read = 0, i;
+    for (uint32_t k = 0; k <= n && !*wrong; k++) {
+        i = at < noted ? read_around(node) : n + 1;
+        if (i > n || read >> i & 1)
+            snprintf(wrong, sizeof wrong, "%s: after %u labels another access, or none",
+                     what, (unsigned)k);
+        else
+            at++;
+        read |= 1u << i;
+    }
+}
+
 static void expect_all(int write)
 {
     while (at < noted && notes[at].is_write == write && in_half())

@@ -19,6 +19,9 @@ void expect_from_start(uint32_t n, uint32_t job);
 void expect_access(int write, uint32_t node, const char *what);
 /* The next are reads of the labels of its first so many neighbours. */
 void expect_neighbours(uint32_t node, uint32_t so_many, const char *what);
+/* The next are reads of its label and of those of all its neighbours, each once, in
+ * whichever order. */
+void expect_around(uint32_t node, const char *what);
 /* The next are writes, or reads, alone, as many as there are. */
 void expect_writes(void);
 void expect_reads(void);

@@ -59,23 +59,24 @@ static const struct order hop_orders[] = {
     {.first = 4, .second = 6, .n = 3, .s = 7, .labels = "000x0004"},
 };
 
-/* Puts the digits into `labels`; what they do not name is safe. */
-static void put_labels(const char *digits)
+/* What the digits do not name is safe. */
+const uint8_t *labels_of(const struct order *order, uint32_t job)
 {
+    const char *digits = order->labels;
     memset(labels, 0, HCUBE_NODES(13));
     for (size_t k = 0; digits && digits[k]; k++)
         labels[k] = (uint8_t)(digits[k] == 'x' ? LAST_LABEL + 1
                                                : digits[k] - '0');
+    return buffer_of(order->n & 255, job, labels);
 }
 
 static struct hop_question hop_of(const struct order *order, uint32_t job)
 {
-    uint32_t fitting = order->n & 255;
-    struct hop_question asked = fit_hop(fitting, order->s, order->d, labels);
-    put_labels(order->labels);
+    struct hop_question asked =
+        fit_hop(order->n & 255, order->s, order->d, labels);
     asked.n = order->n;
     asked.job = job;
-    asked.labels = buffer_of(fitting, job, labels);
+    asked.labels = labels_of(order, job);
     asked.labels_len += (size_t)order->labels_more;
     return asked;
 }
@@ -157,13 +158,11 @@ static const struct order walk_orders[] = {
 
 static uint64_t walk_answer(const struct order *order, uint32_t job)
 {
-    uint32_t fitting = order->n & 255;
     struct walk_question asked =
-        fit_walk(fitting, order->s, order->d, labels, row);
-    put_labels(order->labels);
+        fit_walk(order->n & 255, order->s, order->d, labels, row);
     asked.n = order->n;
     asked.job = job;
-    asked.labels = buffer_of(fitting, job, labels);
+    asked.labels = labels_of(order, job);
     asked.labels_len += (size_t)order->labels_more;
     asked.row_len += (size_t)order->row_more;
     return check_walk(asked);
@@ -207,6 +206,7 @@ void check_orders(void)
     check_order(HOP, hop_answer, hop_orders, COUNT(hop_orders));
     check_order(WHY_HOP, why_hop_answer, hop_orders, COUNT(hop_orders));
     check_order(WALK, walk_answer, walk_orders, COUNT(walk_orders));
+    check_network_orders();
     check_write_orders();
     check_list_orders();
     check_repair_orders();

@@ -17,11 +17,13 @@ struct order {
                             * the node whose label is asked about, or whose mask
                             * it is */
     int rule_more;         /* for labelling: beyond rule 3 */
+    uint32_t networks_more, network, down; /* by networks: beyond one network */
     uint8_t fault_byte, draining_byte, closed_byte; /* each byte of the table */
     const char *labels; /* for hop and walk: the job's half, a digit a byte, x for
                          * no label */
     int faults_more, draining_more, closed_more; /* beyond what fits */
     int labels_more, row_more;
+    int hops_more; /* beyond room for each hop of as many networks, or of one */
     int out_more; /* beyond what is enough for every notice, or every text */
     const char *text; /* for reading a list */
     uint16_t mask; /* for repairing: of s; the others are 0 */
@@ -34,9 +36,14 @@ void check_order(unsigned question,
                  uint64_t (*answer_to)(const struct order *, uint32_t job),
                  const struct order *orders, size_t count);
 
-/* Labelling, and why a node has its label, in orders_label.c; writing a notice in
- * orders_notice.c; reading and writing a list in orders_list.c; repairing in
- * orders_repair.c. */
+/* The labels of the row as the half of this job, in a buffer that fits n, or what n is
+ * once narrowed. It stands until the next is made. */
+const uint8_t *labels_of(const struct order *order, uint32_t job);
+
+/* Hop and walk by networks in orders_networks.c; labelling, and why a node has its
+ * label, in orders_label.c; writing a notice in orders_notice.c; reading and writing a
+ * list in orders_list.c; repairing in orders_repair.c. */
+void check_network_orders(void);
 void check_label_orders(void);
 void check_write_orders(void);
 void check_list_orders(void);

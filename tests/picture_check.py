@@ -1,9 +1,9 @@
 """picture_check.py PICTURE LABELS LISTING: whether a picture shows these labels and this listing.
 
-LABELS has a digit for each node, LISTING the lines, both from the reference. A picture is read as XML; every node must
-be there once with its label's class, shape and number, every edge once between its two nodes, every walk hop by hop;
-the words must have the counts and the pairs; texts must not run into each other or out of the picture. What is wrong
-is printed, and then the exit status is 1.
+LABELS has a digit for each node, LISTING the lines, both from the reference; a walk by virtual networks has `by` and the
+network of each hop behind its nodes. A picture is read as XML; every node must be there once with its label's class,
+shape and number, every edge once between its two nodes, every walk hop by hop; the words must have the counts and the
+pairs; texts must not run into each other or out of the picture. What is wrong is printed, and then the exit status is 1.
 """
 import re
 import sys
@@ -12,6 +12,8 @@ import xml.etree.ElementTree as ET
 SVG = '{http://www.w3.org/2000/svg}'
 NAMES = ['safe', 'ordinary', 'strong', 'faulty']
 SIZES = {'number': 17, 'bits': 9.5, 'hop': 12.5, 'tag': 12.5, 'head': 17, 'said': 13.5, 'note': 12, 'alarm': 13.5}
+UP, DOWN = '\u2191\u2193'
+REASONS = {'5': 'there is no such node', '6': 'the source is faulty', '7': 'the destination is faulty', '16': 'it needs a network that the board lacks'}
 wrong = []
 
 
@@ -82,8 +84,9 @@ def along(at, a, b, x, y):
     return (x - x1) * ux + (y - y1) * uy, abs((x - x1) * uy - (y - y1) * ux), length
 
 
-def check_walk(group, at, ending, visited):
+def check_walk(group, at, ending, visited, networks):
     expect(group.get('data-ending') == ending and group.get('data-visited') == ' '.join(map(str, visited)), f'not the walk {visited}')
+    expect(group.get('data-networks') == (None if networks is None else ' '.join(networks)), f'not by the networks {networks}')
     hops = list(zip(visited, visited[1:]))
     lines = [line for line in group if line.tag == SVG + 'line']
     heads = [path for path in group if path.tag == SVG + 'path']
@@ -103,10 +106,13 @@ def check_walks(root, at, lines):
     expect(sorted(groups) == sorted(drawn), 'not a group for each walk')
     wanted = []
     for name, pair in drawn.items():
+        end = pair.index('by') if 'by' in pair else len(pair)
+        visited, networks = [int(k) for k in pair[4:end]], pair[end + 1:] if 'by' in pair else None
         if name in groups:
-            check_walk(groups[name], at, pair[2], [int(k) for k in pair[4:]])
+            check_walk(groups[name], at, pair[2], visited, networks)
         letter = name[-1].upper() if len(pairs) > 1 else ''
-        wanted += [f'{letter}{hop}' for hop in range(1, int(pair[3]) + 1)]
+        behind = [f': {network}{UP if a < b else DOWN}' for a, b, network in zip(visited, visited[1:], networks)] if networks else [''] * int(pair[3])
+        wanted += [f'{letter}{hop}{more}' for hop, more in enumerate(behind, 1)]
     badges = [text.text for group in root.iter(SVG + 'g') if group.get('class') == 'badges' for text in group.iter(SVG + 'text')]
     expect(badges == wanted, f'hop numbers {badges}, where {wanted} are wanted')
 
@@ -127,6 +133,12 @@ def check_words(root, lines):
         s, d, ending, value = line.split()[:4]
         said = [text for text in texts if re.search(rf'(^|: ){s} to {d}: {ending}\b.*\b{value}\b', text)]
         expect(said and f'{s} to {d} {ending}' in title, f'the legend does not say: {line}')
+        expect(ending != 'refused' or REASONS.get(value) in texts, f'the legend does not say why: {line}')
+        if ending == 'halted' and ' by' in line:
+            at = line.partition(' by')[0].split()[-1]
+            expect(f'no block of FORWARD hops at {at}' in texts, f'the legend does not say where no block hops: {line}')
+        by = re.search(r' by( .*)', line)
+        expect(not by or ' '.join(texts).count(f'networks{by.group(1)}') and f'networks{by.group(1)}' in title, f'the networks are not said: {line}')
 
 
 def boxes(root):

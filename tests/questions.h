@@ -1,7 +1,8 @@
 /*
  * questions.h: what is asked of the library, each question with all that it is
  * handed. A test that says nothing of a parameter leaves it as fit_label,
- * fit_hop, fit_walk, fit_write, fit_list, fit_write_list or fit_repair gives it.
+ * fit_hop, fit_walk, fit_net_hop, fit_net_walk, fit_write, fit_list, fit_write_list
+ * or fit_repair gives it.
  */
 #ifndef QUESTIONS_H
 #define QUESTIONS_H
@@ -23,6 +24,8 @@ enum {
     WALK,
     WHY_NODE,
     WHY_HOP,
+    NET_HOP,
+    NET_WALK,
     NOTICE,
     DIMENSION,
     WRITE,
@@ -68,6 +71,21 @@ struct walk_question {
     size_t row_len;
 };
 
+/* By virtual networks. */
+struct net_hop_question {
+    uint32_t n, networks, job, c, d, network, down;
+    const uint8_t *labels;
+    size_t labels_len;
+};
+
+struct net_walk_question {
+    uint32_t n, networks, job, s, d;
+    const uint8_t *labels;
+    size_t labels_len;
+    uint8_t *hops;
+    size_t hops_len;
+};
+
 /* Of a notice or of list text. */
 struct write_question {
     uint32_t n;
@@ -110,6 +128,15 @@ struct hop_question fit_hop(uint32_t n, uint32_t c, uint32_t d,
 struct walk_question fit_walk(uint32_t n, uint32_t s, uint32_t d,
                               const uint8_t *half, uint8_t *row);
 
+/* In questions_networks.c. The hop is of a message that starts, on a board with all
+ * networks; the list has room for as many hops as are asked for, and no more. The
+ * label buffers are those of fit_hop and fit_walk. */
+struct net_hop_question fit_net_hop(uint32_t n, uint32_t c, uint32_t d,
+                                    const uint8_t *half);
+struct net_walk_question fit_net_walk(uint32_t n, uint32_t networks, uint32_t s,
+                                      uint32_t d, const uint8_t *half,
+                                      uint8_t *hops);
+
 /* A fault table of the length that n asks for, and room for every notice, or for
  * every text. */
 struct write_question fit_write(uint32_t n, const uint8_t *faults, uint8_t *out);
@@ -144,6 +171,8 @@ uint32_t ask_hop(struct hop_question asked);
 uint32_t ask_walk(struct walk_question asked);
 uint64_t ask_why_node(struct label_question asked, uint32_t x);
 uint32_t ask_why_hop(struct hop_question asked);
+uint32_t ask_net_hop(struct net_hop_question asked);
+uint32_t ask_net_walk(struct net_walk_question asked);
 uint32_t ask_dimension(const uint8_t *bytes, size_t len);
 uint64_t ask_notice(const uint8_t *bytes, size_t len, uint8_t *faults,
                     size_t faults_len);

@@ -216,6 +216,8 @@ static void check_cube(uint32_t dimension, uint32_t number)
     check_walks();
     check_why_labels();
     check_why_hops();
+    check_net_hops();
+    check_net_walks();
     check_refused();
 }
 

@@ -15,6 +15,8 @@ void check_hops(void);
 void check_walks(void);
 void check_why_labels(void);
 void check_why_hops(void);
+void check_net_hops(void);
+void check_net_walks(void);
 void check_refused(void);
 
 #endif

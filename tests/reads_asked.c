@@ -1,7 +1,7 @@
 /*
- * reads_asked.c: which labels a hop, a walk, and the questions that say why
- * read, and that what is refused before a label is looked at reads none. The
- * other half holds anything.
+ * reads_asked.c: which labels a hop, a walk, either by networks, and the questions
+ * that say why read, and that what is refused before a label is looked at reads
+ * none. The other half holds anything.
  */
 #include <stdio.h>
 
@@ -13,7 +13,7 @@
 
 #define HOPS 200u
 
-static uint8_t row[HCUBE_ROW_BYTES];
+static uint8_t row[HCUBE_ROW_BYTES], list[HCUBE_HOPS_BYTES_MAX];
 static uint8_t faults[512], draining[512], closed[512];
 
 /* The job's half has labels, of which one may be none. */
@@ -32,7 +32,7 @@ static uint32_t any_node(void)
     return random_below(HCUBE_NODES(n));
 }
 
-/* A hop, and why it is taken. */
+/* A hop, why it is taken, and a hop by networks. */
 typedef uint32_t decides(uint32_t n, uint32_t job, uint32_t c, uint32_t d,
                          const uint8_t *labels, size_t labels_len);
 
@@ -45,8 +45,17 @@ static void watch_hop(decides *question, uint32_t c, uint32_t d)
     expect_from_start(n, job);
 }
 
-/* A hop at c: its own label, then each neighbour's, and no more. Where one label
- * of the half is none, reads of the half alone. */
+/* From any network and direction of any board. */
+static uint32_t net_hop(uint32_t n, uint32_t job, uint32_t c, uint32_t d,
+                        const uint8_t *labels, size_t labels_len)
+{
+    uint32_t networks = 1 + random_below(HCUBE_NETWORKS_MAX);
+    return hcube_hop_networks(n, networks, job, c, d, random_below(networks),
+                              random_below(2), labels, labels_len);
+}
+
+/* A hop at c: its own label, then each neighbour's, and no more; by networks in
+ * whichever order. Where one label of the half is none, reads of the half alone. */
 static void check_decisions(decides *question, const char *what)
 {
     unsigned cases = 0;
@@ -55,8 +64,12 @@ static void check_decisions(decides *question, const char *what)
     for (; cases < HOPS && !*wrong; cases++) {
         uint32_t c = any_node();
         watch_hop(question, c, any_node());
-        expect_access(0, c, "a hop's own label");
-        expect_neighbours(c, n, "a hop's neighbours");
+        if (question == net_hop) {
+            expect_around(c, "a hop by networks");
+        } else {
+            expect_access(0, c, "a hop's own label");
+            expect_neighbours(c, n, "a hop's neighbours");
+        }
         expect_end();
     }
     for (; cases < 2 * HOPS && !*wrong; cases++) {
@@ -77,6 +90,11 @@ void check_hops(void)
 void check_why_hops(void)
 {
     check_decisions(hcube_why_hop, "why hops");
+}
+
+void check_net_hops(void)
+{
+    check_decisions(net_hop, "hops by networks");
 }
 
 /* Why a node has its label: the job's half alone is read and written. One table
@@ -107,9 +125,22 @@ void check_why_labels(void)
     result("why labels", cases);
 }
 
-/* A walk: reads, all of them in the job's half. Fewer walks in large cubes, since
- * each reads all labels. */
-void check_walks(void)
+/* A walk, and one by networks. */
+static void walk(uint32_t s, uint32_t d, const uint8_t *labels)
+{
+    hcube_walk(n, job, s, d, labels, HCUBE_LABEL_BYTES(n), row, sizeof row);
+}
+
+static void net_walk(uint32_t s, uint32_t d, const uint8_t *labels)
+{
+    hcube_walk_networks(n, 1 + random_below(HCUBE_NETWORKS_MAX), job, s, d, labels,
+                        HCUBE_LABEL_BYTES(n), list, sizeof list);
+}
+
+/* Reads, all of them in the job's half. Fewer walks in large cubes, since each
+ * reads all labels. */
+static void watch_walks(void (*question)(uint32_t, uint32_t, const uint8_t *),
+                        const char *what)
 {
     unsigned cases = 0, walks = n <= 8 ? 40 : 8;
     uint8_t *labels = watched_buffer(HCUBE_NODES(n));
@@ -118,7 +149,7 @@ void check_walks(void)
         uint32_t s = any_node(), d = any_node();
         put_halves(cases % 8 == 7);
         watch_begin();
-        hcube_walk(n, job, s, d, labels, HCUBE_LABEL_BYTES(n), row, sizeof row);
+        question(s, d, labels);
         watch_end();
         expect_from_start(n, job);
         expect_reads();
@@ -126,7 +157,41 @@ void check_walks(void)
         if (noted == 0)
             snprintf(wrong, sizeof wrong, "a walk that reads nothing");
     }
-    result("walks", cases);
+    result(what, cases);
+}
+
+void check_walks(void)
+{
+    watch_walks(walk, "walks");
+}
+
+void check_net_walks(void)
+{
+    watch_walks(net_walk, "walks by networks");
+}
+
+/* On what is no board, in a network that it lacks, into a list that is too short,
+ * and what a hop and a walk refuse. */
+static void refused_by_networks(const uint8_t *labels, size_t len)
+{
+    size_t room = HCUBE_HOPS_BYTES(n, 2);
+    hcube_hop_networks(n, 0, job, 0, 1, 0, 0, labels, len);
+    hcube_hop_networks(n, 6, job, 0, 1, 0, 0, labels, len);
+    hcube_hop_networks(n, 2, job, 0, 1, 2, 0, labels, len);
+    hcube_hop_networks(n, 2, job, 0, 1, 0, 2, labels, len);
+    hcube_hop_networks(n, 2, job + 2, 0, 1, 0, 0, labels, len);
+    hcube_hop_networks(n, 2, job, 0, 1, 0, 0, labels, len / 2);
+    hcube_hop_networks(n, 2, job, 0, 1u << n, 0, 0, labels, len);
+    hcube_hop_networks(n, 2, job, 1u << n, 0, 0, 0, labels, len);
+    hcube_hop_networks(n + 12, 2, job, 0, 1, 0, 0, labels, len);
+    hcube_walk_networks(n, 0, job, 0, 1, labels, len, list, room);
+    hcube_walk_networks(n, 6, job, 0, 1, labels, len, list, sizeof list);
+    hcube_walk_networks(n, 2, job + 2, 0, 1, labels, len, list, room);
+    hcube_walk_networks(n, 2, job, 0, 1, labels, len / 2, list, room);
+    hcube_walk_networks(n, 2, job, 0, 1, labels, len, list, room - 1);
+    hcube_walk_networks(n, 2, job, 1u << n, 1, labels, len, list, room);
+    hcube_walk_networks(n, 2, job, 0, 1u << n, labels, len, list, room);
+    hcube_walk_networks(n + 12, 2, job, 0, 1, labels, len, list, room);
 }
 
 /* For a number that is no job, with another length, and for what is no node. */
@@ -154,8 +219,9 @@ void check_refused(void)
     hcube_walk(n, job + 2, 0, 1, labels, len, row, sizeof row);
     hcube_walk(n, job, 0, 1, labels, len / 2, row, sizeof row);
     hcube_walk(n, job, 1u << n, 1, labels, len, row, sizeof row);
+    refused_by_networks(labels, len);
     watch_end();
     expect_from_start(n, job);
     expect_end();
-    result("what is refused", 14);
+    result("what is refused", 14 + 17);
 }

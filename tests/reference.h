@@ -1,6 +1,6 @@
 /*
  * reference.h: the rules of docs/RULES.md once more, in plain C, to hold the
- * library and the listing program against. The first eleven functions have the
+ * library and the listing program against. The first thirteen functions have the
  * same interface as the library's.
  */
 #ifndef REFERENCE_H
@@ -37,6 +37,12 @@ uint64_t ref_why_node(uint32_t n, uint32_t rule, uint32_t job, uint32_t x,
                       uint8_t *labels, size_t labels_len);
 uint32_t ref_why_hop(uint32_t n, uint32_t job, uint32_t c, uint32_t d,
                      const uint8_t *labels, size_t labels_len);
+uint32_t ref_hop_networks(uint32_t n, uint32_t networks, uint32_t job, uint32_t c,
+                          uint32_t d, uint32_t network, uint32_t down,
+                          const uint8_t *labels, size_t labels_len);
+uint32_t ref_walk_networks(uint32_t n, uint32_t networks, uint32_t job, uint32_t s,
+                           uint32_t d, const uint8_t *labels, size_t labels_len,
+                           uint8_t *hops, size_t hops_len);
 uint32_t ref_notice_dimension(const uint8_t *bytes, size_t len);
 uint64_t ref_read_notice(const uint8_t *bytes, size_t len,
                          uint8_t *faults, size_t faults_len);
@@ -65,6 +71,19 @@ void ref_listing(const uint8_t *bytes, size_t len, FILE *out);
 #define NO_SCAN 6
 unsigned ref_scan(uint32_t n, uint32_t c, uint32_t d, const uint8_t *half,
                   uint32_t *dimension);
+
+/* How a message is routed at c for d, by virtual networks: by which call of FORWARD, 1
+ * with the forward dimensions or 2 with the spare ones, and by which of its blocks; 0
+ * and 0 for the hop to a draining d, which is tried before them. */
+struct ref_routed {
+    unsigned call, block;
+    uint32_t network, dimension;
+    unsigned ended[2]; /* where either call ended without a hop, at block 4 or 6 */
+};
+/* Whether it is; else it is halted. All inputs are in range, c is not d, and `half` is
+ * the job's own. The board may lack the network. */
+int ref_route(uint32_t n, uint32_t c, uint32_t d, uint32_t network, uint32_t down,
+              const uint8_t *half, struct ref_routed *to);
 
 /* Exchanges, the quiet one included, and final labels of one job, into its half,
  * of three good tables, by rule 2 or 3. */

@@ -6,9 +6,8 @@
 
 struct seen seen;
 
-/* One more of this number, if there is room for it; if not, the case fails. */
-static void count_one(unsigned long *counts, size_t room, const char *what,
-                      uint64_t number)
+void count_one(unsigned long *counts, size_t room, const char *what,
+               uint64_t number)
 {
     if (number < room)
         counts[number]++;
@@ -16,10 +15,8 @@ static void count_one(unsigned long *counts, size_t room, const char *what,
         expect(0, "%s: there is no room to count %llu", what,
                (unsigned long long)number);
 }
-#define SEEN(counts, number)                                                   \
-    count_one(seen.counts, COUNT(seen.counts), #counts, number)
 
-static unsigned whose(uint32_t job)
+unsigned whose(uint32_t job)
 {
     return job < NO_JOB ? job : NO_JOB;
 }

@@ -34,6 +34,19 @@ struct seen {
     unsigned long beside_safe[2][3];   /* safe nodes, by faulty neighbours and
                                         * by those that are not safe */
     unsigned long why_scan[NO_SCAN];   /* that took a hop, as it says itself */
+    /* by virtual networks: */
+    unsigned long net_kind[3];       /* deliver, hop, halted */
+    unsigned long net_home[4];       /* hops to a draining node, by their turn */
+    unsigned long net_block[2][7];   /* that hops, of the forward and the spare call */
+    unsigned long net_ended[2][7];   /* at which such a call ends without a hop */
+    unsigned long net_turn[4];       /* from up or down (2) to up or down (1) */
+    unsigned long net_network[5];    /* of a hop */
+    unsigned long net_dimension[12];
+    unsigned long net_lacking[2][6]; /* hops and walks refused with 16, by how many
+                                      * networks there are */
+    unsigned long net_walk_kind[2];
+    unsigned long net_walk_hops[2][41]; /* of walks delivered and halted; 40: more */
+    unsigned long net_walk_last[5];  /* the network of a walk's last hop */
     unsigned long groups[3][3]; /* of numbers written, by how many each has: the
                                  * count, the first address, later ones */
     unsigned long digits[2][3][5]; /* of the numbers of lists that are read, and of
@@ -50,6 +63,13 @@ struct seen {
 };
 extern struct seen seen;
 
+/* One more of this number, if there is room for it; if not, the case fails. */
+void count_one(unsigned long *counts, size_t room, const char *what,
+               uint64_t number);
+#define SEEN(counts, number)                                                   \
+    count_one(seen.counts, COUNT(seen.counts), #counts, number)
+unsigned whose(uint32_t job);
+
 /* Each counts a question with this answer; `labels` is what labelling left. */
 void saw_label(struct label_question asked, uint32_t answer,
                const uint8_t *labels);
@@ -57,6 +77,10 @@ void saw_hop(struct hop_question asked, uint32_t answer);
 void saw_why_node(struct label_question asked, uint64_t answer);
 void saw_why_hop(struct hop_question asked, uint32_t answer);
 void saw_walk(struct walk_question asked, uint32_t answer);
+/* In seen_networks.c; `hops` is what the walk left. */
+void saw_net_hop(struct net_hop_question asked, uint32_t answer);
+void saw_net_walk(struct net_walk_question asked, uint32_t answer,
+                  const uint8_t *hops);
 void saw_notice(uint64_t answer);
 void saw_dimension(uint32_t answer);
 /* `out` is what writing a notice left. */
