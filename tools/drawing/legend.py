@@ -1,12 +1,14 @@
 """legend.py: the words beside the cube: how many nodes have each label, how each walk ended, which way each dimension goes."""
 from math import sqrt
+from textwrap import wrap
 
 from shapes import FAULTY, NAMES, ORDINARY, SAFE, STEPS, STRONG, WORDS, shape
 from walks import INKS
 
 WIDTH = 350
+WIDEST = 46  # characters of a note
 MEANING = ['reaches each working node without a detour', 'and a neighbour is safe', 'and no neighbour is safe', 'takes and forwards nothing']
-REFUSALS = {5: 'there is no such node', 6: 'the source is faulty', 7: 'the destination is faulty'}
+REFUSALS = {5: 'there is no such node', 6: 'the source is faulty', 7: 'the destination is faulty', 16: 'it needs a network that the board lacks'}
 
 
 def plural(number, word):
@@ -24,10 +26,13 @@ def outcome(walk):
 
 
 def details(walk):
-    """The lines under it: the distance and the nodes of the walk; why it halted or was refused."""
+    """The lines under it: the distance and the nodes of the walk; its networks; why it halted or was refused."""
     if walk.ending == 'refused':
         return [REFUSALS.get(walk.refusal, 'see include/hcube.h')]
     way = f'distance {walk.distance()}; by {" ".join(map(str, walk.visited))}'
+    if walk.networks is not None:
+        way = wrap(way, WIDEST) + wrap(f'networks {" ".join(map(str, walk.networks))}', WIDEST) * bool(walk.networks)
+        return way + [f'no block of FORWARD hops at {walk.visited[-1]}'] * (walk.ending == 'halted')
     if walk.ending == 'halted':
         return [way, f'all neighbours of {walk.visited[-1]} nearer {walk.destination} are faulty']
     return [way]
@@ -38,6 +43,7 @@ def summary(cube):
     said = [f'cube {cube.n}: ' + ', '.join(f'{cube.count(label)} {WORDS[label]}' for label in (SAFE, ORDINARY, STRONG, FAULTY))]
     for walk in cube.walks:
         said.append(outcome(walk).replace(':', '') + ('' if walk.ending == 'refused' else f', distance {walk.distance()}'))
+        said[-1] += '' if not walk.networks else f', networks {" ".join(map(str, walk.networks))}'
     return '; '.join(said)
 
 
@@ -55,6 +61,8 @@ class Legend:
             self.say('alarm', 'no node is safe: an alarm', 36)
         for ink, walk in zip(INKS, cube.walks):
             self.walk(ink, walk)
+        if any(walk.networks for walk in cube.walks):
+            self.say('note', 'on an arrow: the hop: its network, up or down', 24)
         self.compass()
 
     def say(self, kind, text, down, aside=0):

@@ -3,7 +3,8 @@
 The first line has the counts, the lines after it are those of the pairs, and the last 2^n lines answer
 the pairs k k for each node k, which tell the faulty nodes: `tools/draw` adds these pairs. The listing
 says how many nodes have a label, not which. So the labels are computed here, by the rule of
-docs/RULES.md, and nothing is drawn unless all counts are those of the first line.
+docs/RULES.md, and nothing is drawn unless all counts are those of the first line. Behind the nodes
+of a walk by virtual networks stands `by` and the network of each hop (tools/draw_networks.c).
 """
 from shapes import FAULTY, ORDINARY, SAFE, STRONG
 
@@ -23,11 +24,11 @@ class TooLarge(Refused):
 
 
 class Walk:
-    """A pair: source, destination, ending, the nodes visited in order, and the refusal's number or None."""
+    """A pair: source, destination, ending, the nodes visited in order, the refusal's number or None, the hops' networks or None."""
 
-    def __init__(self, source, destination, ending, visited, refusal):
+    def __init__(self, source, destination, ending, visited, refusal, networks=None):
         self.source, self.destination, self.ending = source, destination, ending
-        self.visited, self.refusal = visited, refusal
+        self.visited, self.refusal, self.networks = visited, refusal, networks
 
     def hops(self):
         return list(zip(self.visited, self.visited[1:]))
@@ -83,13 +84,27 @@ def labels_of(n, works):
     return [label(k) for k in range(1 << n)], rounds
 
 
+def in_its_networks(walk):
+    """Whether a hop up behind one down takes the next network, and no other hop does; and whether it ends as it says."""
+    network, down, wanted = 0, False, []
+    for a, b in walk.hops():
+        network += down and a < b
+        down = a > b
+        wanted.append(network)
+    return walk.networks == wanted and (walk.visited[-1] == walk.destination) == (walk.ending == 'delivered')
+
+
 def is_walk(n, works, walk):
-    """Whether it goes from the source from neighbour to neighbour, over working nodes, over none twice, and ends as it says."""
+    """Whether it goes from the source from neighbour to neighbour, over working nodes, and ends as it says; without networks, over none twice."""
     visited, destination = walk.visited, walk.destination
     if not visited or visited[0] != walk.source or not all(k < 1 << n and works[k] for k in visited):
         return False
     steps = [1 << i for i in range(n)]
-    if len(set(visited)) < len(visited) or not all(a ^ b in steps for a, b in walk.hops()):
+    if not all(a ^ b in steps for a, b in walk.hops()):
+        return False
+    if walk.networks is not None:
+        return in_its_networks(walk)
+    if len(set(visited)) < len(visited):
         return False
     nearer = [visited[-1] ^ step for step in steps if (visited[-1] ^ destination) & step]
     if walk.ending == 'delivered':
@@ -99,13 +114,14 @@ def is_walk(n, works, walk):
 
 def walk_of(n, works, line):
     """The walk that a pair's line tells."""
-    parts = line.split()
-    if len(parts) < 4 or not all(part.isdecimal() for part in parts[:2] + parts[3:]):
+    told, by, behind = line.partition(' by')
+    parts, networks = told.split(), behind.split()
+    if len(parts) < 4 or not all(part.isdecimal() for part in parts[:2] + parts[3:] + networks):
         raise Refused('not the line of a pair: ' + line)
     source, destination, ending, first, *visited = (int(part) if part.isdecimal() else part for part in parts)
     if ending == 'refused' and not visited:
         return Walk(source, destination, ending, [], first)
-    walk = Walk(source, destination, ending, visited, None)
+    walk = Walk(source, destination, ending, visited, None, [int(network) for network in networks] if by else None)
     if ending not in ('delivered', 'halted') or first != len(walk.hops()) or not is_walk(n, works, walk):
         raise Refused('not a walk of this cube: ' + line)
     return walk

@@ -94,7 +94,8 @@ def picture(cube):
 def main():
     try:
         lines = sys.stdin.buffer.read().decode('ascii', 'replace').splitlines()
-        sys.stdout.write('\n'.join(picture(listing.read(lines))) + '\n')
+        drawn = '\n'.join(picture(listing.read(lines))) + '\n'
+        sys.stdout.write(drawn.encode('ascii', 'xmlcharrefreplace').decode('ascii'))
         sys.stdout.flush()
     except listing.Refused as why:
         print(f'draw: {why}', file=sys.stderr)

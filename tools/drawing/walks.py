@@ -1,12 +1,13 @@
-"""walks.py: the walks of a picture: an arrow for each hop with the hop's number on it, and tags at the ends.
+"""walks.py: the walks of a picture: an arrow for each hop with the hop's number on it, and its network if it has one, and tags at the ends.
 
-Where walks share an edge they run side by side. Of several walks each has a letter and a colour.
+Where hops share an edge they run side by side. Of several walks each has a letter and a colour.
 """
 from math import sqrt
 
 from shapes import GAP, TILE_SIDE, MARGIN, radius, reach
 
 INKS = 'abc'
+UP, DOWN = '\u2191\u2193'
 LANE = 9
 TAG_HEIGHT = 18
 SIDES = [(0, 1, 0), (0, -1, 0), (-1, 0, 0), (1, 0, 0), (0, 1, 1), (0, -1, 1)]  # below, above, left, right, farther below, farther above
@@ -30,49 +31,49 @@ class Walks:
         length = sqrt((x2 - x1) ** 2 + (y2 - y1) ** 2)
         return (x2 - x1) / length, (y2 - y1) / length, length
 
-    def lane(self, ink, a, b):
-        """Which of the lanes of an edge is a walk's, counted from the edge's middle."""
-        sharing = [other for other, walk in self.drawn if (a, b) in walk.hops() or (b, a) in walk.hops()]
-        return sharing.index(ink) - (len(sharing) - 1) / 2
+    def lane(self, ink, hop, a, b):
+        """Which of the lanes of an edge is a hop's, counted from the edge's middle."""
+        sharing = [(other, k) for other, walk in self.drawn for k, ends in enumerate(walk.hops(), 1) if ends in ((a, b), (b, a))]
+        return sharing.index((ink, hop)) - (len(sharing) - 1) / 2
 
-    def badge_place(self, a, b, begin, neck):
-        """How far from the middle of a the number of a hop stands: on a long edge between the 4-cubes, else amid the shaft."""
+    def badge_place(self, a, b, begin, neck, lane):
+        """How far from the middle of a the number of a hop stands: on a long edge between the 4-cubes, else amid the shaft or a shared edge."""
         if a ^ b < 16:
-            return (begin + neck) / 2
+            return self.towards(a, b)[2] / 2 if lane else (begin + neck) / 2
         x, y = self.at[a]
         middle = TILE_SIDE + GAP / 2
         if a ^ b == 16:
             return abs(MARGIN + middle - x)
         return abs(self.bottom - middle - y)
 
-    def along(self, ink, a, b):
+    def along(self, ink, hop, a, b):
         """A hop's arrow, in pixels from the middle of a: where it begins, the neck and tip of its head, and how far aside its lane is."""
         ux, uy, length = self.towards(a, b)
         begin = reach(self.cube.labels[a], self.r, ux, uy) + 4
         tip = length - reach(self.cube.labels[b], self.r, ux, uy) - 3
-        return begin, tip - 13, tip, self.lane(ink, a, b) * (1 if a < b else -1)
+        return begin, tip - 13, tip, self.lane(ink, hop, a, b) * (1 if a < b else -1)
 
     def point(self, a, b, forward, aside):
         ux, uy, _ = self.towards(a, b)
         x, y = self.at[a]
         return x + ux * forward - uy * aside, y + uy * forward + ux * aside
 
-    def arrow(self, ink, a, b):
-        begin, neck, tip, lane = self.along(ink, a, b)
+    def arrow(self, ink, hop, a, b):
+        begin, neck, tip, lane = self.along(ink, hop, a, b)
         aside = LANE * lane
         (x1, y1), (x2, y2) = self.point(a, b, begin, aside), self.point(a, b, neck + 1, aside)
         yield f'  <line class="way walk-{ink}" x1="{x1:.1f}" y1="{y1:.1f}" x2="{x2:.1f}" y2="{y2:.1f}"/>'
         head = [self.point(a, b, tip, aside), self.point(a, b, neck, aside + 8), self.point(a, b, neck, aside - 8)]
         yield f'  <path class="fill-{ink}" d="M' + ' L'.join(f'{x:.1f} {y:.1f}' for x, y in head) + ' Z"/>'
 
-    def badge(self, ink, hop, a, b):
-        begin, neck, _, lane = self.along(ink, a, b)
+    def badge(self, ink, hop, a, b, network):
+        begin, neck, _, lane = self.along(ink, hop, a, b)
         ux, uy, _ = self.towards(a, b)
         # side by side each stands on its own shaft, 22 pixels below the one before
         aside = 9 if abs(uy) > 0.8 else 15 if abs(uy) > 0.35 else 22
         forward = (22 - aside * abs(ux)) / abs(uy) * (1 if ux * uy >= 0 else -1) if aside < 22 else 0
-        x, y = self.point(a, b, self.badge_place(a, b, begin, neck) + forward * lane, aside * lane)
-        text = f'{self.letter(ink)}{hop}'
+        x, y = self.point(a, b, self.badge_place(a, b, begin, neck, lane) + forward * lane, aside * lane)
+        text = f'{self.letter(ink)}{hop}' + ('' if network is None else f': {network}{UP if a < b else DOWN}')
         width = 12 + 10 * len(text)
         yield f'  <rect class="badge walk-{ink}" x="{x - width / 2:.1f}" y="{y - 10:.1f}" width="{width}" height="20" rx="10"/>'
         yield f'  <text class="hop" x="{x:.1f}" y="{y + 4.5:.1f}">{text}</text>'
@@ -110,16 +111,18 @@ class Walks:
 
     def arrows(self):
         for ink, walk in self.drawn:
-            yield f'<g id="walk-{ink}" data-ending="{walk.ending}" data-visited="{" ".join(map(str, walk.visited))}">'
-            for a, b in walk.hops():
-                yield from self.arrow(ink, a, b)
+            by = '' if walk.networks is None else f' data-networks="{" ".join(map(str, walk.networks))}"'
+            yield f'<g id="walk-{ink}" data-ending="{walk.ending}" data-visited="{" ".join(map(str, walk.visited))}"{by}>'
+            for hop, (a, b) in enumerate(walk.hops(), 1):
+                yield from self.arrow(ink, hop, a, b)
             yield '</g>'
 
     def badges(self):
         yield '<g class="badges">'
         for ink, walk in self.drawn:
-            for hop, (a, b) in enumerate(walk.hops(), 1):
-                yield from self.badge(ink, hop, a, b)
+            networks = walk.networks or [None] * len(walk.hops())
+            for hop, ((a, b), network) in enumerate(zip(walk.hops(), networks), 1):
+                yield from self.badge(ink, hop, a, b, network)
         yield '</g>'
 
     def tags(self):
