@@ -16,23 +16,12 @@
 #include <string.h>
 
 #include "hcube.h"
+#include "random.h"
 
 #define FAR 0xffff      /* as a number of hops: no path leads there */
 #define SMALL 64        /* of a cube of so many nodes, all pairs are counted */
 #define SOURCES 16      /* of a larger one so many sources for each table */
 #define DESTINATIONS 64 /* and so many destinations for each of them */
-
-/* ---- random numbers: splitmix64 */
-
-static uint64_t state;
-
-static uint32_t random_below(uint32_t bound)
-{
-    uint64_t z = state += UINT64_C(0x9e3779b97f4a7c15);
-    z = (z ^ z >> 30) * UINT64_C(0xbf58476d1ce4e5b9);
-    z = (z ^ z >> 27) * UINT64_C(0x94d049bb133111eb);
-    return (uint32_t)(((z ^ z >> 31) >> 32) * bound >> 32);
-}
 
 /* ---- one fault table */
 

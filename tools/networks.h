@@ -12,20 +12,9 @@
 #include <string.h>
 
 #include "hcube.h"
+#include "random.h"
 
 #define SMALL 64 /* of a cube of so many nodes all pairs are walked */
-
-/* ---- random numbers: splitmix64 */
-
-static uint64_t state;
-
-static uint32_t random_below(uint32_t bound)
-{
-    uint64_t z = state += UINT64_C(0x9e3779b97f4a7c15);
-    z = (z ^ z >> 30) * UINT64_C(0xbf58476d1ce4e5b9);
-    z = (z ^ z >> 27) * UINT64_C(0x94d049bb133111eb);
-    return (uint32_t)(((z ^ z >> 31) >> 32) * bound >> 32);
-}
 
 /* ---- one fault table */
 

@@ -49,6 +49,17 @@ static const struct cube cubes[] = {
 
 enum { CUBES = sizeof cubes / sizeof cubes[0] };
 
+/* A random number below this one; the same row of them in every run (xorshift). */
+static inline uint32_t below(uint32_t bound)
+{
+	static uint64_t random = 1;
+
+	random ^= random << 13;
+	random ^= random >> 7;
+	random ^= random << 17;
+	return (uint32_t)(random >> 32) % bound;
+}
+
 /* Puts the nodes of a list into a table, beside those that are in it. */
 static inline void add_nodes(const struct list *list, uint8_t *table)
 {

@@ -27,17 +27,6 @@ struct labelled {
 static unsigned int hops_answered[256], walks_answered[256]; /* how many have each refusal */
 static unsigned int delivered, halted, in_network[5]; /* walks, and hops of them */
 
-/* A random number below this one; the same row of them in every run (xorshift). */
-static uint32_t below(uint32_t bound)
-{
-	static uint64_t random = 1;
-
-	random ^= random << 13;
-	random ^= random >> 7;
-	random ^= random << 17;
-	return (uint32_t)(random >> 32) % bound;
-}
-
 static void count_walk(uint32_t answer, const uint8_t *hops)
 {
 	uint32_t k;

@@ -24,17 +24,6 @@ struct repair {
 static unsigned int answered[256]; /* how many have each refusal */
 static unsigned int added; /* how many nodes came into a table */
 
-/* A random number below this one; the same row of them in every run (xorshift). */
-static uint32_t below(uint32_t bound)
-{
-	static uint64_t random = 1;
-
-	random ^= random << 13;
-	random ^= random >> 7;
-	random ^= random << 17;
-	return (uint32_t)(random >> 32) % bound;
-}
-
 static int in_table(const uint8_t *table, uint32_t k)
 {
 	return table[k / 8] >> k % 8 & 1;
