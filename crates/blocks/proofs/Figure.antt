@@ -1,9 +1,8 @@
 -- The decision is the one of the figure's words. A row of the table takes a dimension exactly where the words find it, and may exactly where they hop; so what
--- the two searches of a call give is the first block and its lowest dimension. Two decisions of the words are one: neither block is the earlier, and then
--- neither dimension is the lower.
-use mathlib.Core.Path.{_≡_, refl, sym, ap, _∙_}
+-- the two searches of a call give is the first block and its lowest dimension. That the words allow no other is in Alone.antt.
+use mathlib.Core.Path.{_≡_, refl, sym, _∙_}
 use mathlib.Core.Logic.{_⊎_, inl, inr, ⊎-elim}
-use mathlib.Core.Bool.{Bool, true, false, not, xor}
+use mathlib.Core.Bool.{Bool, true, false, not}
 use Prim.Native.Nat.{ℕ, zero, suc, _+_, _*_, _/_, _≤_, _<_}
 use native.Mathlib.Omega.{arith}
 use lib.Dec.{eqb, leb, ltb}
@@ -21,61 +20,15 @@ use Rattle.hop.specs.declared.Decision.{Decision}
 use Rattle.hop.specs.declared.Decision.the-variants.{Hop}
 use Rattle.blocks.specs.Blocks.{blockAt, decideIn, eager, hopIn, mayFourth, maySixth}
 use Rattle.blocks.specs.Board.{numbered}
-use Rattle.blocks.specs.Figure.{Chosen, Finds, First, Forwards, HopChosen, Hops, Network, OnSide, Onward, Passes, Turning, Up, ahead, aside, block1, block2, block3, block4, block5, block6, always1, always2, always3, hops4, always5, hops6, stays, turns-down, turns-up, none, barred, Taken, home, forwarded, derouted, arrived, took, stopped}
-use Rattle.blocks.specs.Phase.{after, channelNumber, down, phaseOf, turns}
+use Rattle.blocks.specs.Figure.{Chosen, Finds, First, Forwards, HopChosen, Hops, OnSide, Passes}
+use Rattle.blocks.specs.Figure.{ahead, aside, block1, block2, block3, block4, block5, block6, always1, always2, always3, hops4, always5, hops6}
+use Rattle.blocks.specs.Figure.{none, barred, home, forwarded, derouted, arrived, took, stopped}
+use Rattle.blocks.specs.Phase.{after, channelNumber, down, phaseOf}
+use Rattle.blocks.proofs.Alone.{alone}
 use Rattle.blocks.proofs.Blocks.{Fits, eager-says, fits-says, fits-so, may-fourth, may-lt, may-sixth, says-eager}
 use Rattle.blocks.proofs.Calls as calls
-use Rattle.blocks.proofs.Phases.{after-keep, after-turn, even-up, keep-bit, odd-down, turn-bit}
+use Rattle.blocks.proofs.Directions.{bends, is-down, is-up, keeps, network, onward, turning, up-or-down}
 use Rattle.blocks.proofs.Picks.{pick-forward, pick-home, pick-spare}
-
--- ---- directions: a message in network w, going up where g is 0 and down where it is 1
-
-module _ (w g : ℕ) (hg : g ≤ 1) where
-  abbrev p : ℕ
-  p = phaseOf w g
-
-  up-or-down : (g ≡ 0) ⊎ (g ≡ 1)
-  up-or-down = go g hg
-    where
-      go : (g : ℕ) → g ≤ 1 → (g ≡ 0) ⊎ (g ≡ 1)
-      go zero h = inl refl
-      go (suc zero) h = inr refl
-      go (suc (suc g)) h = absurd (omega arith)
-
-  is-up : g ≡ 0 → down p ≡ false
-  is-up e = even-up p (omega arith)
-
-  is-down : g ≡ 1 → down p ≡ true
-  is-down e = odd-down p (omega arith)
-
-  module _ (c i : ℕ) where
-    onward : turns p c i ≡ false → Onward g c i
-    onward e = ⊎-elim (λ (z : g ≡ 0). inl (z, keep-bit p c i e ∙ is-up z)) (λ (z : g ≡ 1). inr (z, keep-bit p c i e ∙ is-down z)) up-or-down
-
-    turning : turns p c i ≡ true → Turning g c i
-    turning e =
-        ⊎-elim (λ (z : g ≡ 0). inl (z, turn-bit p c i e ∙ ap not (is-up z))) (λ (z : g ≡ 1). inr (z, turn-bit p c i e ∙ ap not (is-down z))) up-or-down
-
-    keeps : Onward g c i → turns p c i ≡ false
-    unfolding turns xor
-    keeps (inl z) = rw (z .1, is-up (z .0))
-    keeps (inr z) = rw (z .1, is-down (z .0))
-
-    bends : Turning g c i → turns p c i ≡ true
-    unfolding turns xor
-    bends (inl z) = rw (z .1, is-up (z .0))
-    bends (inr z) = rw (z .1, is-down (z .0))
-
-    network : Network w g c i (after p c i / 2)
-    network = go (either (turns p c i))
-      where
-        turned : turns p c i ≡ true → Turning g c i → Network w g c i (after p c i / 2)
-        turned e (inl z) = let k : after p c i / 2 ≡ w = omega (arith, after-turn p c i e, z .0) in rw k (turns-down (z .0) (z .1))
-        turned e (inr z) = let k : after p c i / 2 ≡ suc w = omega (arith, after-turn p c i e, z .0) in rw k (turns-up (z .0) (z .1))
-
-        go : (turns p c i ≡ true) ⊎ (turns p c i ≡ false) → Network w g c i (after p c i / 2)
-        go (inl e) = turned e (turning e)
-        go (inr e) = let k : after p c i / 2 ≡ w = omega (arith, after-keep p c i e, hg) in rw k (stays (onward e))
 
 -- ---- one call
 
@@ -274,71 +227,5 @@ module _ (n : ℕ) (lab : ℕ → ℕ) (c d w g : ℕ) (hg : g ≤ 1) where
           let l = ltb-false homed n h in
           rw (calls.halts-so n lab d at c a (pick-spare n c d at (lab c) near l (omega (arith, q .1)) ∙ r .1)) (stopped (far a) (home-misses l) (q .0) (r .0))
 
--- ---- no other is
-
-module _ (n : ℕ) (lab : ℕ → ℕ) (c d w g : ℕ) where
-  no-turn : (i : ℕ) → Onward g c i → g ≡ 1 → Up c i → ⊥
-  no-turn i (inl z) e u = omega (arith, z .0)
-  no-turn i (inr z) e u = clash (z .1) u
-
-  one-network : {i k m : ℕ} → Network w g c i k → Network w g c i m → k ≡ m
-  one-network (stays _) (stays _) = refl
-  one-network (stays _) (turns-down _ _) = refl
-  one-network {i} (stays o) (turns-up e u) = absurd (no-turn i o e u)
-  one-network (turns-down _ _) (stays _) = refl
-  one-network (turns-down _ _) (turns-down _ _) = refl
-  one-network (turns-down e _) (turns-up f _) = absurd (omega arith)
-  one-network {i} (turns-up e u) (stays o) = absurd (no-turn i o e u)
-  one-network (turns-up f _) (turns-down e _) = absurd (omega arith)
-  one-network (turns-up _ _) (turns-up _ _) = refl
-
-  module _ (side : Bool) where
-    one-block : {s t i j : ℕ} → First n lab c d g side s i → First n lab c d g side t j → ¬ (s < t)
-    one-block {s} {t} {i} {j} p q l = q .earlier s l i (p .dimension) (p .finds)
-
-    same-block : {s t i j : ℕ} → First n lab c d g side s i → First n lab c d g side t j → t ≡ s
-    same-block p q = omega (arith, one-block p q, one-block q p)
-
-    one-hop : {i j : ℕ} → Forwards n lab c d w g side i → Forwards n lab c d w g side j → ¬ (i < j)
-    one-hop {i} {j} p q l = q .1 .lowest i l (rw (same-block (p .1) (q .1)) (p .1 .finds))
-
-    never-both : {i : ℕ} → Forwards n lab c d w g side i → ¬ (Passes n lab c d w g side)
-    never-both {i} p (none m) = m (p .0) i (p .1 .dimension) (p .1 .finds)
-    never-both p (barred t j q h) = h (rw (same-block (p .1) q) (p .2))
-
-  never-home : {i : ℕ} → Picks n lab c d 0 i → ¬ (Misses n lab c d 0)
-  never-home {i} p m = m i (p .dimension) (p .hits)
-
-  one-taken : {i j : ℕ} → Taken n lab c d w g i → Taken n lab c d w g j → ¬ (i < j)
-  one-taken {i} {j} (home p) (home q) l = q .lowest i l (p .hits)
-  one-taken (home p) (forwarded m _) l = never-home p m
-  one-taken (home p) (derouted m _ _) l = never-home p m
-  one-taken (forwarded m _) (home p) l = never-home p m
-  one-taken (forwarded _ p) (forwarded _ q) l = one-hop forward p q l
-  one-taken (forwarded _ p) (derouted _ q _) l = never-both forward p q
-  one-taken (derouted m _ _) (home p) l = never-home p m
-  one-taken (derouted _ q _) (forwarded _ p) l = never-both forward p q
-  one-taken (derouted _ _ p) (derouted _ _ q) l = one-hop spare p q l
-
-  never-stopped : {i : ℕ} → Taken n lab c d w g i → Misses n lab c d 0 → Passes n lab c d w g forward → ¬ (Passes n lab c d w g spare)
-  never-stopped (home p) m f s = never-home p m
-  never-stopped (forwarded _ p) m f s = never-both forward p f
-  never-stopped (derouted _ _ p) m f s = never-both spare p s
-
-  alone : (x y : Decision) → Chosen n lab c d w g x → Chosen n lab c d w g y → x ≡ y
-  alone x y (arrived e) (arrived _) = refl
-  alone x y (arrived e) (took far _ _) = absurd (omega arith)
-  alone x y (arrived e) (stopped far _ _ _) = absurd (omega arith)
-  alone x y (took far _ _) (arrived e) = absurd (omega arith)
-  alone x y (took {i} {k} _ p a) (took {i = j} {k = m} _ q b) =
-      let e : i ≡ j = omega (arith, one-taken p q, one-taken q p) in
-      let f : k ≡ m = one-network a (rw e b) in
-      let z : k * 16 + i ≡ m * 16 + j = omega arith in
-      ap Hop z
-  alone x y (took _ p _) (stopped _ m f s) = absurd (never-stopped p m f s)
-  alone x y (stopped far _ _ _) (arrived e) = absurd (omega arith)
-  alone x y (stopped _ m f s) (took _ p _) = absurd (never-stopped p m f s)
-  alone x y (stopped _ _ _ _) (stopped _ _ _ _) = refl
-
-  pub hop-chosen : HopChosen n lab c d w g
-  hop-chosen = record { chosen = λ hg. chosen n lab c d w g hg; alone = alone }
+pub hop-chosen : (n : ℕ) (lab : ℕ → ℕ) (c d w g : ℕ) → HopChosen n lab c d w g
+hop-chosen n lab c d w g = record { chosen = λ hg. chosen n lab c d w g hg; alone = alone n lab c d w g }

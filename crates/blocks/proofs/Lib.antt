@@ -2,6 +2,8 @@ pub mod Phases
 pub mod Blocks
 pub mod Picks
 pub mod Calls
+pub mod Directions
+pub mod Alone
 pub mod Figure
 pub mod Rising
 pub mod Turns

@@ -1,6 +1,7 @@
 -- Algorithm ROUTE_C in the words of RULES (Virtual networks): what each block of FORWARD asks of a dimension, when its hop is made, and the decision that
--- follows. lab are the labels, c the node and d the destination; the message is in network w, and goes up where g is 0, down where g is 1. Nothing here rests on
--- the table that the blocks are computed by; that the decision is the one of these words is proved in proofs/Figure.antt.
+-- follows. lab are the labels, c the node and d the destination; the message is in network w, and goes up where g is 0, down where g is 1. Nothing here rests
+-- on the table that the blocks are computed by; that the decision is the one of these words is proved in proofs/Figure.antt, and that they allow no other in
+-- proofs/Alone.antt.
 use mathlib.Core.Bool.{Bool, true, false}
 use mathlib.Core.Logic.{_⊎_}
 use mathlib.Core.Path.{_≡_}

@@ -28,15 +28,17 @@ use Rattle.promises.specs.Library.{Library}
 use Rattle.promises.specs.NetworkRefusals.{HopNetworksGiven, WalkNetworksGiven}
 use Rattle.promises.specs.Refusals.{Job}
 
--- a message waits for the channel `wanted` while it holds the channel `held`: it was forwarded by the hop question from one node to the next, hop i by the number
--- `h i`; each node asked by labels, a job and a board of its own; it still holds the channel of an earlier hop, and its next hop is decided
+-- a message waits for the channel `wanted` while it holds the channel `held`: it was forwarded by the hop question from one node to the next, hop i by the
+-- number `h i`; each node asked by labels, a job and a board of its own; it still holds the channel of an earlier hop, and its next hop is decided
 pub record Waiting (lib : Library) (n : ℕ) (held wanted : Channel) : Type 0 where
   pub d : ℕ
   pub last : ℕ
   pub at : ℕ → Spot
   pub h : ℕ → ℕ
   pub moves : (i : ℕ) → i < last → at (suc i) ≡ across (h i) (at i)
-  pub asked : (i : ℕ) → i ≤ last → (N j : ℕ) × (buffer : List ℕ) × lib .hops-networks n N j (at i .node) d (at i .network) (at i .down) buffer (hopped.Decided (Hop (h i)))
+  pub asked :
+      (i : ℕ) → i ≤ last
+      → (N j : ℕ) × (buffer : List ℕ) × lib .hops-networks n N j (at i .node) d (at i .network) (at i .down) buffer (hopped.Decided (Hop (h i)))
   pub earlier : ℕ
   pub before : earlier < last
   pub holds : held ≡ channelOf (at earlier .node) (h earlier)
