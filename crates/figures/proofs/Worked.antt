@@ -1,0 +1,30 @@
+-- The worked figures, by computation.
+use mathlib.Core.Path.{_≡_, refl}
+use mathlib.Core.Bool.{true}
+use mathlib.Core.List.{List, [], _∷_}
+use Prim.Native.Nat.{ℕ}
+use lib.Count.{ones}
+use Rattle.cube.specs.Count.{count, least, some}
+use Rattle.cube.specs.Cube.{apart, bit, dist, flip}
+use Rattle.cube.specs.Refusal.{first}
+use Rattle.cube.specs.Tables.{isDimension, labelIn, nodeBit, tab, tableLen}
+use Rattle.jobs.specs.Jobs.{isJob, labelBytes}
+use Rattle.rule.specs.Cabinet.{labelsOf}
+use Rattle.rule.specs.Rule.{label, labelOf, marked, meets, newly, quiet, rounds, safe, working}
+use Rattle.hop.specs.Hop.{answer, decide, hop}
+use Rattle.scans.specs.Scans.{firstScan, lowest, suits, takes}
+use Rattle.walk.specs.Walk.{hops, last, onto, refused, row, spot, stops, turn, walkFrom, walkRefusal, walked}
+use Rattle.figures.specs.Figures.{bytesOf, cubeOf, figures, goes, isKind, pairs, tableOf, tallyOf, total}
+use Rattle.figures.specs.Sum.{sum}
+use Rattle.figures.specs.Worked.{Worked}
+
+cube-1 : tallyOf 1 ≡ 1 ∷ 0 ∷ 4 ∷ 0 ∷ 0 ∷ 0 ∷ 2 ∷ 0 ∷ 2 ∷ 0 ∷ 0 ∷ 0 ∷ 1 ∷ 1 ∷ 0 ∷ 0 ∷ 0 ∷ 0 ∷ []
+unfolding tallyOf total figures pairs sum isKind bytesOf tableLen walked walkRefusal walkFrom refused first row last hops turn spot stops onto hop decide answer
+    firstScan lowest takes suits apart dist ones labelIn labelsOf label labelOf safe rounds working quiet newly meets marked isDimension isJob labelBytes some
+    count least bit flip nodeBit tab
+cube-1 = refl
+
+pub worked : Worked
+unfolding bytesOf tableLen isKind walked walkRefusal walkFrom refused first row last hops turn spot stops onto hop decide answer firstScan lowest takes suits
+    apart dist ones labelIn labelsOf label labelOf safe rounds working quiet newly meets marked isDimension isJob labelBytes some count least bit flip nodeBit tab
+worked = record { cube-1 = cube-1; k4 = refl; none-extra = refl; two-extra = refl; four-extra = refl; halts = refl }

@@ -1,0 +1,4 @@
+pub mod Sum
+pub mod Figures
+pub mod Laws
+pub mod Worked
