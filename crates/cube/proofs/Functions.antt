@@ -8,7 +8,7 @@ use denote.Ref.{now}
 use Rattle.cube.specs.Contracts.{AsksNothing, Function, Nothing}
 use Rattle.cube.proofs.Contracts.{Says}
 use Rattle.cube.specs.Cube.{dist, flip}
-use Rattle.cube.specs.Tables.{isDimension, nodeBit, tableLen, unusedSet}
+use Rattle.cube.specs.Tables.{isDimension, labelCount, nodeBit, tableLen, unusedSet}
 use Rattle.cube.proofs.distance as distance-claims
 use Rattle.cube.proofs.is_dimension
 use Rattle.cube.proofs.nodes as nodes-claims
@@ -16,6 +16,7 @@ use Rattle.cube.proofs.neighbour as neighbour-claims
 use Rattle.cube.proofs.table_len
 use Rattle.cube.proofs.node_bit
 use Rattle.cube.proofs.unused_set
+use Rattle.cube.proofs.count_of
 
 abbrev pub distance : Function distance-claims.ended (ℕ × ℕ) ℕ Nothing
 distance =
@@ -120,3 +121,20 @@ unused-set =
 
 pub unused-set-says : Says unused-set (λ i. unusedSet (i .0) (i .1)) (λ i. tt)
 unused-set-says = record { says = λ κs a r e p. (p, refl) }
+
+abbrev pub count-of : Function count_of.ended (List ℕ × ℕ) ℕ Nothing
+count-of =
+    record {
+      clauses = λ w. count_of.clauses (w .𝓤) (w .H) (w .𝓖 .A) (w .𝓜 .mem) (w .𝓡 .run);
+      asked = count_of.Reads.Asked;
+      post = count_of.Reads.Post;
+      handed = λ κs a. (now (a .0), a .1 .0);
+      answered = λ κs r. r;
+      left = λ κs e. tt;
+    }
+
+pub count-of-asks : AsksNothing count-of
+count-of-asks = record { asked = λ κs a. tt; empty = λ w κs a. (tt, refl) }
+
+pub count-of-says : Says count-of (λ i. labelCount (i .0) (i .1)) (λ i. tt)
+count-of-says = record { says = λ κs a r e p. (p, refl) }

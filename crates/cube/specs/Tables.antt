@@ -2,9 +2,9 @@
 use mathlib.Core.Bool.{Bool, cond, _&&_}
 use mathlib.Core.List.{List, [], _∷_}
 use Prim.Native.Nat.{ℕ, zero, suc, _*_, _/_, _%_, _^_}
-use lib.Dec.{leb}
+use lib.Dec.{eqb, leb}
 use lib.ListN.{length, getD, replicate}
-use Rattle.cube.specs.Count.{some}
+use Rattle.cube.specs.Count.{count, some}
 use Rattle.cube.specs.Cube.{bit}
 
 -- the list of f 0, f 1, .., n in all
@@ -39,3 +39,7 @@ highest = 4
 -- the label of node x in a label table
 unfoldable pub labelIn : List ℕ → ℕ → ℕ
 labelIn l x = getD l x 0
+
+-- how many nodes have the label k
+abbrev pub labelCount : (labels : List ℕ) (k : ℕ) → ℕ
+labelCount labels k = count (length labels) (λ x. eqb (labelIn labels x) k)

@@ -1,8 +1,8 @@
-// The cube: nodes as numbers, the neighbour across a dimension, the Hamming distance, and the bits of a fault table.
+// The cube: nodes as numbers, the neighbour across a dimension, the Hamming distance, the bits of a fault table, and the nodes of a label.
 // Nothing here refuses: the crates above test what they are handed before they ask.
 ghost use Prim.Native.Nat.{_/_, _^_, _<_};
 ghost use Rattle.cube.specs.Cube.{dist, flip};
-ghost use Rattle.cube.specs.Tables.{isDimension, nodeBit, tableLen, unusedSet};
+ghost use Rattle.cube.specs.Tables.{isDimension, labelCount, nodeBit, tableLen, unusedSet};
 ghost use lib.ListN.{length};
 ghost use mathlib.Core.Path.{_≡_};
 
@@ -68,4 +68,19 @@ pub fn unused_set(n: usize, t: &[u8]) -> bool
     }
     let byte = t[0];
     byte >> nodes(n) != 0
+}
+
+// How many nodes have this label.
+pub fn count_of(labels: &[u8], label: u8) -> usize
+    ensures { λ r. ⌜ r ≡ labelCount (now (labels .entry)) label ⌝ }
+{
+    let mut count: usize = 0;
+    let mut x: usize = 0;
+    while x < labels.len() {
+        if labels[x] == label {
+            count += 1;
+        }
+        x += 1;
+    }
+    count
 }

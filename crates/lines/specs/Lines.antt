@@ -1,10 +1,8 @@
 -- The listing program's lines (RULES, The listing program).
 use mathlib.Core.List.{List, [], _++_}
 use Prim.Native.Nat.{ℕ, zero, suc, _+_}
-use lib.Dec.{eqb}
-use lib.ListN.{getD, length}
-use Rattle.cube.specs.Count.{count}
-use Rattle.cube.specs.Tables.{labelIn}
+use lib.ListN.{getD}
+use Rattle.cube.specs.Tables.{labelCount}
 use Rattle.walk.specs.declared.Ending.{Ending}
 use Rattle.walk.specs.declared.Ending.the-variants as ending
 use Rattle.walk.specs.declared.Walked.{Walked}
@@ -13,10 +11,6 @@ use Rattle.lines.specs.Text.{decimal, field, text}
 -- the bytes that are lent for a line: none is longer
 abbrev pub room : ℕ
 room = 1024
-
--- how many nodes have the label k
-abbrev pub labelCount : (labels : List ℕ) (k : ℕ) → ℕ
-labelCount labels k = count (length labels) (λ x. eqb (labelIn labels x) k)
 
 abbrev pub countsText : (labels : List ℕ) → List ℕ
 countsText labels = field " safe " (labelCount labels 0) ++ field " ordinary " (labelCount labels 1) ++ field " strong " (labelCount labels 2)

@@ -1,7 +1,8 @@
 // The listing program's lines, made in a lent buffer of 1,024 bytes, which is room for any of them. A `put_` function writes at a place and answers the
 // place behind; the others make a line at the front of the buffer and answer its end.
 ghost use Prim.Native.Nat.{_+_, _≤_};
-ghost use Rattle.lines.specs.Lines.{countsText, cubeLine, endText, labelCount, pairLine, room, rowText, tooLong};
+ghost use Rattle.cube.specs.Tables.{labelCount};
+ghost use Rattle.lines.specs.Lines.{countsText, cubeLine, endText, pairLine, room, rowText, tooLong};
 ghost use Rattle.lines.specs.Text.{Put, decimal, field, text};
 ghost use lib.ListN.{length, take};
 ghost use mathlib.Core.List.{_++_};
@@ -46,27 +47,12 @@ fn put_field(out: &mut [u8], at: usize, word: &[u8], n: usize) -> usize
 
 // ---- the first line
 
-// How many nodes have this label.
-fn count_of(labels: &[u8], label: u8) -> usize
-    ensures { λ r. ⌜ r ≡ labelCount (now (labels .entry)) label ⌝ }
-{
-    let mut count: usize = 0;
-    let mut x: usize = 0;
-    while x < labels.len() {
-        if labels[x] == label {
-            count += 1;
-        }
-        x += 1;
-    }
-    count
-}
-
 fn put_count(out: &mut [u8], at: usize, word: &[u8], labels: &[u8], label: u8) -> usize
     requires { ⌜ (length (now word) ≤ 20) × (at + 40 ≤ length (now out)) ⌝ }
     ensures text { λ r. ⌜ Put (now (out .entry)) at (now (word .entry) ++ decimal (labelCount (now (labels .entry)) label)) (now (out .exit)) r ⌝ }
     ensures near { λ r. ⌜ r ≤ at + 40 ⌝ }
 {
-    put_field(out, at, word, count_of(labels, label))
+    put_field(out, at, word, cube::count_of(labels, label))
 }
 
 fn put_counts(out: &mut [u8], at: usize, labels: &[u8]) -> usize

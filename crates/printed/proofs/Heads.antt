@@ -10,7 +10,7 @@ use lib.ListN.{drop, length, length-replicate, replicate, take}
 use lib.Seq.{take-at}
 use borrow.Author.Tests.{eq-eqb}
 use Rattle.cube.specs.Refusal.{first}
-use Rattle.cube.specs.Tables.{emptyTable, labelIn, nodeBit, tableLen}
+use Rattle.cube.specs.Tables.{emptyTable, labelCount, labelIn, nodeBit, tableLen}
 use Rattle.cube.proofs.Count.{count-pos, count-same}
 use Rattle.cube.proofs.Tables.{nodes-few, table-few, zeros-behind, zeros-unused}
 use Rattle.groups.specs.Number.{onNumber}
@@ -32,7 +32,7 @@ use Rattle.rule.specs.Cabinet.{Cabinet, labelsOf, out, plain}
 use Rattle.rule.proofs.Cabinet.{labels-length, plain-out}
 use Rattle.enough.specs.Enough.{outOfWork}
 use Rattle.enough.proofs.Enough.{few-out-safe}
-use Rattle.lines.specs.Lines.{labelCount, noticeRefused, room}
+use Rattle.lines.specs.Lines.{noticeRefused, room}
 use Rattle.printed.specs.Printed.{Headed, cabinetOf, firstLine, headLine, labelsIn, wantedLen}
 
 -- a number that is no dimension, or one of the table's length, passes the test of the length

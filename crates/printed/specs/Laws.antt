@@ -3,12 +3,13 @@ use mathlib.Core.Path.{_≡_}
 use mathlib.Core.List.{List, [], _∷_, _++_}
 use Prim.Native.Nat.{ℕ, suc, _≤_, _<_}
 use lib.ListN.{length}
+use Rattle.cube.specs.Tables.{labelCount}
 use Rattle.groups.specs.Number.{numberAt}
 use Rattle.groups.specs.declared.Number.the-variants as number
 use Rattle.notice.specs.Notice.{noticeOf, tailAt}
 use Rattle.notice.specs.declared.Noticed.the-variants.{Notice, Refused}
 use Rattle.rule.specs.Cabinet.{labelsOf}
-use Rattle.lines.specs.Lines.{inputRefused, labelCount, noticeRefused, tooLong}
+use Rattle.lines.specs.Lines.{inputRefused, noticeRefused, tooLong}
 use Rattle.printed.specs.Printed.{cabinetOf, listing, pairLines, pairsOf}
 use Rattle.lines.specs.Text.{text}
 

@@ -70,6 +70,7 @@ settled =
       reader-next-at = settles reader.next-at-says;
       cube-distance = settles cube.distance-says;
       cube-is-dimension = settles cube.is-dimension-says;
+      cube-count-of = settles cube.count-of-says;
       jobs-is-job = settles jobs.is-job-says;
       passes-start = settles passes.start-says;
       passes-sweep = settles passes.sweep-says;
@@ -132,5 +133,6 @@ unasked =
       reader-next-at = reader.next-at-asks;
       cube-distance = cube.distance-asks;
       cube-is-dimension = cube.is-dimension-asks;
+      cube-count-of = cube.count-of-asks;
       jobs-is-job = jobs.is-job-asks;
     }

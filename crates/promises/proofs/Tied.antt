@@ -70,6 +70,7 @@ all-tied =
       reader-next-at = record { clauses = λ w. refl; asked = refl; post = refl };
       cube-distance = record { clauses = λ w. refl; asked = refl; post = refl };
       cube-is-dimension = record { clauses = λ w. refl; asked = refl; post = refl };
+      cube-count-of = record { clauses = λ w. refl; asked = refl; post = refl };
       cube-nodes = record { clauses = λ w. refl; asked = refl; post = refl };
       cube-neighbour = record { clauses = λ w. refl; asked = refl; post = refl };
       cube-table-len = record { clauses = λ w. refl; asked = refl; post = refl };

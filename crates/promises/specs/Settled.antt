@@ -64,6 +64,7 @@ pub record Settled : Type 0 where
   pub reader-next-at : Settles reader.next-at
   pub cube-distance : Settles cube.distance
   pub cube-is-dimension : Settles cube.is-dimension
+  pub cube-count-of : Settles cube.count-of
   pub jobs-is-job : Settles jobs.is-job
   -- what one crate lends another
   pub passes-start : Settles passes.start
@@ -132,4 +133,5 @@ pub record Unasked : Type 2 where
   pub reader-next-at : AsksNothing reader.next-at
   pub cube-distance : AsksNothing cube.distance
   pub cube-is-dimension : AsksNothing cube.is-dimension
+  pub cube-count-of : AsksNothing cube.count-of
   pub jobs-is-job : AsksNothing jobs.is-job

@@ -10,6 +10,7 @@ use denote.Triple.Clauses.{AtExit, Ended}
 use denote.Triple.Entry.{Args, Res}
 use Rattle.cube.specs.Contracts.{Function, Tied, Written}
 use Rattle.cube.proofs.Functions as cube
+use Rattle.cube.proofs.count_of as cube-count-of
 use Rattle.cube.proofs.distance as cube-distance
 use Rattle.cube.proofs.is_dimension as cube-is-dimension
 use Rattle.cube.proofs.neighbour as cube-neighbour
@@ -217,6 +218,9 @@ pub record AllTied : Type 2 where
   pub cube-is-dimension :
       Tied cube.is-dimension (λ w. cube-is-dimension.clauses (w .𝓤) (w .H) (w .𝓖 .A) (w .𝓜 .mem) (w .𝓡 .run))
       cube-is-dimension.Reads.Asked cube-is-dimension.Reads.Post
+  pub cube-count-of :
+      Tied cube.count-of (λ w. cube-count-of.clauses (w .𝓤) (w .H) (w .𝓖 .A) (w .𝓜 .mem) (w .𝓡 .run))
+      cube-count-of.Reads.Asked cube-count-of.Reads.Post
   pub cube-nodes :
       Tied cube.nodes (λ w. cube-nodes.clauses (w .𝓤) (w .H) (w .𝓖 .A) (w .𝓜 .mem) (w .𝓡 .run))
       cube-nodes.Reads.Asked cube-nodes.Reads.Post

@@ -7,11 +7,11 @@ use native.Mathlib.Omega.{arith}
 use borrow.Author.Tests.{eq-eqb, ne-eqb}
 use lib.Dec.{eqb}
 use lib.ListN.{length}
 use Rattle.cube.specs.Count.{count}
 use Rattle.cube.specs.Tables.{labelIn}
 use Rattle.cube.proofs.Count.{count-zero, count-bound, count-in, count-out}
-use Rattle.lines.proofs.count_of.Statement.{statement}
-use Rattle.lines.proofs.count_of.Tie as tie
+use Rattle.cube.proofs.count_of.Statement.{statement}
+use Rattle.cube.proofs.count_of.Tie as tie
 
 abbrev Inv-loop : tie.InvT-loop
 Inv-loop labels label count₀ x₀ k x = (x ≤ length labels) × (k ≡ count x (λ y. eqb (labelIn labels y) label))
