@@ -1,0 +1,40 @@
+-- What the functions behind `tally` say: numbers that are added to lent counters, and what they may assume of the table that they count.
+use mathlib.Core.List.{List}
+use mathlib.Core.Path.{_≡_}
+use Prim.Native.Nat.{ℕ, _+_, _^_, _≤_, _<_}
+use lib.ListN.{getD, length}
+use Rattle.cube.specs.Count.{count, least}
+use Rattle.cube.specs.Tables.{tab}
+use Rattle.jobs.specs.Jobs.{half, labelBytes, labelFor}
+use Rattle.rule.specs.Cabinet.{labelsOf, plain}
+use Rattle.walk.specs.Walk.{rowBytes, walked}
+use Rattle.walk.specs.declared.Walked.{Walked}
+use Rattle.theorems.specs.Words.{Accepted}
+use Rattle.figures.specs.Figures.{isKind}
+
+-- m counters l, with f i added to each
+unfoldable pub plus : (m : ℕ) (f : ℕ → ℕ) (l : List ℕ) → List ℕ
+plus m f l = tab m (λ i. getD l i 0 + f i)
+
+-- l are m counters to which b can be added without overflow
+pub record Room (m b : ℕ) (l : List ℕ) : Type 0 where
+  pub sized : length l ≡ m
+  pub below : (i : ℕ) → getD l i 0 + b < 2 ^ 32
+
+-- the label buffer holds, as job 0's, the labels of the fault table, which labelling accepts for a cube that is tallied
+pub record Tallying (n : ℕ) (faults labels : List ℕ) : Type 0 where
+  pub small : (1 ≤ n) × (n ≤ 4)
+  pub accepted : Accepted (plain n 3 faults) 0
+  pub sized : length labels ≡ labelBytes n
+  pub labelled : half 0 (2 ^ n) labels ≡ labelsOf (plain n 3 faults)
+
+-- the walk that job 0 goes with a label buffer
+abbrev pub walkIn : (n s d : ℕ) (labels : List ℕ) → Walked
+walkIn n s d labels = walked n 0 s d (length labels) rowBytes (labelFor n 0 labels)
+
+-- the least kind that a walk over a distance l has, and that it has just one
+unfoldable pub kindOf : (w : Walked) (l : ℕ) → ℕ
+kindOf w l = least 4 (λ k. isKind k w l)
+
+abbrev pub HasKind : (w : Walked) (l : ℕ) → Type 0
+HasKind w l = count 4 (λ k. isKind k w l) ≡ 1
