@@ -1,4 +1,4 @@
--- The listing program's lines (RULES, The listing program).
+-- The lines of the listing program (RULES, The listing program) and of the tally.
 use mathlib.Core.List.{List, [], _++_}
 use Prim.Native.Nat.{ℕ, zero, suc, _+_}
 use lib.ListN.{getD}
@@ -43,3 +43,13 @@ inputRefused k at = field "input refused " k ++ field " " at ++ text "\n"
 
 abbrev pub tooLong : List ℕ
 tooLong = text "input too long\n"
+
+-- the tally's: a cube, a number of faults with its six figures, and, for whoever waits at a terminal, the cube that is next
+abbrev pub sizeLine : (n : ℕ) → List ℕ
+sizeLine n = field "cube " n ++ text "\n"
+
+unfoldable pub figuresLine : (faults : ℕ) (figures : List ℕ) → List ℕ
+figuresLine faults figures = decimal faults ++ rowText figures 6 ++ text "\n"
+
+abbrev pub progressLine : (n : ℕ) → List ℕ
+progressLine n = field "tally: cube " n ++ text "\n"

@@ -1,8 +1,8 @@
-// The listing program's lines, made in a lent buffer of 1,024 bytes, which is room for any of them. A `put_` function writes at a place and answers the
-// place behind; the others make a line at the front of the buffer and answer its end.
+// The lines of the listing program and of the tally, made in a lent buffer of 1,024 bytes, which is room for any of them. A `put_` function writes at a
+// place and answers the place behind; the others make a line at the front of the buffer and answer its end.
 ghost use Prim.Native.Nat.{_+_, _≤_};
 ghost use Rattle.cube.specs.Tables.{labelCount};
-ghost use Rattle.lines.specs.Lines.{countsText, cubeLine, endText, pairLine, room, rowText, tooLong};
+ghost use Rattle.lines.specs.Lines.{countsText, cubeLine, endText, figuresLine, pairLine, progressLine, room, rowText, sizeLine, tooLong};
 ghost use Rattle.lines.specs.Text.{Put, decimal, field, text};
 ghost use lib.ListN.{length, take};
 ghost use mathlib.Core.List.{_++_};
@@ -160,4 +160,65 @@ pub fn long_line(out: &mut [u8]) -> usize
     ensures near { λ r. ⌜ r ≤ room ⌝ }
 {
     put_text(out, 0, b"input too long\n")
+}
+
+// ---- the tally
+
+// A word, a number and the end of the line.
+fn field_line(word: &[u8], n: usize, out: &mut [u8]) -> usize
+    requires { ⌜ (length (now word) ≤ 20) × (length (now out) ≡ room) ⌝ }
+    ensures line { λ r. ⌜ take r (now (out .exit)) ≡ (now (word .entry) ++ decimal n) ++ text "\n" ⌝ }
+    ensures near { λ r. ⌜ r ≤ room ⌝ }
+{
+    let next = put_field(out, 0, word, n);
+    put_text(out, next, b"\n")
+}
+
+pub fn size_line(n: usize, out: &mut [u8]) -> usize
+    requires { ⌜ length (now out) ≡ room ⌝ }
+    ensures line { λ r. ⌜ take r (now (out .exit)) ≡ sizeLine n ⌝ }
+    ensures near { λ r. ⌜ r ≤ room ⌝ }
+{
+    field_line(b"cube ", n, out)
+}
+
+pub fn progress_line(n: usize, out: &mut [u8]) -> usize
+    requires { ⌜ length (now out) ≡ room ⌝ }
+    ensures line { λ r. ⌜ take r (now (out .exit)) ≡ progressLine n ⌝ }
+    ensures near { λ r. ⌜ r ≤ room ⌝ }
+{
+    field_line(b"tally: cube ", n, out)
+}
+
+fn put_figure(out: &mut [u8], at: usize, figure: u32) -> usize
+    requires { ⌜ at + 40 ≤ length (now out) ⌝ }
+    ensures text { λ r. ⌜ Put (now (out .entry)) at (text " " ++ decimal figure) (now (out .exit)) r ⌝ }
+    ensures near { λ r. ⌜ r ≤ at + 40 ⌝ }
+{
+    put_field(out, at, b" ", figure as usize)
+}
+
+fn put_figures(out: &mut [u8], at: usize, figures: &[u32]) -> usize
+    requires { ⌜ (length (now figures) ≡ 6) × (at + 240 ≤ length (now out)) ⌝ }
+    ensures text { λ r. ⌜ Put (now (out .entry)) at (rowText (now (figures .entry)) 6) (now (out .exit)) r ⌝ }
+    ensures near { λ r. ⌜ r ≤ at + 240 ⌝ }
+{
+    let mut end = at;
+    let mut k: usize = 0;
+    while k < 6 {
+        let figure = figures[k];
+        end = put_figure(out, end, figure);
+        k += 1;
+    }
+    end
+}
+
+pub fn figures_line(faults: usize, figures: &[u32], out: &mut [u8]) -> usize
+    requires { ⌜ (length (now figures) ≡ 6) × (length (now out) ≡ room) ⌝ }
+    ensures line { λ r. ⌜ take r (now (out .exit)) ≡ figuresLine faults (now (figures .entry)) ⌝ }
+    ensures near { λ r. ⌜ r ≤ room ⌝ }
+{
+    let number = put_decimal(out, 0, faults);
+    let end = put_figures(out, number, figures);
+    put_text(out, end, b"\n")
 }
