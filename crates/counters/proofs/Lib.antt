@@ -1,0 +1,4 @@
+pub mod Adding
+pub mod Kinded
+pub mod Outcomes
+pub mod Walking

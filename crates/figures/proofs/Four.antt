@@ -9,7 +9,7 @@ use lib.Dec.{eqb}
 use borrow.Author.Tests.{eq-eqb, eqb-true, ne-eqb}
 use Rattle.cube.specs.Count.{count}
 use Rattle.cube.specs.Cube.{dist}
-use Rattle.cube.proofs.Bools.{clash, either, or-false}
+use Rattle.cube.proofs.Bools.{by-cases, clash, either, or-false}
 use Rattle.cube.proofs.Count.{count-alone, count-bound, count-none, count-pos, count-same}
 use Rattle.rule.specs.Cabinet.{Cabinet, faulty, out}
 use Rattle.walk.specs.declared.Ending.{Ending}
@@ -35,11 +35,11 @@ module _ (w : Walked) (l : ℕ) where
   unfolding isKind
   is-halted e = rw e
 
-  arrived-not : w .ending ≡ ending.Delivered → isKind 3 w l ≡ false
+  pub arrived-not : w .ending ≡ ending.Delivered → isKind 3 w l ≡ false
   unfolding isKind
   arrived-not e = rw e
 
-  delivered-is : (k : ℕ) → w .ending ≡ ending.Delivered → isKind k w l ≡ true → w .hops ≡ l + 2 * k
+  pub delivered-is : (k : ℕ) → w .ending ≡ ending.Delivered → isKind k w l ≡ true → w .hops ≡ l + 2 * k
   unfolding isKind
   delivered-is k e t = go (either (eqb k 3)) (rw e at t)
     where
@@ -47,13 +47,17 @@ module _ (w : Walked) (l : ℕ) where
       go (inl a) t = absurd (clash (rw a at t) refl)
       go (inr a) t = eqb-true (w .hops) (l + 2 * k) (rw a at t)
 
-  halted-is : (k : ℕ) → w .ending ≡ ending.Halted → isKind k w l ≡ true → k ≡ 3
+  pub halted-is : (k : ℕ) → w .ending ≡ ending.Halted → isKind k w l ≡ true → k ≡ 3
   unfolding isKind
   halted-is k e t = go (either (eqb k 3)) (rw e at t)
     where
       go : (eqb k 3 ≡ true) ⊎ (eqb k 3 ≡ false) → cond (eqb k 3) true false ≡ true → k ≡ 3
       go (inl a) _ = eqb-true k 3 a
       go (inr a) t = absurd (clash (rw a at t) refl)
+
+  pub refused-none : (k m : ℕ) → w .ending ≡ ending.Refused m → isKind k w l ≡ false
+  unfolding isKind
+  refused-none k m e = rw e (by-cases (λ b. b ≡ false) (eqb k 3) (λ _. refl) (λ _. refl))
 
   abbrev kind : ℕ → Bool
   kind k = isKind k w l
