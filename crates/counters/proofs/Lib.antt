@@ -2,3 +2,5 @@ pub mod Adding
 pub mod Kinded
 pub mod Outcomes
 pub mod Walking
+pub mod Rows
+pub mod Tabled

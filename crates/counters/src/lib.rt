@@ -96,7 +96,7 @@ fn add_walks(n: usize, faults: &[u8], labels: &[u8], kinds: &mut [u32])
 // Adds what a table comes to, to the counters of its number of faults.
 fn add_figures(n: usize, faults: &[u8], labels: &[u8], row: &mut [u32])
     requires { ⌜ Tallying n (now faults) (now labels) ⌝ }
-    requires { ⌜ Room 6 256 (now row) ⌝ }
+    requires { ⌜ Room 6 512 (now row) ⌝ }
     ensures { λ _. ⌜ now (row .exit) ≡ plus 6 (λ c. figure c (plain n 3 (now (faults .entry)))) (now (row .entry)) ⌝ }
 {
     row[0] = row[0] + 1;
@@ -112,10 +112,10 @@ fn add_figures(n: usize, faults: &[u8], labels: &[u8], row: &mut [u32])
 fn add_table(n: usize, t: usize, labels: &mut [u8], counters: &mut [u32])
     requires { ⌜ (1 ≤ n) × (n ≤ 4) ⌝ }
     requires { ⌜ (t < tables n) × (length (now labels) ≡ labelBytes n) ⌝ }
-    requires { ⌜ Room (countersOf n) 256 (now counters) ⌝ }
+    requires { ⌜ Room (countersOf n) 512 (now counters) ⌝ }
     ensures { λ _. ⌜ now (counters .exit) ≡ plus (countersOf n) (tableAdds n t) (now (counters .entry)) ⌝ }
 {
-    let bytes = [t as u8, (t >> 8) as u8];
+    let bytes = [(t % 256) as u8, (t / 256) as u8];
     let zeros = [0u8; 2];
     let len = table_len(n);
     let faults = &bytes[..len];
