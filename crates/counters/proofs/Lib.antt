@@ -4,3 +4,4 @@ pub mod Outcomes
 pub mod Walking
 pub mod Rows
 pub mod Tabled
+pub mod Whole

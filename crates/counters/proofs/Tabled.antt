@@ -12,10 +12,9 @@ use lib.Pow.{pow-mono}
 use lib.Seq.{length-take-le}
 use borrow.Author.Tests.{eq-eqb, eqb-false, eqb-true, le-leb, leb-false, leb-true, le-ltb, lt-leb, lt-ltb, ltb-false, ltb-true, ne-eqb}
 use Rattle.cube.specs.Count.{count}
-use Rattle.cube.specs.Tables.{emptyTable, labelCount, tab, tableLen}
+use Rattle.cube.specs.Tables.{emptyTable, labelCount, tableLen}
 use Rattle.cube.proofs.Bools.{either, or-left}
 use Rattle.cube.proofs.Count.{count-bound, count-same}
-use Rattle.cube.proofs.Front.{getD-tab, length-tab, tab-cong, tab-zeros}
 use Rattle.cube.proofs.Tables.{len-large, len-small}
 use Rattle.jobs.specs.Jobs.{half, labelBytes}
 use Rattle.rule.specs.Cabinet.{Cabinet, cabinet, faulty, labelsOf, out, outByte, plain}
@@ -24,9 +23,7 @@ use Rattle.labels.specs.Labelling.{labelRefusal, labelsAfter}
 use Rattle.labels.proofs.Refusal.{labels-written, length-kept}
 use Rattle.theorems.specs.Words.{labelAt}
 use Rattle.theorems.proofs.Demand2.{out-label, works}
-use Rattle.figures.specs.Figures.{bytesOf, columns, countersOf, cubeOf, faultsOf, figure, figures, pairs, tableOf, tables, tallyOf, total}
-use Rattle.figures.specs.Sum.{sum}
-use Rattle.figures.proofs.Sum.{sum-bound, sum-next, sum-zero}
+use Rattle.figures.specs.Figures.{bytesOf, columns, countersOf, cubeOf, faultsOf, figure, tableOf, tables}
 use Rattle.figures.proofs.Numbers.{all-tables}
 use Rattle.counters.specs.Helpers.{Room, Tallying, plus, tableAdds}
 use Rattle.counters.proofs.Adding.{inPart, part-room, plus-part, plus-same}
@@ -157,31 +154,3 @@ module _ (n : ℕ) (dim : (1 ≤ n) × (n ≤ 4)) where
             (plus-part (countersOf n) l sized (columns * F) columns line-within (λ c. figure c K) r (rw (six, e) at f)
             ∙ plus-same (countersOf n) _ l (tableAdds n t)
             (λ i _. in-line F (λ c. figure c K) i ∙ ap (λ (k : ℕ). cond (eqb k (i / columns)) (figure (i % columns) K) 0) is-F))
-
--- ---- all tables
-
-module _ (n : ℕ) (dim : (1 ≤ n) × (n ≤ 4)) where
-  -- what the tables below t add to counter i
-  abbrev added : (t i : ℕ) → ℕ
-  added t i = sum t (λ u. tableAdds n u i)
-
-  table-few : (t i : ℕ) → tableAdds n t i ≤ 256
-  table-few t i = ?
-
-  -- the counters after the tables below t
-  pub record Added (t : ℕ) (l : List ℕ) : Type 0 where
-    pub counters : l ≡ tab (countersOf n) (added t)
-    pub upto : t ≤ tables n
-
-  pub none-added : Added 0 (replicate (countersOf n) 0)
-  none-added = record { counters = sym (tab-zeros (countersOf n)) ∙ tab-cong (countersOf n) _ _ (λ i _. sym (sum-zero (λ u. tableAdds n u i))); upto = omega arith }
-
-  pub added-room : (t : ℕ) (l : List ℕ) → Added t l → Room (countersOf n) 512 l
-  added-room t l A = ?
-
-  pub one-added : (t : ℕ) (l r : List ℕ) → Added t l → t < tables n → r ≡ plus (countersOf n) (tableAdds n t) l → Added (t + 1) r
-  one-added t l r A h e = ?
-
-  pub all-added : (t : ℕ) (l : List ℕ) → Added t l → tables n ≤ t → l ≡ tallyOf n
-  unfolding tallyOf total
-  all-added t l A h = let e : t ≡ tables n = omega (arith, A .upto) in A .counters ∙ ap (λ (k : ℕ). tab (countersOf n) (added k)) e
