@@ -6,9 +6,10 @@ use mathlib.Core.Path.{_≡_, refl, sym, _∙_}
 use Prim.Native.Nat.{ℕ, _≤_}
 use lib.Dec.{leb}
 use lib.ListN.{length}
-use borrow.Author.Tests.{eq-eqb, eqb-true, leb-true, ne-eqb, not-false}
+use borrow.Author.Tests.{eq-eqb, eqb-true, le-leb, leb-true, ne-eqb, not-false}
 use Rattle.cube.specs.Refusal.{first, _⇒_}
-use Rattle.cube.proofs.Bools.{and-true}
+use Rattle.cube.proofs.Bools.{and-both, and-true}
+use Rattle.cube.proofs.Front.{length-tab}
 use Rattle.cube.proofs.Refusal.{first-none}
 use Rattle.figures.specs.Figures.{countersOf, tallyOf}
 use Rattle.counters.specs.Tally.{countersAfter, isTallied, tallyRefusal, tallyTests}
@@ -30,12 +31,20 @@ module _ (n m : ℕ) where
   unfolding tallyRefusal first
   nothing-wrong e h = rw (e, eq-eqb m (countersOf n) h)
 
+  pub accepts : (1 ≤ n) × (n ≤ 4) → m ≡ countersOf n → tallyRefusal n m ≡ 0
+  unfolding isTallied
+  accepts d h = sym (nothing-wrong (and-both (le-leb 1 n (d .0)) (le-leb n 4 (d .1))) h)
+
   -- from the number
   pub taken : tallyRefusal n m ≡ 0 → ((1 ≤ n) × (n ≤ 4)) × (m ≡ countersOf n)
   unfolding tallyRefusal
   taken z =
       let t = first-none 2 (tallyTests n m) refl z in
       (tallied-is n (not-false _ (t .0)), eqb-true m (countersOf n) (not-false _ (t .1 .0)))
+
+pub tally-length : (n : ℕ) → length (tallyOf n) ≡ countersOf n
+unfolding tallyOf
+tally-length n = length-tab (countersOf n) _
 
 module _ (n : ℕ) (before : List ℕ) where
   pub counters-kept : tallyRefusal n (length before) ≢ 0 → before ≡ countersAfter n before

@@ -11,7 +11,7 @@ nodes-requires : tie.Need-nodes-requires
 nodes-requires c κs = search needs
 
 few : (c : tie.After-nodes) → c .nodes .result ≤ 16
-few c = omega (arith, c .nodes .ensures, pow-mono {i = c .before .before .before .args .n} {j = 4} (omega arith))
+few c = omega (arith, c .nodes .ensures, pow-mono {i = c .before .before .before .args .n} {j = 4} (c .before .before .before .pre .0 .0 .1))
 
 add-kept : tie.Need-add-kept
 add-kept c = omega (arith, few c)
@@ -30,8 +30,9 @@ slice-aggregate-say-cube c = simp length-take (omega (arith, few (c .before .bef
 
 say-cube-requires : tie.Need-say-cube-requires
 say-cube-requires c κs =
-    let f = few (c .before .before .before .before .before .before) in
-    ((f, simp length-take (omega (arith, f))), search needs)
+    let k = c .before .before .before .before .before .before in
+    let s = k .before .before .before in
+    ((s .pre .0 .0, simp length-take (omega (arith, few k, k .nodes .ensures))), search needs)
 
 same-length : tie.Need-same-length
 same-length c = search needs

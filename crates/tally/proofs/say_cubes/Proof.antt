@@ -8,13 +8,13 @@ use Rattle.tally.proofs.say_cubes.Statement.{statement}
 use Rattle.tally.proofs.say_cubes.Tie as tie
 
 abbrev Inv-loop : tie.InvT-loop
-Inv-loop counters₀ out₀ n₀ counters out n = (n ≤ 5) × (length counters ≡ 102) × (length out ≡ room)
+Inv-loop counters₀ out₀ n₀ counters out n = ((1 ≤ n) × (n ≤ 5)) × (length counters ≡ 102) × (length out ≡ room)
 
 abbrev μ-loop : tie.MeasureT-loop
 μ-loop counters₀ out₀ n₀ counters out n = 5 - n
 
 loop-holds : tie.Need-loop-holds Inv-loop μ-loop
-loop-holds c = (omega arith, omega arith, omega arith)
+loop-holds c = ((omega arith, omega arith), omega arith, omega arith)
 
 next-cube-requires : tie.Need-next-cube-requires Inv-loop μ-loop
 next-cube-requires c κs = omega arith
@@ -26,7 +26,7 @@ loop-less : tie.Need-loop-less Inv-loop μ-loop
 loop-less c = omega arith
 
 loop-again : tie.Need-loop-again Inv-loop μ-loop
-loop-again c = (omega arith, omega arith, omega arith)
+loop-again c = ((omega arith, omega arith), omega arith, omega arith)
 
 same-length : tie.Need-same-length Inv-loop μ-loop
 same-length c = omega (arith, c .before .loop .inv .1)
