@@ -11,7 +11,7 @@
 #   run_proved    words that run a program of target/bin
 #   library_files reads_files listing_files
 #                 the C files of these programs
-#   caller_words  words that give ARCHIVE and LISTING once more as the caller did
+#   caller_words  words that give ARCHIVE, LISTING and TALLY once more as the caller did
 # A variable that the caller has set stays as it is.
 # shellcheck shell=sh disable=SC2034
 . tests/work.sh
@@ -87,7 +87,7 @@ build() { # FILE COMMAND...
     return 1
 }
 
-# The caller's ARCHIVE and LISTING, taken from the folder that the user is in.
+# The caller's ARCHIVE, LISTING and TALLY, taken from the folder that the user is in.
 caller_words=''
 if [ -n "${ARCHIVE:-}" ]; then
     ARCHIVE=$(absolute "$ARCHIVE")
@@ -96,6 +96,10 @@ fi
 if [ -n "${LISTING:-}" ]; then
     LISTING=$(absolute "$LISTING")
     caller_words="${caller_words}LISTING=$(quoted "$LISTING") "
+fi
+if [ -n "${TALLY:-}" ]; then
+    TALLY=$(absolute "$TALLY")
+    caller_words="${caller_words}TALLY=$(quoted "$TALLY") "
 fi
 
 # Sets ARCHIVE to the archive that is tested: the caller's, or that of target/, which
@@ -135,4 +139,13 @@ find_listing() {
         build "$LISTING" rt check listing || give_up "$LISTING could not be built"
     fi
     [ -f "$LISTING" ] || give_up "LISTING is no file: $LISTING"
+}
+
+# The same for TALLY, the tally program.
+find_tally() {
+    if [ -z "${TALLY:-}" ]; then
+        TALLY=target/bin/tally
+        build "$TALLY" rt check tally || give_up "$TALLY could not be built"
+    fi
+    [ -f "$TALLY" ] || give_up "TALLY is no file: $TALLY"
 }
