@@ -11,9 +11,11 @@ import listing
 from shapes import FAULTY, NAMES, places, radius, shape
 from walks import Walks
 
-STYLE = '''
+PAPER = '''
   .paper { fill: #ffffff; stroke: #ccd1d7 }
   text { font-family: Verdana, "DejaVu Sans", sans-serif; fill: #1b1f24 }
+'''
+STYLE = '''\
   .edge { stroke: #a4acb5; stroke-width: 1.6 }
   .long { stroke: #d0d6dc; stroke-width: 1.4 }
   .dead { stroke-dasharray: 2 5 }
@@ -36,6 +38,8 @@ STYLE = '''
   .fill-a { fill: #0057a8 }
   .fill-b { fill: #8a1a8a }
   .fill-c { fill: #7a4b00 }
+'''
+WORDS = '''\
   .head { font-size: 17px; font-weight: bold }
   .said { font-size: 13.5px }
   .note { font-size: 12px; fill: #4a525c }
@@ -71,6 +75,18 @@ def nodes(cube, at):
     yield '</g>'
 
 
+def sheet(width, height, title, lines, style, parts):
+    """The lines of an SVG of this size: what it shows, the lines that it is drawn from, and its parts on paper."""
+    yield f'<svg xmlns="http://www.w3.org/2000/svg" width="{width}" height="{height}" viewBox="0 0 {width} {height}" role="img">'
+    yield f'<title>{escape(title)}</title>'
+    yield '<desc>' + escape('\n'.join(lines)) + '</desc>'
+    yield f'<style>{PAPER}{style}{WORDS}</style>'
+    yield f'<rect class="paper" width="{width}" height="{height}"/>'
+    for part in parts:
+        yield from part
+    yield '</svg>'
+
+
 def picture(cube):
     """The lines of the SVG: the cube on the left, in the middle of the height, and the legend beside it."""
     at, width, height = places(cube.n)
@@ -78,24 +94,16 @@ def picture(cube):
     whole, tall = width + legend.WIDTH, max(height, words.y)
     at = [(x, y + (tall - height) // 2) for x, y in at]
     walks = Walks(cube, at)
-    yield f'<svg xmlns="http://www.w3.org/2000/svg" width="{whole}" height="{tall}" viewBox="0 0 {whole} {tall}" role="img">'
-    yield f'<title>{escape(legend.summary(cube))}</title>'
-    yield '<desc>' + escape('\n'.join(cube.lines)) + '</desc>'
-    yield f'<style>{STYLE}</style>'
-    yield f'<rect class="paper" width="{whole}" height="{tall}"/>'
-    for part in (edges(cube, at), walks.arrows(), nodes(cube, at), walks.badges(), walks.tags()):
-        yield from part
-    yield '<g class="legend">'
-    yield from words.lines
-    yield '</g>'
-    yield '</svg>'
+    parts = (edges(cube, at), walks.arrows(), nodes(cube, at), walks.badges(), walks.tags(), ['<g class="legend">', *words.lines, '</g>'])
+    return sheet(whole, tall, legend.summary(cube), cube.lines, STYLE, parts)
 
 
-def main():
+def draw(drawn):
+    """Writes what is drawn of the lines on standard input; the exit status."""
     try:
         lines = sys.stdin.buffer.read().decode('ascii', 'replace').splitlines()
-        drawn = '\n'.join(picture(listing.read(lines))) + '\n'
-        sys.stdout.write(drawn.encode('ascii', 'xmlcharrefreplace').decode('ascii'))
+        text = '\n'.join(drawn(lines)) + '\n'
+        sys.stdout.write(text.encode('ascii', 'xmlcharrefreplace').decode('ascii'))
         sys.stdout.flush()
     except listing.Refused as why:
         print(f'draw: {why}', file=sys.stderr)
@@ -108,4 +116,4 @@ def main():
 
 
 if __name__ == '__main__':
-    sys.exit(main())
+    sys.exit(draw(lambda lines: picture(listing.read(lines))))
