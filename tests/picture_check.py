@@ -11,7 +11,7 @@ import xml.etree.ElementTree as ET
 
 SVG = '{http://www.w3.org/2000/svg}'
 NAMES = ['safe', 'ordinary', 'strong', 'faulty']
-SIZES = {'number': 17, 'bits': 9.5, 'hop': 12.5, 'tag': 12.5, 'head': 17, 'said': 13.5, 'note': 12, 'alarm': 13.5}
+SIZES = {'number': 17, 'bits': 9.5, 'hop': 12.5, 'tag': 12.5, 'head': 17, 'said': 13.5, 'note': 12, 'alarm': 13.5, 'share': 12.5, 'aside': 11}
 UP, DOWN = '\u2191\u2193'
 REASONS = {'5': 'there is no such node', '6': 'the source is faulty', '7': 'the destination is faulty', '16': 'it needs a network that the board lacks'}
 wrong = []
@@ -148,7 +148,7 @@ def boxes(root):
         kind = text.get('class')
         size = 13 if small and kind == 'number' else SIZES[kind]
         width, x, y = 0.58 * size * len(text.text), number(text, 'x'), number(text, 'y')
-        left = x if kind in ('head', 'said', 'note', 'alarm') else x - width / 2
+        left = x if kind in ('head', 'said', 'note', 'alarm') else x - width if kind in ('share', 'aside') else x - width / 2
         yield text.text, (left, y - 0.75 * size, left + width, y)
 
 
@@ -164,25 +164,36 @@ def check_space(root, crowded):
             expect(left >= c or right <= a or top >= d or bottom <= b, f'"{text}" runs into "{other}"')
 
 
-def main(picture, labels, listing):
-    with open(picture, encoding='utf-8') as file:
+def open_picture(name):
+    """Its root: on paper of its own, and without any other file."""
+    with open(name, encoding='utf-8') as file:
         source = file.read()
     root = ET.fromstring(source)
-    labels = [int(digit) for digit in open(labels).read()]
-    lines = open(listing).read().splitlines()
-    n = len(labels).bit_length() - 1
     paper = next(element for element in root if element.tag == SVG + 'rect')
     expect(paper.get('class') == 'paper' and paper.get('width') == root.get('width') and paper.get('height') == root.get('height'),
            'the background is not painted')
     expect('href' not in source and 'url(' not in source and source.count('http') == 1, 'it needs another file')
+    return root
+
+
+def verdict():
+    """Says what is wrong; the exit status."""
+    for what in wrong:
+        print(f'  {what}')
+    return 1 if wrong else 0
+
+
+def main(picture, labels, listing):
+    root = open_picture(picture)
+    labels = [int(digit) for digit in open(labels).read()]
+    lines = open(listing).read().splitlines()
+    n = len(labels).bit_length() - 1
     at = check_nodes(root, labels)
     check_edges(root, n, at, labels)
     check_walks(root, at, lines)
     check_words(root, lines)
     check_space(root, len(lines) > 2)
-    for what in wrong:
-        print(f'  {what}')
-    return 1 if wrong else 0
+    return verdict()
 
 
 if __name__ == '__main__':
