@@ -36,7 +36,7 @@ static int by_size(const void *a, const void *b)
     return (x > y) - (x < y);
 }
 
-static double median(double *times)
+double median(double *times)
 {
     qsort(times, repetitions, sizeof *times, by_size);
     return times[repetitions / 2];

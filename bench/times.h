@@ -15,6 +15,9 @@ typedef uint32_t asked(int side);
 #define MOST_REPETITIONS 201
 void set_repetitions(unsigned count);
 
+/* The middle one of as many times as there are repetitions, which it sorts. */
+double median(double *times);
+
 /* Runs the three sides in turn and prints the median of the archive's
  * nanoseconds, a question being per_call calls, and their ratio to plain C. */
 void measure(asked *question, unsigned per_call);
