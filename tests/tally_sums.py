@@ -52,7 +52,9 @@ def check_cube(n, lines):
 
 
 def main():
-    cubes = figures_of(sys.stdin.read().splitlines())
+    text = sys.stdin.read()
+    cubes = figures_of(text.splitlines())
+    expect(text.endswith('\n'), 'the last line has no end')
     expect(list(cubes) == list(CUBES), f'cubes {list(cubes)}')
     for n, lines in cubes.items():
         check_cube(n, lines)
