@@ -5,3 +5,4 @@ pub mod Walking
 pub mod Rows
 pub mod Tabled
 pub mod Whole
+pub mod Functions

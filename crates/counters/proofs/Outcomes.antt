@@ -1,14 +1,14 @@
 -- What `tally` answers and leaves, by the tests in their order: a refusal leaves the counters as they were, and where nothing is refused they are the tally.
 use mathlib.Core.Bool.{true, false}
 use mathlib.Core.List.{List, [], _∷_}
-use mathlib.Core.Logic.{_≢_}
-use mathlib.Core.Path.{_≡_, refl, sym, _∙_}
+use mathlib.Core.Logic.{_⊎_, inl, inr, _≢_}
+use mathlib.Core.Path.{_≡_, refl, sym, ap, _∙_}
 use Prim.Native.Nat.{ℕ, _≤_}
-use lib.Dec.{leb}
+use lib.Dec.{eqb, leb}
 use lib.ListN.{length}
-use borrow.Author.Tests.{eq-eqb, eqb-true, le-leb, leb-true, ne-eqb, not-false}
+use borrow.Author.Tests.{eq-eqb, eqb-false, eqb-true, le-leb, leb-true, ne-eqb, not-false}
 use Rattle.cube.specs.Refusal.{first, _⇒_}
-use Rattle.cube.proofs.Bools.{and-both, and-true}
+use Rattle.cube.proofs.Bools.{and-both, and-true, either}
 use Rattle.cube.proofs.Front.{length-tab}
 use Rattle.cube.proofs.Refusal.{first-none}
 use Rattle.figures.specs.Figures.{countersOf, tallyOf}
@@ -54,3 +54,13 @@ module _ (n : ℕ) (before : List ℕ) where
   pub counters-made : tallyRefusal n (length before) ≡ 0 → tallyOf n ≡ countersAfter n before
   unfolding countersAfter
   counters-made e = rw e
+
+  -- either way they are as many as they were
+  pub counters-long : length (countersAfter n before) ≡ length before
+  counters-long = go (either (eqb (tallyRefusal n (length before)) 0))
+    where
+      go : (eqb (tallyRefusal n (length before)) 0 ≡ true) ⊎ (eqb (tallyRefusal n (length before)) 0 ≡ false) → length (countersAfter n before) ≡ length before
+      go (inl e) =
+          let z = eqb-true (tallyRefusal n (length before)) 0 e in
+          ap length (sym (counters-made z)) ∙ tally-length n ∙ sym (taken n (length before) z .1)
+      go (inr e) = ap length (sym (counters-kept (eqb-false (tallyRefusal n (length before)) 0 e)))

@@ -74,19 +74,23 @@ module _ (w : Walked) (l : ℕ) where
   one-kind ending.Halted e even never = just 3 (omega arith) (is-halted e) (λ k t. halted-is k e t)
   one-kind (ending.Refused k) e even never = absurd (never k e)
 
+-- a node that works takes frames
+takes : (K : Cabinet) (d : ℕ) → Works K d → Takes K d
+takes K d h = (h .0, or-false _ _ (h .1) .0)
+
+-- for either job
+pub of-four : (K : Cabinet) (j : ℕ) → Accepted K j → (s d : ℕ) → Works K s → Works K d → count 4 (λ k. isKind k (walkOf K j s d) (dist s d)) ≡ 1
+of-four K j ok s d hs hd =
+    let W = demand3 K j ok s d hs (takes K d hd) in
+    one-kind (walkOf K j s d) (dist s d) (walkOf K j s d .ending) refl
+    (λ e. let (a, few, f) = W .even e in (a, omega (arith, few, works K s (hs .0) (hs .1)), f)) (W .never-refused)
+
 module _ (K : Cabinet) (ok : Accepted K 0) where
   abbrev size : ℕ
   size = 2 ^ K .n
 
-  -- a node that works takes frames
-  takes : (d : ℕ) → Works K d → Takes K d
-  takes d h = (h .0, or-false _ _ (h .1) .0)
-
   pub one-of-four : (s d : ℕ) → Works K s → Works K d → OneKind K s d
-  one-of-four s d hs hd =
-      let W = demand3 K 0 ok s d hs (takes d hd) in
-      one-kind (walkOf K 0 s d) (dist s d) (walkOf K 0 s d .ending) refl
-      (λ e. let (a, few, f) = W .even e in (a, omega (arith, few, works K s (hs .0) (hs .1)), f)) (W .never-refused)
+  one-of-four = of-four K 0 ok
 
   -- ---- all walks of the table
 
@@ -123,7 +127,7 @@ module _ (K : Cabinet) (ok : Accepted K 0) where
     where
       to : (s : ℕ) → Works K s → (d : ℕ) → d < size → (out K d ≡ true) ⊎ (out K d ≡ false) → (works-at d && goes K 3 s d) ≡ false
       to s hs d h (inl e) = rw e refl
-      to s hs d h (inr e) = rw e (arrived-not (walkOf K 0 s d) (dist s d) (demand3 K 0 ok s d hs (takes d (h, e)) .arrives safe .ending))
+      to s hs d h (inr e) = rw e (arrived-not (walkOf K 0 s d) (dist s d) (demand3 K 0 ok s d hs (takes K d (h, e)) .arrives safe .ending))
 
       from : (s : ℕ) → s < size → (out K s ≡ true) ⊎ (out K s ≡ false) → cond (out K s) 0 (count size (λ d. works-at d && goes K 3 s d)) ≡ 0
       from s h (inl e) = rw e refl

@@ -16,7 +16,7 @@ use Rattle.scans.specs.Scans.{firstScan, lowest, suits, takes}
 use Rattle.walk.specs.Walk.{hops, last, onto, refused, row, spot, stops, turn, walkFrom, walkRefusal, walked}
 use Rattle.figures.specs.Figures.{bytesOf, cubeOf, figures, goes, isKind, pairs, tableOf, tallyOf, total}
 use Rattle.figures.specs.Sum.{sum}
-use Rattle.figures.specs.Worked.{Worked}
+use Rattle.figures.specs.Worked.{WorkedFigures}
 
 cube-1 : tallyOf 1 ≡ 1 ∷ 0 ∷ 4 ∷ 0 ∷ 0 ∷ 0 ∷ 2 ∷ 0 ∷ 2 ∷ 0 ∷ 0 ∷ 0 ∷ 1 ∷ 1 ∷ 0 ∷ 0 ∷ 0 ∷ 0 ∷ []
 unfolding tallyOf total figures pairs sum isKind bytesOf tableLen walked walkRefusal walkFrom refused first row last hops turn spot stops onto hop decide answer
@@ -24,7 +24,7 @@ unfolding tallyOf total figures pairs sum isKind bytesOf tableLen walked walkRef
     count least bit flip nodeBit tab
 cube-1 = refl
 
-pub worked : Worked
+pub worked-figures : WorkedFigures
 unfolding bytesOf tableLen isKind walked walkRefusal walkFrom refused first row last hops turn spot stops onto hop decide answer firstScan lowest takes suits
     apart dist ones labelIn labelsOf label labelOf safe rounds working quiet newly meets marked isDimension isJob labelBytes some count least bit flip nodeBit tab
-worked = record { cube-1 = cube-1; k4 = refl; none-extra = refl; two-extra = refl; four-extra = refl; halts = refl }
+worked-figures = record { cube-1 = cube-1; k4 = refl; none-extra = refl; two-extra = refl; four-extra = refl; halts = refl }

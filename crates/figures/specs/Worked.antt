@@ -5,7 +5,7 @@ use mathlib.Core.Path.{_≡_}
 use Prim.Native.Nat.{ℕ}
 use Rattle.figures.specs.Figures.{cubeOf, goes, tableOf, tallyOf}
 
-pub record Worked : Type 0 where
+pub record WorkedFigures : Type 0 where
   -- "0 1 0 4 0 0 0", "1 2 0 2 0 0 0", "2 1 1 0 0 0 0"
   pub cube-1 :
       tallyOf 1 ≡ 1 ∷ 0 ∷ 4 ∷ 0 ∷ 0 ∷ 0 ∷ 2 ∷ 0 ∷ 2 ∷ 0 ∷ 0 ∷ 0 ∷ 1 ∷ 1 ∷ 0 ∷ 0 ∷ 0 ∷ 0 ∷ []

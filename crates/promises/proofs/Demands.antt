@@ -98,7 +98,7 @@ module _ (lib : Library) (F : Faithful lib) where
       )
 
   -- a walk with the labels that labelling left is the cabinet's
-  is-walk : {K : Cabinet} {j exchanges s d : ℕ} {before buffer : List ℕ} {w : Walked} → lib .labels K j before (labelled.Exchanges exchanges) buffer
+  pub is-walk : {K : Cabinet} {j exchanges s d : ℕ} {before buffer : List ℕ} {w : Walked} → lib .labels K j before (labelled.Exchanges exchanges) buffer
       → lib .walks (K .n) j s d buffer W.rowBytes w → w ≡ walkOf K j s d
   is-walk {K} {j} {exchanges} {s} {d} m v =
       F .walks v

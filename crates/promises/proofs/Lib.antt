@@ -25,6 +25,7 @@ pub mod NetworkAnswers
 pub mod Answers
 pub mod Waiting
 pub mod Networks
+pub mod Tallies
 pub mod Tied
 pub mod Seen
 pub mod Settled

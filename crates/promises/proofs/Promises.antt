@@ -38,6 +38,9 @@ use Rattle.theorems.proofs.Crossings.{more-networks, walk-crosses}
 use Rattle.theorems.proofs.Networks.{five-deliver, hops-rise}
 use Rattle.theorems.proofs.Repeats.{walk-repeats}
 use Rattle.theorems.proofs.TwoRules.{two-rules}
+use Rattle.figures.proofs.Laws.{sums}
+use Rattle.figures.proofs.Numbers.{all-tables}
+use Rattle.figures.proofs.Worked.{worked-figures}
 use Rattle.hcube.proofs.Decoded.{decodes}
 use Rattle.promises.specs.Promises.{Promises}
 use Rattle.promises.proofs.Answers.{c-answers, rattle-answers}
@@ -54,6 +57,7 @@ use Rattle.promises.proofs.Worked.{worked}
 use Rattle.promises.proofs.Writes.{c-writes, rattle-writes}
 use Rattle.promises.proofs.Lists.{c-lists, rattle-lists}
 use Rattle.promises.proofs.Repairs.{c-repairs, rattle-repairs}
+use Rattle.promises.proofs.Tallies.{c-kinds, rattle-kinds, tallies}
 use Rattle.promises.proofs.Networks.{c-networks, rattle-networks}
 use Rattle.promises.proofs.NetworkRefusals.{network-refusals}
 
@@ -81,6 +85,9 @@ promises =
       c-repairs = c-repairs;
       rattle-networks = rattle-networks;
       c-networks = c-networks;
+      tallies = tallies;
+      rattle-kinds = rattle-kinds;
+      c-kinds = c-kinds;
       in-c = in-c;
       in-rattle = in-rattle;
       decodes = decodes;
@@ -108,6 +115,8 @@ promises =
       more-networks = more-networks;
       hops-rise = hops-rise;
       five-deliver = five-deliver;
+      all-tables = all-tables;
+      sums = sums;
       refusals = refusals;
       network-refusals = network-refusals;
       nodes = nodes;
@@ -132,4 +141,5 @@ promises =
       message = message-laws;
       worked = worked;
       worked-blocks = worked-blocks;
+      worked-figures = worked-figures;
     }

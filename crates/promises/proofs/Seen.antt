@@ -28,6 +28,7 @@ as-seen =
       list-reader-read = λ κs r. refl;
       list-writer-write = λ κs r. refl;
       repair-repair = λ κs r. refl;
+      counters-tally = λ κs r. refl;
       hcube-label-left = λ κs r. refl;
       hcube-walk-left = λ κs r. refl;
       hcube-why-node-left = λ κs r. refl;
@@ -49,4 +50,5 @@ as-seen =
       hcube-walk-networks-left = λ κs r. refl;
       walk-networks-walk-networks-left = λ κs r. refl;
       repair-repair-left = λ κs r. refl;
+      counters-tally-left = λ κs r. refl;
     }

@@ -16,6 +16,7 @@ use Rattle.writer.proofs.Functions as writer
 use Rattle.list_reader.proofs.Functions as list_reader
 use Rattle.list_writer.proofs.Functions as list_writer
 use Rattle.repair.proofs.Functions as repair
+use Rattle.counters.proofs.Functions as counters
 use Rattle.hcube.proofs.Functions as hcube
 use Rattle.promises.specs.Settled.{Settled, Unasked}
 
@@ -62,6 +63,7 @@ settled =
       list-reader-read = settles list_reader.read-says;
       list-writer-write = settles list_writer.write-says;
       repair-repair = settles repair.repair-says;
+      counters-tally = settles counters.tally-says;
       notice-tail = settles notice.tail-says;
       notice-clear = settles notice.clear-says;
       groups-number-at = settles groups.number-at-says;
@@ -125,6 +127,7 @@ unasked =
       list-reader-read = list_reader.read-asks;
       list-writer-write = list_writer.write-asks;
       repair-repair = repair.repair-asks;
+      counters-tally = counters.tally-asks;
       notice-tail = notice.tail-asks;
       notice-clear = notice.clear-asks;
       groups-number-at = groups.number-at-asks;

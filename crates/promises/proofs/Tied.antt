@@ -61,6 +61,7 @@ all-tied =
       list-reader-read = record { clauses = λ w. refl; asked = refl; post = refl };
       list-writer-write = record { clauses = λ w. refl; asked = refl; post = refl };
       repair-repair = record { clauses = λ w. refl; asked = refl; post = refl };
+      counters-tally = record { clauses = λ w. refl; asked = refl; post = refl };
       notice-clear = record { clauses = λ w. refl; asked = refl; post = refl };
       notice-set-bit = record { clauses = λ w. refl; asked = refl; post = refl };
       notice-tail = record { clauses = λ w. refl; asked = refl; post = refl };
@@ -111,4 +112,5 @@ in-order =
       list-reader-read = λ κs a. refl;
       list-writer-write = λ κs a. refl;
       repair-repair = λ κs a. refl;
+      counters-tally = λ κs a. refl;
     }

@@ -16,6 +16,7 @@ use Rattle.writer.proofs.Functions as writer
 use Rattle.list_reader.proofs.Functions as list_reader
 use Rattle.list_writer.proofs.Functions as list_writer
 use Rattle.repair.proofs.Functions as repair
+use Rattle.counters.proofs.Functions as counters
 use Rattle.hcube.proofs.Functions as hcube
 
 -- f is seen to be handed this of its parameters
@@ -86,3 +87,4 @@ pub record InOrder : Type 0 where
   pub list-reader-read : Handed list_reader.read (λ κs a. (a .0, now (a .1 .0), now (a .1 .1 .0)))
   pub list-writer-write : Handed list_writer.write (λ κs a. (a .0, now (a .1 .0), now (a .1 .1 .0)))
   pub repair-repair : Handed repair.repair (λ κs a. (a .0, now (a .1 .0), now (a .1 .1 .0), now (a .1 .1 .1 .0), now (a .1 .1 .1 .1 .0)))
+  pub counters-tally : Handed counters.tally (λ κs a. (a .0, now (a .1 .0)))

@@ -8,6 +8,7 @@ pub mod Writes
 pub mod Lists
 pub mod Repairs
 pub mod Networks
+pub mod Tallies
 pub mod InC
 pub mod InRattle
 pub mod Answers

@@ -1,6 +1,6 @@
 -- All that is promised of the library, in one record: if this is proved, each statement that it names is.
 use mathlib.Core.Bool.{Bool}
-use Prim.Native.Nat.{ℕ, _^_, _<_}
+use Prim.Native.Nat.{ℕ, _^_, _≤_, _<_}
 use Rattle.cube.specs.Laws.{CubeLaws}
 use Rattle.jobs.specs.Laws.{JobLaws}
 use Rattle.groups.specs.Laws.{NumberLaws}
@@ -41,6 +41,8 @@ use Rattle.theorems.specs.Picked.{HopPicked}
 use Rattle.theorems.specs.Repeats.{WalkRepeats}
 use Rattle.theorems.specs.TwoRules.{TwoRules}
 use Rattle.theorems.specs.Words.{Accepted, labelAt}
+use Rattle.figures.specs.Laws.{AllTables, Sums}
+use Rattle.figures.specs.Worked.{WorkedFigures}
 use Rattle.hcube.specs.Decoded.{Decodes}
 use Rattle.promises.specs.Answers.{Answers}
 use Rattle.promises.specs.Demands.{Demands}
@@ -58,6 +60,7 @@ use Rattle.promises.specs.Worked.{Worked}
 use Rattle.promises.specs.Writes.{Writes}
 use Rattle.promises.specs.Lists.{Lists}
 use Rattle.promises.specs.Repairs.{Repairs}
+use Rattle.promises.specs.Tallies.{FourKinds, Tallies}
 use Rattle.promises.specs.Networks.{Networks}
 use Rattle.promises.specs.NetworkRefusals.{NetworkRefusals}
 
@@ -91,6 +94,10 @@ pub record Promises : Type 2 where
   -- walks by networks
   pub rattle-networks : Networks library.rattle
   pub c-networks : Networks library.c
+  -- the tally of whole cubes
+  pub tallies : Tallies
+  pub rattle-kinds : FourKinds library.rattle
+  pub c-kinds : FourKinds library.c
   -- what C and a caller in Rattle have in hand
   pub in-c : InC
   pub in-rattle : InRattle
@@ -121,6 +128,9 @@ pub record Promises : Type 2 where
   pub more-networks : MoreNetworks
   pub hops-rise : HopsRise
   pub five-deliver : FiveDeliver
+  -- the tally's figures, of the definitions
+  pub all-tables : (n : ℕ) → (1 ≤ n) × (n ≤ 12) → AllTables n
+  pub sums : (n : ℕ) → (1 ≤ n) × (n ≤ 12) → Sums n
   -- the words of RULES, section by section
   pub refusals : Refusals
   pub network-refusals : NetworkRefusals
@@ -146,3 +156,4 @@ pub record Promises : Type 2 where
   pub message : MessageLaws
   pub worked : Worked
   pub worked-blocks : WorkedBlocks
+  pub worked-figures : WorkedFigures

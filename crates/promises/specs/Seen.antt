@@ -17,6 +17,7 @@ use Rattle.writer.proofs.Functions as writer
 use Rattle.list_reader.proofs.Functions as list_reader
 use Rattle.list_writer.proofs.Functions as list_writer
 use Rattle.repair.proofs.Functions as repair
+use Rattle.counters.proofs.Functions as counters
 use Rattle.hcube.proofs.Functions as hcube
 
 module _ {T : Ended} {A X B : Type 0} (f : Function T A X B) where
@@ -53,10 +54,11 @@ pub record AsSeen : Type 0 where
   pub list-reader-read : Answered list_reader.read (λ κs r. r)
   pub list-writer-write : Answered list_writer.write (λ κs r. r)
   pub repair-repair : Answered repair.repair (λ κs r. r)
+  pub counters-tally : Answered counters.tally (λ κs r. r)
   pub hop-networks-hop-networks : Answered hop_networks.hop-networks (λ κs r. r)
   pub walk-networks-walk-networks : Answered walk_networks.walk-networks (λ κs r. r)
   -- and what is left: the label buffer, the row, the fault table, the buffer for a notice or a list text, the result and the row of a
-  -- repair, the hop list
+  -- repair, the tally's counters, the hop list
   pub hcube-label-left : Leaves hcube.label (λ κs e. now (e .1 .1 .1 .1 .1 .1 .0))
   pub hcube-walk-left : Leaves hcube.walk (λ κs e. now (e .1 .1 .1 .1 .1 .0))
   pub hcube-why-node-left : Leaves hcube.why-node (λ κs e. now (e .1 .1 .1 .1 .1 .1 .1 .0))
@@ -72,5 +74,6 @@ pub record AsSeen : Type 0 where
   pub list-reader-read-left : Leaves list_reader.read (λ κs e. now (e .1 .1 .0))
   pub list-writer-write-left : Leaves list_writer.write (λ κs e. now (e .1 .1 .0))
   pub repair-repair-left : Leaves repair.repair (λ κs e. (now (e .1 .1 .1 .0), now (e .1 .1 .1 .1 .0)))
+  pub counters-tally-left : Leaves counters.tally (λ κs e. now (e .1 .0))
   pub hcube-walk-networks-left : Leaves hcube.walk-networks (λ κs e. now (e .1 .1 .1 .1 .1 .1 .0))
   pub walk-networks-walk-networks-left : Leaves walk_networks.walk-networks (λ κs e. now (e .1 .1 .1 .1 .1 .1 .0))

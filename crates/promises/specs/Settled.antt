@@ -17,6 +17,7 @@ use Rattle.writer.proofs.Functions as writer
 use Rattle.list_reader.proofs.Functions as list_reader
 use Rattle.list_writer.proofs.Functions as list_writer
 use Rattle.repair.proofs.Functions as repair
+use Rattle.counters.proofs.Functions as counters
 use Rattle.hcube.proofs.Functions as hcube
 
 pub record Settled : Type 0 where
@@ -54,6 +55,7 @@ pub record Settled : Type 0 where
   pub list-reader-read : Settles list_reader.read
   pub list-writer-write : Settles list_writer.write
   pub repair-repair : Settles repair.repair
+  pub counters-tally : Settles counters.tally
   -- the returned part: its bytes, and its place in the caller's memory. (The ghost name that the logic gives a reference is not settled: no
   -- program can see it.)
   pub notice-tail : Settles notice.tail
@@ -125,6 +127,7 @@ pub record Unasked : Type 2 where
   pub list-reader-read : AsksNothing list_reader.read
   pub list-writer-write : AsksNothing list_writer.write
   pub repair-repair : AsksNothing repair.repair
+  pub counters-tally : AsksNothing counters.tally
   pub notice-tail : AsksNothing notice.tail
   pub notice-clear : AsksNothing notice.clear
   pub groups-number-at : AsksNothing groups.number-at

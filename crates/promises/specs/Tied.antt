@@ -67,6 +67,8 @@ use Rattle.list_writer.proofs.Functions as list_writer
 use Rattle.list_writer.proofs.write as list-writer-write
 use Rattle.repair.proofs.Functions as repair
 use Rattle.repair.proofs.repair as repair-repair
+use Rattle.counters.proofs.Functions as counters
+use Rattle.counters.proofs.tally as counters-tally
 use Rattle.hcube.proofs.Functions as hcube
 use Rattle.hcube.proofs.hcube_hop as hcube-hop
 use Rattle.hcube.proofs.hcube_label as hcube-label
@@ -195,6 +197,9 @@ pub record AllTied : Type 2 where
   pub repair-repair :
       Tied repair.repair (λ w. repair-repair.clauses (w .𝓤) (w .H) (w .𝓖 .A) (w .𝓜 .mem) (w .𝓡 .run))
       repair-repair.Reads.Asked repair-repair.Reads.Post
+  pub counters-tally :
+      Tied counters.tally (λ w. counters-tally.clauses (w .𝓤) (w .H) (w .𝓖 .A) (w .𝓜 .mem) (w .𝓡 .run))
+      counters-tally.Reads.Asked counters-tally.Reads.Post
   pub notice-tail :
       Tied notice.tail (λ w. notice-tail.clauses (w .𝓤) (w .H) (w .𝓖 .A) (w .𝓜 .mem) (w .𝓡 .run))
       notice-tail.Reads.Asked notice-tail.Reads.Post
