@@ -42,6 +42,7 @@ work_folder() {
         trap "end_by $signal" "$signal"
     done
     work=$(mktemp -d) || exit 2
+    chmod 711 "$work" || exit 2 # `rt check` of root runs a program as nobody, from there
     export TMPDIR="$work"
 }
 

@@ -57,7 +57,7 @@ module _ (n : ℕ) (A : AllTables n) where
   working-count : (t : ℕ) → count size (λ x. not (out (K t) x)) ≡ size - faultsOf (K t)
   working-count t =
       let same = count-same size (λ x. not (out (K t) x)) (λ x. not (faulty (K t) x))
-          (λ x _. ap not (plain-out n 3 (tableOf n t) x ∙ sym (plain-faulty n 3 (tableOf n t) x))) in
+      (λ x _. ap not (plain-out n 3 (tableOf n t) x ∙ sym (plain-faulty n 3 (tableOf n t) x))) in
       omega (arith, same, count-not size (faulty (K t)))
 
   -- all walks of the tables with m faults

@@ -1,4 +1,4 @@
--- The lines of the listing program (RULES, The listing program) and of the tally.
+-- The lines of the listing program (RULES, The listing program) and of the tally (RULES, The tally).
 use mathlib.Core.List.{List, [], _++_}
 use Prim.Native.Nat.{ℕ, zero, suc, _+_}
 use lib.ListN.{getD}

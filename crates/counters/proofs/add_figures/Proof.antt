@@ -65,7 +65,6 @@ add-walks-requires c κs =
     let s = c .before .before .before .before .before .before .before .before in
     (s .pre .0, walks-room _ _ _ (s .pre .0) _ (s .pre .1) _ (made (c .before)))
 
-
 returns : tie.Need-returns
 returns c =
     let s = c .before .before .before .before .before .before .before .before .before .before .before in

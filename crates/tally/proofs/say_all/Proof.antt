@@ -55,7 +55,7 @@ part-say-figures-end : tie.Need-part-say-figures-end Inv-loop μ-loop
 part-say-figures-end c = within c
 
 say-figures-requires : tie.Need-say-figures-requires Inv-loop μ-loop
-say-figures-requires c κs = 
+say-figures-requires c κs =
     let l = c .before .before in
     let at = 6 * l .before .loop .faults in
     let rest = drop at (l .before .before .before .before .before .args .counters .now) in
