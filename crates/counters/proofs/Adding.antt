@@ -1,15 +1,14 @@
 -- Numbers that are added to counters: nothing, one after another, to one counter alone, and from a place on.
-use mathlib.Core.Bool.{Bool, true, false, cond, _&&_}
+use mathlib.Core.Bool.{true, false, cond, _&&_}
 use mathlib.Core.List.{List, _++_}
 use mathlib.Core.Logic.{_⊎_, inl, inr}
-use mathlib.Core.Path.{_≡_, refl, sym, ap, subst, _∙_}
+use mathlib.Core.Path.{_≡_, sym, ap, subst, _∙_}
 use Prim.Native.Nat.{ℕ, _+_, _-_, _^_, _≤_, _<_}
 use native.Mathlib.Omega.{arith}
 use lib.Dec.{eqb, leb, ltb}
 use lib.ListN.{drop, getD, length, length-append, length-drop, length-set, set, take, List·getD-append, List·getD-eq-default}
 use lib.Seq.{ext-getD, getD-append-add, getD-drop, getD-set-other, getD-set-same, getD-take, length-take-le}
-use borrow.Author.Tests.{eqb-false, eqb-true, le-leb, le-ltb, lt-leb, lt-ltb, ltb-false, ltb-true}
-use Rattle.cube.specs.Tables.{tab}
+use borrow.Author.Tests.{eqb-false, eqb-true, le-leb, lt-leb, ltb-false, ltb-true}
 use Rattle.cube.proofs.Bools.{either}
 use Rattle.cube.proofs.Front.{getD-tab, length-tab, tab-cong}
 use Rattle.counters.specs.Helpers.{Room, plus}

@@ -1,19 +1,19 @@
 -- The kind of a walk that has just one: what its ending and its hops say of it, and that its counter is the only one of the four that it raises.
-use mathlib.Core.Bool.{Bool, true, false, cond}
+use mathlib.Core.Bool.{Bool, true, false}
 use mathlib.Core.Logic.{_⊎_, inl, inr, _≢_}
-use mathlib.Core.Path.{_≡_, refl, sym, ap, _∙_}
+use mathlib.Core.Path.{_≡_, sym, ap, _∙_}
 use Prim.Native.Nat.{ℕ, _+_, _-_, _*_, _%_, _≤_, _<_}
 use native.Mathlib.Omega.{arith}
 use lib.Dec.{eqb}
-use borrow.Author.Tests.{eq-eqb, eqb-true, ne-eqb}
+use borrow.Author.Tests.{eq-eqb, eqb-true}
 use Rattle.cube.specs.Count.{count, least}
 use Rattle.cube.proofs.Bools.{clash, either, is-false}
-use Rattle.cube.proofs.Count.{count-alone, count-pos, count-without, counted, without, without-is}
+use Rattle.cube.proofs.Count.{count-pos, count-without, counted, without, without-is}
 use Rattle.cube.proofs.Search.{least-is}
 use Rattle.walk.specs.declared.Ending.the-variants as ending
 use Rattle.walk.specs.declared.Walked.{Walked}
 use Rattle.figures.specs.Figures.{isKind}
-use Rattle.figures.proofs.Four.{arrived-not, delivered-is, halted-is, is-delivered, is-halted, refused-none}
+use Rattle.figures.proofs.Four.{arrived-not, delivered-is, is-delivered, is-halted, refused-none}
 use Rattle.counters.specs.Helpers.{HasKind, kindOf}
 
 -- if just one number below n has p, it is the least

@@ -1,13 +1,13 @@
 -- What `tally` answers and leaves, by the tests in their order: a refusal leaves the counters as they were, and where nothing is refused they are the tally.
 use mathlib.Core.Bool.{true, false}
-use mathlib.Core.List.{List, [], _∷_}
+use mathlib.Core.List.{List}
 use mathlib.Core.Logic.{_⊎_, inl, inr, _≢_}
 use mathlib.Core.Path.{_≡_, refl, sym, ap, _∙_}
 use Prim.Native.Nat.{ℕ, _≤_}
 use lib.Dec.{eqb, leb}
 use lib.ListN.{length}
 use borrow.Author.Tests.{eq-eqb, eqb-false, eqb-true, le-leb, leb-true, ne-eqb, not-false}
-use Rattle.cube.specs.Refusal.{first, _⇒_}
+use Rattle.cube.specs.Refusal.{first}
 use Rattle.cube.proofs.Bools.{and-both, and-true, either}
 use Rattle.cube.proofs.Front.{length-tab}
 use Rattle.cube.proofs.Refusal.{first-none}

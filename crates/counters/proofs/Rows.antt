@@ -1,25 +1,25 @@
 -- The six counters of a table's number of faults: one table more, one more without a safe node where it has none, and the walks of the four kinds.
-use mathlib.Core.Bool.{Bool, true, false, cond, not, _&&_}
+use mathlib.Core.Bool.{Bool, true, false, cond}
 use mathlib.Core.List.{List, _++_}
-use mathlib.Core.Logic.{_⊎_, inl, inr, _≢_}
+use mathlib.Core.Logic.{_≢_}
 use mathlib.Core.Path.{_≡_, refl, sym, ap, subst, _∙_}
 use Prim.Native.Nat.{ℕ, zero, suc, _+_, _-_, _*_, _^_, _≤_, _<_}
 use native.Mathlib.Nat.{mul-le-mul}
 use native.Mathlib.Omega.{arith}
-use lib.Dec.{eqb, leb, ltb}
+use lib.Dec.{eqb}
 use lib.ListN.{drop, getD, length, set, take}
 use lib.Pow.{pow-mono}
 use Rattle.cube.specs.Count.{count, some}
-use Rattle.cube.specs.Tables.{labelCount, labelIn}
+use Rattle.cube.specs.Tables.{labelCount}
 use Rattle.cube.proofs.Count.{counted, none-counted}
 use Rattle.cube.proofs.Search.{some-hit, some-none}
 use Rattle.jobs.specs.Jobs.{half}
-use Rattle.rule.specs.Cabinet.{Cabinet, labelsOf, plain}
+use Rattle.rule.specs.Cabinet.{Cabinet, plain}
 use Rattle.rule.proofs.Cabinet.{labels-length}
 use Rattle.theorems.specs.Words.{labelAt}
 use Rattle.figures.specs.Figures.{anySafe, figure, figures, walksOf}
 use Rattle.counters.specs.Helpers.{Room, Tallying, plus}
-use Rattle.counters.proofs.Adding.{inPart, part-room, plus-length, plus-none, plus-one, plus-part, plus-room, plus-same, plus-then, room-less}
+use Rattle.counters.proofs.Adding.{inPart, part-room, plus-length, plus-one, plus-part, plus-room, plus-same, plus-then, room-less}
 
 -- how many nodes of the table have a label
 pub label-count : (n : ℕ) (faults labels : List ℕ) → Tallying n faults labels → (k : ℕ)

@@ -1,23 +1,22 @@
 -- One table: the bytes of its number are the table, labelling takes it, and the nodes with label 3 are its faults, so the six counters from that place on are
 -- those of its line.
-use mathlib.Core.Bool.{Bool, true, false, cond, not, _&&_}
+use mathlib.Core.Bool.{true, false, cond}
 use mathlib.Core.List.{List, [], _∷_, _++_}
 use mathlib.Core.Logic.{_⊎_, inl, inr, ⊎-elim}
 use mathlib.Core.Path.{_≡_, refl, sym, ap, subst, _∙_}
-use Prim.Native.Nat.{ℕ, zero, suc, _+_, _-_, _*_, _/_, _%_, _^_, _≤_, _<_}
+use Prim.Native.Nat.{ℕ, _+_, _-_, _*_, _/_, _%_, _^_, _≤_, _<_}
 use native.Mathlib.Omega.{arith}
-use lib.Dec.{eqb, leb, ltb}
-use lib.ListN.{drop, length, replicate, take}
+use lib.Dec.{eqb, leb}
+use lib.ListN.{drop, length, take}
 use lib.Pow.{pow-mono}
 use lib.Seq.{length-take-le}
-use borrow.Author.Tests.{eq-eqb, eqb-false, eqb-true, le-leb, leb-false, leb-true, le-ltb, lt-leb, lt-ltb, ltb-false, ltb-true, ne-eqb}
-use Rattle.cube.specs.Count.{count}
+use borrow.Author.Tests.{eq-eqb, eqb-false, eqb-true, le-leb, leb-false, leb-true, le-ltb, lt-ltb, ne-eqb}
 use Rattle.cube.specs.Tables.{emptyTable, labelCount, tableLen}
 use Rattle.cube.proofs.Bools.{either, or-left}
 use Rattle.cube.proofs.Count.{count-bound, count-same}
 use Rattle.cube.proofs.Tables.{len-large, len-small}
 use Rattle.jobs.specs.Jobs.{half, labelBytes}
-use Rattle.rule.specs.Cabinet.{Cabinet, cabinet, faulty, labelsOf, out, outByte, plain}
+use Rattle.rule.specs.Cabinet.{Cabinet, cabinet, faulty, out, outByte, plain}
 use Rattle.rule.proofs.Cabinet.{plain-faulty, plain-out}
 use Rattle.labels.specs.Labelling.{labelRefusal, labelsAfter}
 use Rattle.labels.proofs.Refusal.{labels-written, length-kept}

@@ -2,7 +2,6 @@
 -- definition counts so far.
 use mathlib.Core.Bool.{Bool, true, false, cond, not, _&&_}
 use mathlib.Core.List.{List}
-use mathlib.Core.Logic.{_⊎_, inl, inr}
 use mathlib.Core.Path.{_≡_, refl, sym, ap, ap₂, subst, _∙_}
 use Prim.Native.Nat.{ℕ, _+_, _*_, _/_, _^_, _≤_, _<_}
 use native.Mathlib.Nat.{add-mul, mul-le-mul-right, one-mul}
@@ -15,14 +14,13 @@ use Rattle.cube.specs.Tables.{labelIn, nodeBit}
 use Rattle.cube.proofs.Bools.{by-cases}
 use Rattle.cube.proofs.Count.{count-bound, count-in, count-out, count-zero}
 use Rattle.cube.proofs.Tables.{node-room}
-use Rattle.rule.specs.Cabinet.{Cabinet, labelsOf, out, plain}
+use Rattle.rule.specs.Cabinet.{Cabinet, out, plain}
 use Rattle.rule.proofs.Cabinet.{plain-out}
 use Rattle.labels.proofs.Refusal.{fitting}
 use Rattle.walk.specs.Walk.{rowBytes, walked}
 use Rattle.walk.specs.declared.Walked.{Walked}
 use Rattle.theorems.specs.Words.{Works, walkOf}
-use Rattle.figures.specs.Figures.{goes, isKind, pairs, walksOf}
-use Rattle.figures.specs.Sum.{sum}
+use Rattle.figures.specs.Figures.{goes, isKind}
 use Rattle.figures.proofs.Four.{one-of-four}
 use Rattle.figures.proofs.Sum.{sum-bound, sum-next, sum-zero}
 use Rattle.counters.specs.Helpers.{HasKind, Room, Tallying, kindOf, plus, walkIn, walksFrom, walksTo}

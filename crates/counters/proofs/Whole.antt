@@ -1,15 +1,14 @@
 -- All tables: after those below t each counter has what they add to it, at most 256 each, so there is always room; after the last it is the tally.
-use mathlib.Core.Bool.{Bool, true, false, cond, not, _&&_}
+use mathlib.Core.Bool.{Bool, true, false, not, _&&_}
 use mathlib.Core.List.{List}
 use mathlib.Core.Logic.{_⊎_, inl, inr}
-use mathlib.Core.Path.{_≡_, refl, sym, ap, subst, _∙_}
+use mathlib.Core.Path.{_≡_, sym, ap, _∙_}
 use Prim.Native.Nat.{ℕ, zero, suc, _+_, _*_, _/_, _%_, _^_, _≤_, _<_}
 use native.Mathlib.Nat.{mul-le-mul}
 use native.Mathlib.Omega.{arith}
 use lib.Dec.{eqb, ltb}
 use lib.ListN.{getD, length, replicate, List·getD-eq-default}
 use borrow.Author.Tests.{ltb-false, ltb-true}
-use Rattle.cube.specs.Count.{count}
 use Rattle.cube.specs.Tables.{tab}
 use Rattle.cube.proofs.Bools.{by-cases, either}
 use Rattle.cube.proofs.Count.{count-bound}

@@ -1,8 +1,8 @@
 -- How many numbers of k bits have m of them set: choose k m. The numbers below 2 ^ (k + 1) are those below 2 ^ k twice, without bit k and with it.
-use mathlib.Core.Bool.{Bool, true, false, cond}
+use mathlib.Core.Bool.{Bool, true, false}
 use mathlib.Core.Logic.{_⊎_, inl, inr}
 use mathlib.Core.Path.{_≡_, refl, sym, ap, ap₂, _∙_}
-use Prim.Native.Nat.{ℕ, zero, suc, _+_, _-_, _*_, _/_, _%_, _^_, _≤_, _<_}
+use Prim.Native.Nat.{ℕ, zero, suc, _+_, _*_, _/_, _%_, _^_, _<_}
 use native.Mathlib.Nat.{div-eq-of-lt, two-pow-succ}
 use native.Mathlib.Omega.{arith}
 use lib.Dec.{eqb}
@@ -11,7 +11,7 @@ use borrow.Author.Tests.{eq-eqb, eqb-false, eqb-true, ne-eqb}
 use Rattle.cube.specs.Count.{count}
 use Rattle.cube.specs.Cube.{bit}
 use Rattle.cube.proofs.Bools.{either}
-use Rattle.cube.proofs.Count.{count-all, count-none, count-same}
+use Rattle.cube.proofs.Count.{count-none, count-same}
 use Rattle.cube.proofs.Cube.{bit-low, bit-none, bit-shift}
 use Rattle.figures.specs.Laws.{choose}
 use Rattle.figures.proofs.Numbers.{bit-low-part}

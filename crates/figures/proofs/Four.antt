@@ -2,24 +2,23 @@
 -- source's label. So the walks of the four kinds are together all walks of a table, working × working.
 use mathlib.Core.Bool.{Bool, true, false, cond, not, _&&_}
 use mathlib.Core.Logic.{_⊎_, inl, inr}
-use mathlib.Core.Path.{_≡_, refl, sym, ap, ap₂, subst, _∙_}
-use Prim.Native.Nat.{ℕ, zero, suc, _+_, _-_, _*_, _^_, _≤_, _<_}
+use mathlib.Core.Path.{_≡_, refl, sym, _∙_}
+use Prim.Native.Nat.{ℕ, _+_, _*_, _^_, _≤_, _<_}
 use native.Mathlib.Omega.{arith}
 use lib.Dec.{eqb}
 use borrow.Author.Tests.{eq-eqb, eqb-true, ne-eqb}
 use Rattle.cube.specs.Count.{count}
 use Rattle.cube.specs.Cube.{dist}
 use Rattle.cube.proofs.Bools.{by-cases, clash, either, or-false}
-use Rattle.cube.proofs.Count.{count-alone, count-bound, count-none, count-pos, count-same}
-use Rattle.rule.specs.Cabinet.{Cabinet, faulty, out}
+use Rattle.cube.proofs.Count.{count-alone, count-none, count-pos}
+use Rattle.rule.specs.Cabinet.{Cabinet, out}
 use Rattle.walk.specs.declared.Ending.{Ending}
 use Rattle.walk.specs.declared.Ending.the-variants as ending
 use Rattle.walk.specs.declared.Walked.{Walked}
-use Rattle.theorems.specs.Demand3.{Walks}
 use Rattle.theorems.specs.Words.{Accepted, SomeSafe, Takes, Works, labelAt, walkOf}
 use Rattle.theorems.proofs.Demand2.{works}
 use Rattle.theorems.proofs.Demand3.{demand3}
-use Rattle.figures.specs.Figures.{goes, isDelivered, isHalted, isKind, pairs, walksOf}
+use Rattle.figures.specs.Figures.{goes, isKind, pairs, walksOf}
 use Rattle.figures.specs.Laws.{OneKind}
 use Rattle.figures.specs.Sum.{sum}
 use Rattle.figures.proofs.Sum.{count-is-sum, sum-counted, sum-none, sum-same, sum-swap}

@@ -1,30 +1,29 @@
 -- The sums of the figures. A figure's total is a sum over the tables with so many faults, so what holds of each table, by the four kinds or by theorem 4,
 -- holds of the totals; and each table is counted in the line of its one number of faults.
-use mathlib.Core.Bool.{Bool, true, false, cond, not, _&&_}
+use mathlib.Core.Bool.{Bool, true, false, cond, not}
 use mathlib.Core.Logic.{_⊎_, inl, inr}
-use mathlib.Core.Path.{_≡_, refl, sym, ap, ap₂, subst, _∙_}
-use Prim.Native.Nat.{ℕ, zero, suc, _+_, _-_, _*_, _^_, _≤_, _<_}
+use mathlib.Core.Path.{_≡_, refl, sym, ap, ap₂, _∙_}
+use Prim.Native.Nat.{ℕ, _+_, _-_, _*_, _^_, _≤_, _<_}
 use native.Mathlib.Nat.{mul-assoc}
 use native.Mathlib.Omega.{arith}
 use lib.Dec.{eqb}
 use borrow.Author.Tests.{eq-eqb, eqb-true}
 use Rattle.cube.specs.Count.{count}
 use Rattle.cube.specs.Cube.{bit}
-use Rattle.cube.proofs.Bools.{either, or-false}
-use Rattle.cube.proofs.Count.{count-bound, count-none, count-same}
+use Rattle.cube.proofs.Bools.{either}
+use Rattle.cube.proofs.Count.{count-bound, count-same}
 use Rattle.cube.proofs.Search.{some-hit}
 use Rattle.rule.specs.Cabinet.{Cabinet, faulty, out}
 use Rattle.rule.proofs.Cabinet.{plain-faulty, plain-out}
 use Rattle.enough.proofs.Enough.{few-out-safe}
-use Rattle.theorems.specs.Words.{Accepted, labelAt, walkOf}
-use Rattle.theorems.proofs.Demand3.{demand3}
-use Rattle.figures.specs.Figures.{anySafe, cubeOf, faultsOf, figure, figures, goes, pairs, tables, tableOf, total, walksOf}
+use Rattle.theorems.specs.Words.{labelAt}
+use Rattle.figures.specs.Figures.{cubeOf, faultsOf, figure, figures, tables, tableOf, total, walksOf}
 use Rattle.figures.specs.Laws.{AllTables, Sums, choose}
 use Rattle.figures.specs.Sum.{sum}
 use Rattle.figures.proofs.Choose.{count-chosen}
 use Rattle.figures.proofs.Four.{all-walks, none-halts, one-of-four}
 use Rattle.figures.proofs.Numbers.{all-tables}
-use Rattle.figures.proofs.Sum.{count-is-sum, count-not, sum-const, sum-counted, sum-none, sum-one, sum-plus, sum-same, sum-swap}
+use Rattle.figures.proofs.Sum.{count-is-sum, count-not, sum-const, sum-counted, sum-none, sum-one, sum-same, sum-swap}
 
 module _ (n : ℕ) (A : AllTables n) where
   abbrev size : ℕ

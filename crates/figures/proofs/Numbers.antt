@@ -1,5 +1,5 @@
 -- The numbers of fault tables: a number below 2 ^ (2 ^ n) and the table of its bytes give each other back, and bit x of the number is node x.
-use mathlib.Core.Bool.{Bool, true, false, not}
+use mathlib.Core.Bool.{true, false, not}
 use mathlib.Core.List.{List, [], _∷_}
 use mathlib.Core.Logic.{_⊎_, inl, inr}
 use mathlib.Core.Path.{_≡_, refl, sym, ap, ap₂, subst, _∙_}
@@ -11,7 +11,7 @@ use lib.ListN.{getD, length, length-replicate}
 use lib.Pow.{field, mod-mod-pow, pow-add, pow-mono, pow-pos}
 use borrow.Author.Tests.{eq-eqb, eqb-true, ltb-false, ltb-true, not-false}
 use Rattle.cube.specs.Cube.{bit}
-use Rattle.cube.specs.Tables.{emptyTable, nodeBit, tableLen, unusedSet}
+use Rattle.cube.specs.Tables.{nodeBit, tableLen, unusedSet}
 use Rattle.cube.proofs.Bools.{either}
 use Rattle.cube.proofs.Cube.{bit-shift}
 use Rattle.cube.proofs.Refusal.{first-none}
@@ -21,7 +21,6 @@ use Rattle.rule.specs.Cabinet.{Cabinet, plain}
 use Rattle.rule.proofs.Cabinet.{plain-faulty}
 use Rattle.labels.specs.Labelling.{labelRefusal, labelTests}
 use Rattle.labels.proofs.Refusal.{fits, fitting}
-use Rattle.theorems.specs.Words.{Accepted}
 use Rattle.figures.specs.Figures.{bytesOf, cubeOf, tableOf, tables}
 use Rattle.figures.specs.Laws.{AllTables}
 

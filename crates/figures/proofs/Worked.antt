@@ -1,8 +1,6 @@
 -- The worked figures, by computation.
 use mathlib.Core.Path.{_≡_, refl}
-use mathlib.Core.Bool.{true}
-use mathlib.Core.List.{List, [], _∷_}
-use Prim.Native.Nat.{ℕ}
+use mathlib.Core.List.{[], _∷_}
 use lib.Count.{ones}
 use Rattle.cube.specs.Count.{count, least, some}
 use Rattle.cube.specs.Cube.{apart, bit, dist, flip}
@@ -14,7 +12,7 @@ use Rattle.rule.specs.Rule.{label, labelOf, marked, meets, newly, quiet, rounds
 use Rattle.hop.specs.Hop.{answer, decide, hop}
 use Rattle.scans.specs.Scans.{firstScan, lowest, suits, takes}
 use Rattle.walk.specs.Walk.{hops, last, onto, refused, row, spot, stops, turn, walkFrom, walkRefusal, walked}
-use Rattle.figures.specs.Figures.{bytesOf, cubeOf, figures, goes, isKind, pairs, tableOf, tallyOf, total}
+use Rattle.figures.specs.Figures.{bytesOf, figures, isKind, pairs, tallyOf, total}
 use Rattle.figures.specs.Sum.{sum}
 use Rattle.figures.specs.Worked.{WorkedFigures}
 

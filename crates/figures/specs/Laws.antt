@@ -1,15 +1,15 @@
 -- What is true of the figures (RULES, The tally), in cubes of every dimension that the library takes. Proved in proofs/.
-use mathlib.Core.Bool.{Bool, true, false}
-use mathlib.Core.List.{List, [], _∷_}
+use mathlib.Core.Bool.{true}
+use mathlib.Core.List.{List}
 use mathlib.Core.Path.{_≡_}
-use Prim.Native.Nat.{ℕ, zero, suc, _+_, _-_, _*_, _^_, _≤_, _<_}
+use Prim.Native.Nat.{ℕ, zero, suc, _+_, _-_, _*_, _^_, _<_}
 use lib.Dec.{eqb}
 use lib.ListN.{getD}
 use Rattle.cube.specs.Count.{count}
 use Rattle.cube.specs.Cube.{bit}
 use Rattle.rule.specs.Cabinet.{Cabinet, faulty, plain}
 use Rattle.theorems.specs.Words.{Accepted, Works}
-use Rattle.figures.specs.Figures.{cubeOf, faultsOf, figure, goes, tables, tableOf, tallyOf, total, walksOf}
+use Rattle.figures.specs.Figures.{cubeOf, faultsOf, goes, tables, tableOf, total}
 use Rattle.figures.specs.Sum.{sum}
 
 -- "the tables counted are all tables": each number below 2 ^ (2 ^ n) is one that labelling takes, and each that it takes has one such number

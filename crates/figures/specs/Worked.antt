@@ -1,8 +1,7 @@
 -- Worked figures: those of the whole cube of dimension 1, and walks of each kind. K4 is table 33044, where 2, 4, 8 and 15 are faulty.
 use mathlib.Core.Bool.{true}
-use mathlib.Core.List.{List, [], _∷_}
+use mathlib.Core.List.{[], _∷_}
 use mathlib.Core.Path.{_≡_}
-use Prim.Native.Nat.{ℕ}
 use Rattle.figures.specs.Figures.{cubeOf, goes, tableOf, tallyOf}
 
 pub record WorkedFigures : Type 0 where

@@ -19,7 +19,6 @@ use Rattle.cube.proofs.Front.{getD-tab}
 use Rattle.walk.specs.declared.Walked.{Walked}
 use Rattle.figures.specs.Figures.{countersOf, isKind, tallyOf, total}
 use Rattle.figures.specs.Laws.{Sums}
-use Rattle.figures.specs.Sum.{sum}
 use Rattle.figures.proofs.Four.{of-four}
 use Rattle.figures.proofs.Laws.{sums}
 use Rattle.figures.proofs.Sum.{sum-same}

@@ -1,11 +1,11 @@
 -- `add_tables` has added the tables below t. The measure is how many are left.
 use mathlib.Core.Path.{_≡_, refl, sym, ap, subst, _∙_}
-use Prim.Native.Nat.{ℕ, _-_, _^_, _≤_, _<_}
+use Prim.Native.Nat.{ℕ, _-_, _^_, _≤_}
 use native.Mathlib.Omega.{arith}
 use lib.ListN.{length, length-replicate}
 use Rattle.cube.proofs.Cube.{shl-one}
 use Rattle.figures.specs.Figures.{tables}
-use Rattle.counters.proofs.Tabled.{few-nodes, few-tables}
+use Rattle.counters.proofs.Tabled.{few-nodes}
 use Rattle.counters.proofs.Whole.{Added, added-length, added-room, all-added, none-added, one-added}
 use Rattle.counters.proofs.add_tables.Statement.{statement}
 use Rattle.counters.proofs.add_tables.Tie as tie
