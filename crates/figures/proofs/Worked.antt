@@ -1,6 +1,5 @@
 -- The worked figures, by computation.
-use mathlib.Core.Path.{_≡_, refl}
-use mathlib.Core.List.{[], _∷_}
+use mathlib.Core.Path.{refl}
 use lib.Count.{ones}
 use Rattle.cube.specs.Count.{count, least, some}
 use Rattle.cube.specs.Cube.{apart, bit, dist, flip}
@@ -16,13 +15,19 @@ use Rattle.figures.specs.Figures.{bytesOf, figures, isKind, pairs, tally
 use Rattle.figures.specs.Sum.{sum}
 use Rattle.figures.specs.Worked.{WorkedFigures}
 
-cube-1 : tallyOf 1 ≡ 1 ∷ 0 ∷ 4 ∷ 0 ∷ 0 ∷ 0 ∷ 2 ∷ 0 ∷ 2 ∷ 0 ∷ 0 ∷ 0 ∷ 1 ∷ 1 ∷ 0 ∷ 0 ∷ 0 ∷ 0 ∷ []
+pub worked-figures : WorkedFigures
 unfolding tallyOf total figures pairs sum isKind bytesOf tableLen walked walkRefusal walkFrom refused first row last hops turn spot stops onto hop decide answer
     firstScan lowest takes suits apart dist ones labelIn labelsOf label labelOf safe rounds working quiet newly meets marked isDimension isJob labelBytes some
     count least bit flip nodeBit tab
-cube-1 = refl
-
-pub worked-figures : WorkedFigures
-unfolding bytesOf tableLen isKind walked walkRefusal walkFrom refused first row last hops turn spot stops onto hop decide answer firstScan lowest takes suits
-    apart dist ones labelIn labelsOf label labelOf safe rounds working quiet newly meets marked isDimension isJob labelBytes some count least bit flip nodeBit tab
-worked-figures = record { cube-1 = cube-1; k4 = refl; none-extra = refl; two-extra = refl; four-extra = refl; halts = refl }
+worked-figures =
+    record {
+      cube-1 = refl;
+      cube-2 = refl;
+      five-faulty = refl;
+      five-work = refl;
+      four-extra = refl;
+      k4 = refl;
+      two-extra = refl;
+      none-extra = refl;
+      halts = refl;
+    }
