@@ -13,8 +13,9 @@ use Rattle.cube.proofs.Search.{least-is}
 use Rattle.walk.specs.declared.Ending.the-variants as ending
 use Rattle.walk.specs.declared.Walked.{Walked}
 use Rattle.figures.specs.Figures.{isKind}
+use Rattle.figures.specs.Laws.{OneKind}
 use Rattle.figures.proofs.Four.{arrived-not, delivered-is, is-delivered, is-halted, refused-none}
-use Rattle.counters.specs.Helpers.{HasKind, kindOf}
+use Rattle.counters.specs.Helpers.{kindOf}
 
 -- if just one number below n has p, it is the least
 module _ (n : ℕ) (p : ℕ → Bool) (one : count n p ≡ 1) where
@@ -35,7 +36,7 @@ module _ (n : ℕ) (p : ℕ → Bool) (one : count n p ≡ 1) where
       is-it k h e i l (inl a) = ap p (eqb-true i k a) ∙ e ∙ sym a
       is-it k h e i l (inr a) = others k i h l e (λ z. clash (eq-eqb i k z) a) ∙ sym a
 
-module _ (w : Walked) (l : ℕ) (one : HasKind w l) where
+module _ (w : Walked) (l : ℕ) (one : OneKind w l) where
   abbrev found : (k : ℕ) × (k < 4) × (isKind k w l ≡ true)
   found = counted 4 (λ k. isKind k w l) (omega (arith, one))
 

@@ -21,9 +21,10 @@ use Rattle.walk.specs.Walk.{rowBytes, walked}
 use Rattle.walk.specs.declared.Walked.{Walked}
 use Rattle.theorems.specs.Words.{Works, walkOf}
 use Rattle.figures.specs.Figures.{goes, isKind}
-use Rattle.figures.proofs.Four.{one-of-four}
+use Rattle.figures.specs.Laws.{OneKind}
+use Rattle.figures.proofs.Four.{of-four}
 use Rattle.figures.proofs.Sum.{sum-bound, sum-next, sum-zero}
-use Rattle.counters.specs.Helpers.{HasKind, Room, Tallying, kindOf, plus, walkIn, walksFrom, walksTo}
+use Rattle.counters.specs.Helpers.{Room, Tallying, kindOf, plus, walkIn, walksFrom, walksTo}
 use Rattle.counters.proofs.Adding.{plus-at, plus-length, plus-none, plus-one, plus-room, plus-same, plus-then}
 use Rattle.counters.proofs.Kinded.{kind-below, kind-only}
 
@@ -46,8 +47,8 @@ module _ (n : ℕ) (faults labels : List ℕ) (T : Tallying n faults labels) whe
   same-walk s d =
       ap₂ (λ (m : ℕ) (l : List ℕ). walked n 0 s d m rowBytes (labelIn l)) (T .sized) (T .labelled)
 
-  pub has-kind : (s d : ℕ) → Works K s → Works K d → HasKind (walkIn n s d labels) (dist s d)
-  has-kind s d hs hd = rw (same-walk s d) (one-of-four K (T .accepted) s d hs hd)
+  pub has-kind : (s d : ℕ) → Works K s → Works K d → OneKind (walkIn n s d labels) (dist s d)
+  has-kind s d hs hd = rw (same-walk s d) (of-four K 0 (T .accepted) s d hs hd)
 
   -- ---- from one source
 
@@ -63,7 +64,7 @@ module _ (n : ℕ) (faults labels : List ℕ) (T : Tallying n faults labels) whe
 
       -- the counter of the walk's kind has room, and is raised by one
       module _ (b : nodeBit faults d ≡ false) (k : ℕ) (f : k ≡ kindOf (walkIn n s d labels) (dist s d)) where
-        one : HasKind (walkIn n s d labels) (dist s d)
+        one : OneKind (walkIn n s d labels) (dist s d)
         one = has-kind s d hs (at-work d h b)
 
         pub kind-place : k < 4

@@ -3,7 +3,6 @@ use mathlib.Core.Bool.{cond, not, _&&_}
 use mathlib.Core.List.{List}
 use mathlib.Core.Path.{_≡_}
 use Prim.Native.Nat.{ℕ, _+_, _/_, _%_, _^_, _≤_, _<_}
-use lib.Dec.{eqb}
 use lib.ListN.{getD, length}
 use Rattle.cube.specs.Count.{count, least}
 use Rattle.cube.specs.Tables.{tab}
@@ -12,7 +11,7 @@ use Rattle.rule.specs.Cabinet.{Cabinet, labelsOf, out, plain}
 use Rattle.walk.specs.Walk.{rowBytes, walked}
 use Rattle.walk.specs.declared.Walked.{Walked}
 use Rattle.theorems.specs.Words.{Accepted}
-use Rattle.figures.specs.Figures.{columns, cubeOf, faultsOf, figure, goes, isKind}
+use Rattle.figures.specs.Figures.{adds, columns, goes, isKind}
 use Rattle.figures.specs.Sum.{sum}
 
 -- m counters l, with f i added to each
@@ -21,7 +20,7 @@ plus m f l = tab m (λ i. getD l i 0 + f i)
 
 -- what table t of an n-cube adds to counter i
 abbrev pub tableAdds : (n t i : ℕ) → ℕ
-tableAdds n t i = cond (eqb (faultsOf (cubeOf n t)) (i / columns)) (figure (i % columns) (cubeOf n t)) 0
+tableAdds n t i = adds n (i / columns) (i % columns) t
 
 -- l are m counters to which b can be added without overflow
 pub record Room (m b : ℕ) (l : List ℕ) : Type 0 where
@@ -46,9 +45,6 @@ walksFrom K m k = sum m (λ s. cond (out K s) 0 (walksTo K s (2 ^ K .n) k))
 abbrev pub walkIn : (n s d : ℕ) (labels : List ℕ) → Walked
 walkIn n s d labels = walked n 0 s d (length labels) rowBytes (labelFor n 0 labels)
 
--- the least kind that a walk over a distance l has, and that it has just one
+-- the least kind that a walk between nodes that are l apart has
 unfoldable pub kindOf : (w : Walked) (l : ℕ) → ℕ
 kindOf w l = least 4 (λ k. isKind k w l)
-
-abbrev pub HasKind : (w : Walked) (l : ℕ) → Type 0
-HasKind w l = count 4 (λ k. isKind k w l) ≡ 1

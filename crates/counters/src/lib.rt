@@ -2,10 +2,11 @@
 // The others are its own. They go through the tables by number, label each once as job 0 by rule 3, and add what the walks of all pairs of working nodes come
 // to. A walk's kind is the place of its counter: that it is below 4 is demand 3.
 ghost use Prim.Native.Nat.{_*_, _%_, _^_, _≤_, _<_};
-ghost use Rattle.counters.specs.Helpers.{HasKind, Room, Tallying, kindOf, plus, tableAdds, walkIn, walksTo};
+ghost use Rattle.counters.specs.Helpers.{Room, Tallying, kindOf, plus, tableAdds, walkIn, walksTo};
 ghost use Rattle.counters.specs.Tally.{countersAfter, isTallied, tallyRefusal};
 ghost use Rattle.cube.specs.Cube.{dist};
 ghost use Rattle.figures.specs.Figures.{countersOf, figure, tables, tallyOf, walksOf};
+ghost use Rattle.figures.specs.Laws.{OneKind};
 ghost use Rattle.jobs.specs.Jobs.{labelBytes};
 ghost use Rattle.rule.specs.Cabinet.{plain};
 ghost use Rattle.theorems.specs.Words.{Works};
@@ -42,7 +43,7 @@ fn extra_kind(extra: usize) -> usize
 
 // The kind of the walk from s to d.
 fn kind(n: usize, s: usize, d: usize, labels: &[u8]) -> usize
-    requires { ⌜ HasKind (walkIn n s d (now labels)) (dist s d) ⌝ }
+    requires { ⌜ OneKind (walkIn n s d (now labels)) (dist s d) ⌝ }
     ensures { λ r. ⌜ r ≡ kindOf (walkIn n s d (now (labels .entry))) (dist s d) ⌝ }
 {
     let walked = walk(n, 0, s, d, labels);

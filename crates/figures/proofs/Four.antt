@@ -78,7 +78,7 @@ takes : (K : Cabinet) (d : ℕ) → Works K d → Takes K d
 takes K d h = (h .0, or-false _ _ (h .1) .0)
 
 -- for either job
-pub of-four : (K : Cabinet) (j : ℕ) → Accepted K j → (s d : ℕ) → Works K s → Works K d → count 4 (λ k. isKind k (walkOf K j s d) (dist s d)) ≡ 1
+pub of-four : (K : Cabinet) (j : ℕ) → Accepted K j → (s d : ℕ) → Works K s → Works K d → OneKind (walkOf K j s d) (dist s d)
 of-four K j ok s d hs hd =
     let W = demand3 K j ok s d hs (takes K d hd) in
     one-kind (walkOf K j s d) (dist s d) (walkOf K j s d .ending) refl
@@ -87,9 +87,6 @@ of-four K j ok s d hs hd =
 module _ (K : Cabinet) (ok : Accepted K 0) where
   abbrev size : ℕ
   size = 2 ^ K .n
-
-  pub one-of-four : (s d : ℕ) → Works K s → Works K d → OneKind K s d
-  one-of-four = of-four K 0 ok
 
   -- ---- all walks of the table
 
@@ -106,7 +103,7 @@ module _ (K : Cabinet) (ok : Accepted K 0) where
     where
       one : (d : ℕ) → d < size → (out K d ≡ true) ⊎ (out K d ≡ false) → count 4 (λ k. works-at d && goes K k s d) ≡ cond (works-at d) 1 0
       one d h (inl e) = rw e (count-none 4 (λ _. false) (λ _ _. refl))
-      one d h (inr e) = rw e (one-of-four s d (hs, es) (h, e))
+      one d h (inr e) = rw e (of-four K 0 ok s d (hs, es) (h, e))
 
   pub all-walks : sum 4 (λ k. walksOf K k) ≡ count size works-at * count size works-at
   unfolding pairs

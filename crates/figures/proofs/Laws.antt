@@ -21,7 +21,7 @@ use Rattle.figures.specs.Figures.{cubeOf, faultsOf, figure, figures, tab
 use Rattle.figures.specs.Laws.{AllTables, Sums, choose}
 use Rattle.figures.specs.Sum.{sum}
 use Rattle.figures.proofs.Choose.{count-chosen}
-use Rattle.figures.proofs.Four.{all-walks, none-halts, one-of-four}
+use Rattle.figures.proofs.Four.{all-walks, none-halts, of-four}
 use Rattle.figures.proofs.Numbers.{all-tables}
 use Rattle.figures.proofs.Sum.{count-is-sum, count-not, sum-const, sum-counted, sum-none, sum-one, sum-same, sum-swap}
 
@@ -129,7 +129,7 @@ pub sums : (n : ℕ) → (1 ≤ n) × (n ≤ 12) → Sums n
 sums n dim =
     let A = all-tables n dim in
     record {
-      one-kind = λ t h s d hs hd. one-of-four (cubeOf n t) (A .accepted t h) s d hs hd;
+      one-kind = λ t h s d hs hd. of-four (cubeOf n t) 0 (A .accepted t h) s d hs hd;
       walks = walks n A;
       tables-with = tables-with n A;
       chosen = chosen n A;

@@ -74,12 +74,15 @@ figure c K = getD (figures K) c 0
 
 -- ---- the figures of all tables
 
--- the columns of a line, and its number c in the line of m faults: the sum of that figure over the tables with so many
 abbrev pub columns : ℕ
 columns = 6
 
+-- number c in the line of m faults: what table t adds to it, its figure if it has so many faults, and the sum over all tables
+abbrev pub adds : (n m c t : ℕ) → ℕ
+adds n m c t = cond (eqb (faultsOf (cubeOf n t)) m) (figure c (cubeOf n t)) 0
+
 unfoldable pub total : (n m c : ℕ) → ℕ
-total n m c = sum (tables n) (λ t. cond (eqb (faultsOf (cubeOf n t)) m) (figure c (cubeOf n t)) 0)
+total n m c = sum (tables n) (adds n m c)
 
 -- the counters of a dimension: six for each number of faults, 0 to 2 ^ n, line by line
 abbrev pub countersOf : (n : ℕ) → ℕ

@@ -6,10 +6,11 @@ use Prim.Native.Nat.{ℕ, zero, suc, _+_, _-_, _*_, _^_, _<_}
 use lib.Dec.{eqb}
 use lib.ListN.{getD}
 use Rattle.cube.specs.Count.{count}
-use Rattle.cube.specs.Cube.{bit}
-use Rattle.rule.specs.Cabinet.{Cabinet, faulty, plain}
-use Rattle.theorems.specs.Words.{Accepted, Works}
-use Rattle.figures.specs.Figures.{cubeOf, faultsOf, goes, tables, tableOf, total}
+use Rattle.cube.specs.Cube.{bit, dist}
+use Rattle.rule.specs.Cabinet.{faulty, plain}
+use Rattle.walk.specs.declared.Walked.{Walked}
+use Rattle.theorems.specs.Words.{Accepted, Works, walkOf}
+use Rattle.figures.specs.Figures.{cubeOf, faultsOf, isKind, tables, tableOf, total}
 use Rattle.figures.specs.Sum.{sum}
 
 -- "the tables counted are all tables": each number below 2 ^ (2 ^ n) is one that labelling takes, and each that it takes has one such number
@@ -20,9 +21,9 @@ pub record AllTables (n : ℕ) : Type 0 where
   -- node x is faulty in the table whose number has bit x
   pub node : (t x : ℕ) → x < 2 ^ n → faulty (cubeOf n t) x ≡ bit x t
 
--- "every walk falls in exactly one of the four"
-abbrev pub OneKind : (K : Cabinet) (s d : ℕ) → Type 0
-OneKind K s d = count 4 (λ k. goes K k s d) ≡ 1
+-- a walk between nodes that are l apart "falls in exactly one of the four"
+abbrev pub OneKind : (w : Walked) (l : ℕ) → Type 0
+OneKind w l = count 4 (λ k. isKind k w l) ≡ 1
 
 -- how many sets of m there are among k
 unfoldable pub choose : (k m : ℕ) → ℕ
@@ -31,7 +32,9 @@ choose zero (suc m) = 0
 choose (suc k) (suc m) = choose k m + choose k (suc m)
 
 pub record Sums (n : ℕ) : Type 0 where
-  pub one-kind : (t : ℕ) → t < tables n → (s d : ℕ) → Works (cubeOf n t) s → Works (cubeOf n t) d → OneKind (cubeOf n t) s d
+  pub one-kind :
+      (t : ℕ) → t < tables n → (s d : ℕ) → Works (cubeOf n t) s → Works (cubeOf n t) d
+      → OneKind (walkOf (cubeOf n t) 0 s d) (dist s d)
   -- "the four walk counts sum to tables × working × working for every number of faults",
   pub walks : (m : ℕ) → total n m 2 + total n m 3 + total n m 4 + total n m 5 ≡ total n m 0 * (2 ^ n - m) * (2 ^ n - m)
   -- "where tables is the number of fault tables with that many faults":

@@ -11,14 +11,13 @@ use lib.Dec.{eqb}
 use lib.ListN.{getD, length}
 use lib.Pow.{pow-pos}
 use Rattle.cube.specs.Contracts.{May}
-use Rattle.cube.specs.Count.{count}
 use Rattle.cube.specs.Cube.{dist}
 use Rattle.cube.specs.Refusal.{first}
 use Rattle.cube.proofs.Contracts.{may, told}
 use Rattle.cube.proofs.Front.{getD-tab}
 use Rattle.walk.specs.declared.Walked.{Walked}
-use Rattle.figures.specs.Figures.{countersOf, isKind, tallyOf, total}
-use Rattle.figures.specs.Laws.{Sums}
+use Rattle.figures.specs.Figures.{countersOf, tallyOf, total}
+use Rattle.figures.specs.Laws.{OneKind, Sums}
 use Rattle.figures.proofs.Four.{of-four}
 use Rattle.figures.proofs.Laws.{sums}
 use Rattle.figures.proofs.Sum.{sum-same}
@@ -118,7 +117,7 @@ kinds : (lib : Library) → Faithful lib → FourKinds lib
 kinds lib F =
     record {
       one = λ {K} {j} {exchanges} {s} {d} m hs hd v.
-          subst (λ (w : Walked). count 4 (λ k. isKind k w (dist s d)) ≡ 1) (sym (is-walk lib F m v)) (of-four K j (left lib F m .accepted) s d hs hd);
+          subst (λ (w : Walked). OneKind w (dist s d)) (sym (is-walk lib F m v)) (of-four K j (left lib F m .accepted) s d hs hd);
     }
 
 pub rattle-kinds : FourKinds rattle

@@ -14,8 +14,8 @@ use Rattle.labels.specs.declared.Labelled.the-variants as labelled
 use Rattle.walk.specs.Walk.{rowBytes}
 use Rattle.walk.specs.declared.Walked.{Walked}
 use Rattle.theorems.specs.Words.{Works}
-use Rattle.figures.specs.Figures.{cubeOf, faultsOf, isKind, tables, total}
-use Rattle.figures.specs.Laws.{choose}
+use Rattle.figures.specs.Figures.{cubeOf, faultsOf, tables, total}
+use Rattle.figures.specs.Laws.{OneKind, choose}
 use Rattle.figures.specs.Sum.{sum}
 use Rattle.counters.proofs.Functions as counters
 use Rattle.promises.specs.Library.{Library}
@@ -64,4 +64,4 @@ pub record Tallies : Type 0 where
 pub record FourKinds (lib : Library) : Type 0 where
   pub one :
       {K : Cabinet} {j exchanges s d : ℕ} {before buffer : List ℕ} {w : Walked} → lib .labels K j before (labelled.Exchanges exchanges) buffer
-      → Works K s → Works K d → lib .walks (K .n) j s d buffer rowBytes w → count 4 (λ k. isKind k w (dist s d)) ≡ 1
+      → Works K s → Works K d → lib .walks (K .n) j s d buffer rowBytes w → OneKind w (dist s d)

@@ -3,7 +3,7 @@ use mathlib.Core.Path.{_≡_, sym, ap, _∙_}
 use Prim.Native.Nat.{ℕ, _-_, _%_, _≤_}
 use borrow.Author.Needs.{needs}
 use Rattle.cube.specs.Cube.{dist}
-use Rattle.counters.specs.Helpers.{HasKind}
+use Rattle.figures.specs.Laws.{OneKind}
 use Rattle.counters.proofs.Kinded.{delivered-kind, extra-even, halted-kind, never-refused}
 use Rattle.counters.proofs.kind.Statement.{statement}
 use Rattle.counters.proofs.kind.Tie as tie
@@ -21,7 +21,7 @@ cast-least : tie.Need-cast-least
 cast-least c = search needs
 
 -- the walk that was asked for has one kind
-one : (c : tie.After-walk) → let a = c .before .before .args in HasKind (c .walk .result) (dist (a .s) (a .d))
+one : (c : tie.After-walk) → let a = c .before .before .args in OneKind (c .walk .result) (dist (a .s) (a .d))
 one c = rw (c .walk .ensures) (c .before .before .pre)
 
 even : (c : tie.After-distance) → let w = c .before .before .before .walk .result in let l = c .distance .result in
