@@ -1,6 +1,8 @@
 // The tally's counters: what the crate figures defines, counted. `tally` is the library's function: it takes any dimension and any counters, and tests them.
 // The others are its own. They go through the tables by number, label each once as job 0 by rule 3, and add what the walks of all pairs of working nodes come
 // to. A walk's kind is the place of its counter: that it is below 4 is demand 3.
+#![tactic(auto)]
+
 ghost use Rattle.std.specs.Prelude.{◌*◌, ◌%◌, ◌^◌, ◌≤◌, ◌<◌, length, replicate, ◌≡◌};
 ghost use Rattle.counters.specs.Helpers.{Room, Tallying, kind_of, plus, table_adds, walk_in, walks_to};
 ghost use Rattle.counters.specs.Tally.{counters_after, is_tallied, tally_refusal};

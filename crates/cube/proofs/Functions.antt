@@ -8,21 +8,29 @@ use Rattle.cube.specs.Allowed.{AsksNothing, Function, Nothing}
 use Rattle.cube.proofs.Contracts.{Says}
 use Rattle.cube.specs.Cube.{dist, flip}
 use Rattle.cube.specs.Tables.{is_dimension, label_count, node_bit, table_len, unused_set}
-use Rattle.cube.proofs.distance as distance-claims
-use Rattle.cube.proofs.is_dimension
-use Rattle.cube.proofs.nodes as nodes-claims
-use Rattle.cube.proofs.neighbour as neighbour-claims
-use Rattle.cube.proofs.table_len
-use Rattle.cube.proofs.node_bit
-use Rattle.cube.proofs.unused_set
-use Rattle.cube.proofs.count_of
+use Rattle.cube.specs.contracts.distance as distance-claims
+use Rattle.cube.proofs.distance.Reads as distance-claims-reads
+use Rattle.cube.specs.contracts.is_dimension
+use Rattle.cube.proofs.is_dimension.Reads as is_dimension-reads
+use Rattle.cube.specs.contracts.nodes as nodes-claims
+use Rattle.cube.proofs.nodes.Reads as nodes-claims-reads
+use Rattle.cube.specs.contracts.neighbour as neighbour-claims
+use Rattle.cube.proofs.neighbour.Reads as neighbour-claims-reads
+use Rattle.cube.specs.contracts.table_len
+use Rattle.cube.proofs.table_len.Reads as table_len-reads
+use Rattle.cube.specs.contracts.node_bit
+use Rattle.cube.proofs.node_bit.Reads as node_bit-reads
+use Rattle.cube.specs.contracts.unused_set
+use Rattle.cube.proofs.unused_set.Reads as unused_set-reads
+use Rattle.cube.specs.contracts.count_of
+use Rattle.cube.proofs.count_of.Reads as count_of-reads
 
 abbrev pub distance : Function distance-claims.ended (ℕ × ℕ) ℕ Nothing
 distance =
     record {
-      clauses = λ w. distance-claims.clauses w.𝓛 w.𝓜.mem w.𝓡.run;
-      asked = distance-claims.Reads.Asked;
-      post = distance-claims.Reads.Post;
+      clauses = λ w. distance-claims.clauses w.𝓛 w.𝓜.mem w.𝓡.returns;
+      asked = distance-claims-reads.Asked;
+      post = distance-claims-reads.Post;
       handed = λ κs a. (a.0, a.1.0);
       answered = λ κs r. r;
       left = λ κs e. tt;
@@ -37,9 +45,9 @@ distance_says = record { says = λ κs a r e p. (p, refl) }
 abbrev pub is-dimension : Function is_dimension.ended ℕ Bool Nothing
 is-dimension =
     record {
-      clauses = λ w. is_dimension.clauses w.𝓛 w.𝓜.mem w.𝓡.run;
-      asked = is_dimension.Reads.Asked;
-      post = is_dimension.Reads.Post;
+      clauses = λ w. is_dimension.clauses w.𝓛 w.𝓜.mem w.𝓡.returns;
+      asked = is_dimension-reads.Asked;
+      post = is_dimension-reads.Post;
       handed = λ κs a. a.0;
       answered = λ κs r. r;
       left = λ κs e. tt;
@@ -54,9 +62,9 @@ is_dimension_says = record { says = λ κs a r e p. (p, refl) }
 abbrev pub nodes : Function nodes-claims.ended ℕ ℕ Nothing
 nodes =
     record {
-      clauses = λ w. nodes-claims.clauses w.𝓛 w.𝓜.mem w.𝓡.run;
-      asked = nodes-claims.Reads.Asked;
-      post = nodes-claims.Reads.Post;
+      clauses = λ w. nodes-claims.clauses w.𝓛 w.𝓜.mem w.𝓡.returns;
+      asked = nodes-claims-reads.Asked;
+      post = nodes-claims-reads.Post;
       handed = λ κs a. a.0;
       answered = λ κs r. r;
       left = λ κs e. tt;
@@ -68,9 +76,9 @@ nodes_says = record { says = λ κs a r e p. (p, refl) }
 abbrev pub neighbour : Function neighbour-claims.ended (ℕ × ℕ) ℕ Nothing
 neighbour =
     record {
-      clauses = λ w. neighbour-claims.clauses w.𝓛 w.𝓜.mem w.𝓡.run;
-      asked = neighbour-claims.Reads.Asked;
-      post = neighbour-claims.Reads.Post;
+      clauses = λ w. neighbour-claims.clauses w.𝓛 w.𝓜.mem w.𝓡.returns;
+      asked = neighbour-claims-reads.Asked;
+      post = neighbour-claims-reads.Post;
       handed = λ κs a. (a.0, a.1.0);
       answered = λ κs r. r;
       left = λ κs e. tt;
@@ -82,9 +90,9 @@ neighbour_says = record { says = λ κs a r e p. (p, refl) }
 abbrev pub table-len : Function table_len.ended ℕ ℕ Nothing
 table-len =
     record {
-      clauses = λ w. table_len.clauses w.𝓛 w.𝓜.mem w.𝓡.run;
-      asked = table_len.Reads.Asked;
-      post = table_len.Reads.Post;
+      clauses = λ w. table_len.clauses w.𝓛 w.𝓜.mem w.𝓡.returns;
+      asked = table_len-reads.Asked;
+      post = table_len-reads.Post;
       handed = λ κs a. a.0;
       answered = λ κs r. r;
       left = λ κs e. tt;
@@ -96,9 +104,9 @@ table_len_says = record { says = λ κs a r e p. (p, refl) }
 abbrev pub node-bit : Function node_bit.ended (List ℕ × ℕ) Bool Nothing
 node-bit =
     record {
-      clauses = λ w. node_bit.clauses w.𝓛 w.𝓜.mem w.𝓡.run;
-      asked = node_bit.Reads.Asked;
-      post = node_bit.Reads.Post;
+      clauses = λ w. node_bit.clauses w.𝓛 w.𝓜.mem w.𝓡.returns;
+      asked = node_bit-reads.Asked;
+      post = node_bit-reads.Post;
       handed = λ κs a. (a.0.now, a.1.0);
       answered = λ κs r. r;
       left = λ κs e. tt;
@@ -110,9 +118,9 @@ node_bit_says = record { says = λ κs a r e p. (p, refl) }
 abbrev pub unused-set : Function unused_set.ended (ℕ × List ℕ) Bool Nothing
 unused-set =
     record {
-      clauses = λ w. unused_set.clauses w.𝓛 w.𝓜.mem w.𝓡.run;
-      asked = unused_set.Reads.Asked;
-      post = unused_set.Reads.Post;
+      clauses = λ w. unused_set.clauses w.𝓛 w.𝓜.mem w.𝓡.returns;
+      asked = unused_set-reads.Asked;
+      post = unused_set-reads.Post;
       handed = λ κs a. (a.0, a.1.0.now);
       answered = λ κs r. r;
       left = λ κs e. tt;
@@ -124,9 +132,9 @@ unused_set_says = record { says = λ κs a r e p. (p, refl) }
 abbrev pub count-of : Function count_of.ended (List ℕ × ℕ) ℕ Nothing
 count-of =
     record {
-      clauses = λ w. count_of.clauses w.𝓛 w.𝓜.mem w.𝓡.run;
-      asked = count_of.Reads.Asked;
-      post = count_of.Reads.Post;
+      clauses = λ w. count_of.clauses w.𝓛 w.𝓜.mem w.𝓡.returns;
+      asked = count_of-reads.Asked;
+      post = count_of-reads.Post;
       handed = λ κs a. (a.0.now, a.1.0);
       answered = λ κs r. r;
       left = λ κs e. tt;

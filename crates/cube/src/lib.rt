@@ -1,5 +1,7 @@
 // The cube: nodes as numbers, the neighbour across a dimension, the Hamming distance, the bits of a fault table, and the nodes of a label.
 // Nothing here refuses: the crates above test what they are handed before they ask.
+#![tactic(auto)]
+
 ghost use Rattle.std.specs.Prelude.{◌/◌, ◌^◌, ◌<◌, length, ◌≡◌};
 ghost use Rattle.cube.specs.Cube.{dist, flip};
 ghost use Rattle.cube.specs.Tables.{is_dimension, label_count, node_bit, table_len, unused_set};

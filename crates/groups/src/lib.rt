@@ -1,4 +1,6 @@
 // Numbers in groups of seven bits, as a notice and the listing's pairs write them.
+#![tactic(auto)]
+
 ghost use Rattle.std.specs.Prelude.{◌≡◌};
 ghost use Rattle.groups.specs.Number.{number_at};
 

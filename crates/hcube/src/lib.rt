@@ -1,5 +1,7 @@
 // What C calls: plain numbers and byte slices in, one number out. include/hcube.h is the C side of it. C's numbers are widened and never
 // narrowed, so none is mistaken for a smaller one.
+#![tactic(auto)]
+
 ghost use Rattle.std.specs.Prelude.{◌<◌, ◌≤◌, length, ◌≡◌};
 ghost use Rattle.cube.specs.Tables.{tab};
 ghost use Rattle.hcube.specs.Answers.{crossed_number, dimension_number, done_number, has_row, hop_number, hop_reason_number, label_number, node_reason_number, notice_number, packed, packed_notice, packed_reason, row_after, row_byte, walk_number, walked_by, written_number};

@@ -1,6 +1,8 @@
 // One hop: the decision at a node, for a job. `hop` is the question: it takes any numbers and bytes, and tests them. What reads labels is handed the job's
 // half alone. `place_refusal` and `hop_at` are lent to the walk, which tests that half once; `place_refusal`, `near_refusal`, `gather` and `chosen` to the crate
 // why, which says which scan took a hop; `near_refusal`, `gather`, `lowest` and `last_hop` to the hop by networks. The other functions are theirs.
+#![tactic(auto)]
+
 ghost use Rattle.std.specs.Prelude.{◌+◌, ◌*◌, ◌<◌, ◌≤◌, ◌^◌, ltb, get_or, length, replicate, ◌≢◌, ◌≡◌};
 ghost use Rattle.cube.specs.Count.{least, some};
 ghost use Rattle.cube.specs.Cube.{flip};

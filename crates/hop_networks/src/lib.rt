@@ -1,5 +1,7 @@
 // One hop by networks: the decision of Algorithm ROUTE_C at a node, for a job and on a board. `hop_networks` is the question: it takes any numbers and bytes,
 // and tests them. `is_board`, `board_refusal`, `list_refusal`, `pick_at` and `after` are lent to the walk by networks. The other functions are theirs.
+#![tactic(auto)]
+
 ghost use Rattle.std.specs.Prelude.{◌<◌, ◌≤◌, ◌^◌, get_or, length, ◌≢◌, ◌≡◌};
 ghost use Rattle.blocks.specs.Blocks as blocks;
 ghost use Rattle.blocks.specs.Phase as phases;

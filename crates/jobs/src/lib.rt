@@ -1,5 +1,7 @@
 // Two jobs on one cabinet: both label tables stand in one lent buffer, job 0's first, and a question reads the half of its own job alone. Nothing here
 // refuses: the crates above test what they are handed before they ask.
+#![tactic(auto)]
+
 ghost use Rattle.std.specs.Prelude.{◌+◌, ◌*◌, ◌<◌, ◌^◌, length, ◌≡◌};
 ghost use Rattle.jobs.specs.Jobs.{Halved, half, is_job, label_bytes};
 

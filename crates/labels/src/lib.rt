@@ -1,6 +1,8 @@
 // Labelling: which working nodes are safe, ordinarily unsafe or strongly unsafe. Here are its refusals and its loop over the rounds; the passes that the loop
 // makes over the job's half of the lent label buffer are in the crate passes. Only `label` and its refusals know that there are two jobs: the loop is handed
 // the half of one. The refusals are lent to the crate why.
+#![tactic(auto)]
+
 ghost use Rattle.std.specs.Prelude.{◌≤◌, length, ◌≡◌};
 ghost use Rattle.cube.specs.Tables.{table_len};
 ghost use Rattle.labels.specs.Labelling.{label_refusal, labelled, labels_after};

@@ -1,5 +1,7 @@
 // The lines of the listing program and of the tally, made in a lent buffer of 1,024 bytes, which is room for any of them. A `put_` function writes at a
 // place and answers the place behind; the others make a line at the front of the buffer and answer its end.
+#![tactic(auto)]
+
 ghost use Rattle.std.specs.Prelude.{◌+◌, ◌≤◌, length, take, ◌++◌, ◌≡◌};
 ghost use Rattle.cube.specs.Tables.{label_count};
 ghost use Rattle.lines.specs.Lines.{counts_text, cube_line, end_text, figures_line, pair_line, progress_line, room, row_text, size_line, too_long};

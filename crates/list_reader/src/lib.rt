@@ -1,4 +1,6 @@
 // List text, read: a text such as `0-3,8` becomes a fault table. One pass over the entries judges the whole text and writes nothing; a second one sets bits.
+#![tactic(auto)]
+
 ghost use Rattle.std.specs.Prelude.{◌+◌, ◌*◌, ◌-◌, ◌≤◌, ◌<◌, drop, get_or, length, take, false, true, ◌≡◌};
 ghost use Rattle.cube.specs.Refusal.{first};
 ghost use Rattle.list_reader.specs.Front.{above, between, bytes_at, capped, closing, entry_at, front, high_at, lead, range_on, with_parts};

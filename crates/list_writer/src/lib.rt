@@ -1,5 +1,7 @@
 // List text, written: the text of a fault table, such as `0-3,8`, goes to the front of a lent buffer. One pass over the runs measures it, so that its length
 // is known before the first byte is written; a second pass writes.
+#![tactic(auto)]
+
 ghost use Rattle.std.specs.Prelude.{◌+◌, ◌*◌, ◌-◌, ◌≤◌, ◌<◌, length, ◌≡◌};
 ghost use Rattle.cube.specs.Over.{over, over_at};
 ghost use Rattle.cube.specs.Tables.{node_bit};

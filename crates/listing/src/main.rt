@@ -1,5 +1,7 @@
 // The listing program (RULES, The listing program): one notice from standard input, then pairs of source and destination. The lines are made by `lines`
 // and `printed`, whose contracts give their bytes; this program reads, goes from pair to pair, and writes each line as it was made.
+#![tactic(auto)]
+
 ghost use Rattle.std.specs.Prelude.{◌≤◌, length, replicate, ◌≡◌};
 ghost use Rattle.lines.specs.Lines.{room};
 ghost use Rattle.notice.specs.Notice.{dimension_of, notice_of};

@@ -1,5 +1,7 @@
 // Notices: the dimension of one, by which a caller sizes his fault table; the reader, which makes a fault table of one; and the tail question, for notices
 // that stand back to back.
+#![tactic(auto)]
+
 ghost use Rattle.std.specs.Prelude.{◌+◌, ◌*◌, ◌/◌, ◌<◌, ◌≤◌, drop, length, replicate, true, ◌≡◌};
 ghost use Rattle.groups.specs.Number.{place_in, refusal_in};
 ghost use Rattle.notice.specs.Addresses.{addresses_at, addresses_end, rising, with_bit, with_bits};

@@ -3,6 +3,8 @@
 // nothing in the low seven bits, where the test looks. The last pass tells ORDINARY from MARKED and DRAINING from OUT; PLAIN, MARKED and OUT stay as safe,
 // strongly unsafe and faulty. A node that the job closes is faulty here. The passes are handed the half of one job and know of no other; they are lent to
 // the crate labels, and to the crate why, which watches one node between them.
+#![tactic(auto)]
+
 ghost use Rattle.std.specs.Prelude.{◌/◌, ◌<◌, ◌≤◌, ◌^◌, eqb, length, cond, ◌||◌, ◌≡◌};
 ghost use Rattle.cube.specs.Count.{count, some};
 ghost use Rattle.cube.specs.Cube.{flip};

@@ -1,5 +1,7 @@
 // What the listing program prints: a line for the notice at the front of the input, and a line for each pair behind it. `listing` of specs/Printed.antt is
 // all of it; the program writes it line by line.
+#![tactic(auto)]
+
 ghost use Rattle.std.specs.Prelude.{◌≤◌, length, replicate, take, ◌≡◌};
 ghost use Rattle.notice.specs.Notice.{dimension_of, notice_of, tail_at};
 ghost use Rattle.labels.specs.Labelling.{label_refusal, labels_after};

@@ -1,5 +1,7 @@
 // A notice reader that keeps the lent bytes and its place together, with one action: the next number.
 // A refusal leaves its place as it stood. The number reader does the work; `next` only keeps the place.
+#![tactic(auto)]
+
 ghost use Rattle.std.specs.Prelude.{◌≡◌};
 ghost use Rattle.groups.specs.Number.{number_at};
 ghost use Rattle.reader.specs.Reader.{next_place, place_after};

@@ -1,6 +1,8 @@
 // Two notices back to back, and then a number that is ill written, read number by number through the reader.
 // Each line has the place that the reader had, and the value there, or the refusal and the place that it answers. The last refusal is asked for twice:
 // its place stays.
+#![tactic(auto)]
+
 use groups::Number;
 use libc::STDOUT_FILENO;
 use reader::next_at;

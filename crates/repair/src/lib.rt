@@ -1,6 +1,8 @@
 // Asking the neighbours: a fault table is repaired by what the nodes that it calls working say of their neighbours. Everything is tested before the first
 // byte is written. The nodes are heard in rising order, so whoever names a node first is the lowest that names it: a node that is in the result already is an
 // old fault, or it was named before.
+#![tactic(auto)]
+
 ghost use Rattle.std.specs.Prelude.{◌+◌, ◌/◌, ◌^◌, ◌≤◌, ◌<◌, length, replicate, set, cond, ◌≡◌};
 ghost use Rattle.cube.specs.Tables.{node_bit, table_len};
 ghost use Rattle.notice.specs.Addresses.{with_bit};

@@ -1,6 +1,8 @@
 // The tally program (RULES, The tally): for each cube of dimensions 1 to 4 its line, and then a line for each number of faults with the six figures over all
 // tables of so many. The figures are counted by `counters` and the lines made by `lines`, whose contracts give them; this program goes from cube to cube and
 // writes each line as it was made.
+#![tactic(auto)]
+
 ghost use Rattle.std.specs.Prelude.{◌≤◌, length, ◌≡◌};
 ghost use Rattle.figures.specs.Figures.{counters_of, tally_of};
 ghost use Rattle.lines.specs.Lines.{room};

@@ -1,5 +1,7 @@
 // The walk of a job: a message is moved by hops until a decision is no hop. `walk` and `walk_for` are the questions: they take any numbers and bytes, and
 // test them. The other functions are theirs, and what reads labels is handed the job's half alone; `table_refusal` is lent to the walk by networks too.
+#![tactic(auto)]
+
 ghost use Rattle.std.specs.Prelude.{◌<◌, length, ◌≡◌};
 ghost use Rattle.cube.specs.Count.{larger, largest};
 ghost use Rattle.cube.specs.Tables.{label_in};

@@ -1,6 +1,8 @@
 // The walk by networks, for a job and on a board: hops of Algorithm ROUTE_C until a decision is no hop, or is one that the board has no network for.
 // `walk_networks` is the question: it takes any numbers and bytes, and tests them. The other functions are its own, and what reads labels is handed the job's
 // half alone.
+#![tactic(auto)]
+
 ghost use Rattle.std.specs.Prelude.{◌≤◌, get_or, length, ◌≡◌};
 ghost use Rattle.blocks.specs.Board.{hops_on, last_on, number_at};
 ghost use Rattle.cube.proofs.Front.{front};

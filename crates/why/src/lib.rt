@@ -1,6 +1,8 @@
 // The two questions that say why. `why_node` labels the nodes as labelling does, by the same passes, and watches one node: when a round marks it, the marks of
 // the earlier rounds are still in the table, and the node's cause is read from them. `why_hop` makes the tests and the scans of a hop, and answers which scan
 // took it. Both take any numbers and bytes, and test them; what reads labels is handed the job's half alone.
+#![tactic(auto)]
+
 ghost use Rattle.std.specs.Prelude.{◌≤◌, ◌<◌, leb, length, ◌≡◌};
 ghost use Rattle.causes.specs.Cause.{bad_cause, cause_with, from};
 ghost use Rattle.cube.specs.Count.{count};

@@ -1,5 +1,7 @@
 // Notices, written: the notice of a fault table goes to the front of a lent buffer. One pass over the nodes measures it, so that its length is known before
 // the first byte is written; a second pass writes.
+#![tactic(auto)]
+
 ghost use Rattle.std.specs.Prelude.{◌+◌, ◌*◌, ◌<◌, ◌≤◌, length, ◌≡◌};
 ghost use Rattle.cube.specs.Over.{over, over_at};
 ghost use Rattle.cube.specs.Refusal.{first};

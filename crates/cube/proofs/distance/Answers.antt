@@ -2,12 +2,8 @@
 -- `dist_count` of proofs/Cube.antt.
 use mathlib.Core.Path.{refl}
 use Rattle.cube.specs.Cube.{dist}
-use Rattle.cube.proofs.distance.Statement.{statement}
-use Rattle.cube.proofs.distance.Tie as tie
+use Rattle.cube.proofs.distance.Goals as goal
 
-returns : tie.Need-returns
+pub returns : goal.returns
 unfolding dist
 returns c = refl
-
-pub distance-spec : {M : Type 1} → statement M
-distance-spec = tie.close (tie.spec returns)
