@@ -3,7 +3,7 @@
 -- neighbours do not work, so at most 2 ^ n - 2 nodes do.
 use mathlib.Core.Path.{◌≡◌, ◌∙◌}
 use mathlib.Core.Logic.{◌⊎◌, inl, inr, ⊎_elim, ◌↔◌}
-use mathlib.Core.Bool.{Bool, true, false, not, or_false, ◌&&◌, ◌||◌}
+use mathlib.Core.Bool.{Bool, true, false, not, or-false, ◌&&◌, ◌||◌}
 use Prim.Native.Nat.{ℕ, ◌+◌, ◌^◌, ◌≤◌, ◌<◌}
 use native.Mathlib.Numerals.{add-one}
 use native.Mathlib.Omega.{arith}
@@ -33,7 +33,7 @@ module _ (n k : ℕ) (F : ℕ → Bool) where
   -- without marks, the rule counts the neighbours that do not work
   pub unmarked : (x : ℕ) → count n (λ i. F (flip i x) || marked n k F 0 (flip i x)) ≡ out x
   unmarked x =
-      count_same n (λ i. F (flip i x) || marked n k F 0 (flip i x)) (λ i. F (flip i x)) (λ i l. rw (marked_zero n k F (flip i x)) (or_false (F (flip i x))))
+      count_same n (λ i. F (flip i x) || marked n k F 0 (flip i x)) (λ i. F (flip i x)) (λ i l. rw (marked_zero n k F (flip i x)) (or-false (F (flip i x))))
 
   pub first : 2 ≤ k → (x : ℕ) → (marked n k F 1 x ≡ true) ↔ ((F x ≡ false) × (2 ≤ out x))
   first h x = (said, λ e. two_marked x e.0 e.1)

@@ -3,7 +3,7 @@
 -- they are, so every later one is quiet too.
 use mathlib.Core.Path.{◌≡◌, refl, sym, ap, ap₂, ◌∙◌}
 use mathlib.Core.Logic.{◌⊎◌, inl, inr, ⊎_elim, ◌↔◌}
-use mathlib.Core.Bool.{Bool, true, false, not, or_false, ◌&&◌, ◌||◌}
+use mathlib.Core.Bool.{Bool, true, false, not, or-false, ◌&&◌, ◌||◌}
 use Prim.Native.Nat.{ℕ, zero, suc, ◌+◌, ◌^◌, ◌≤◌, ◌<◌}
 use native.Mathlib.Nat.{eq-or-lt_of_le}
 use native.Mathlib.Omega.{arith}
@@ -117,7 +117,7 @@ module _ (n k : ℕ) (F : ℕ → Bool) where
   unfolding quiet
   quiet_same r q x h =
       let new = newly n k F (marked n k F r) in
-      marked_suc r x ∙ rw (none_counted (2 ^ n) new (eqb-true (count (2 ^ n) new) 0 q) x h) (or_false (marked n k F r x))
+      marked_suc r x ∙ rw (none_counted (2 ^ n) new (eqb-true (count (2 ^ n) new) 0 q) x h) (or-false (marked n k F r x))
 
   -- so the next one meets them again
   quiet_next : (r : ℕ) → quiet n k F r ≡ true → quiet n k F (suc r) ≡ true
