@@ -7,16 +7,19 @@ use Prim.Native.Nat.{ℕ, ◌+◌, ◌*◌, ◌^◌}
 use Rattle.cube.specs.Allowed.{AsksNothing, Function, Nothing}
 use Rattle.cube.proofs.Contracts.{Says}
 use Rattle.jobs.specs.Jobs as spec
-use Rattle.jobs.proofs.half as half-claims
-use Rattle.jobs.proofs.is_job
-use Rattle.jobs.proofs.label_bytes
+use Rattle.jobs.specs.contracts.half as half-claims
+use Rattle.jobs.proofs.half.Reads as half-claims-reads
+use Rattle.jobs.specs.contracts.is_job
+use Rattle.jobs.proofs.is_job.Reads as is_job-reads
+use Rattle.jobs.specs.contracts.label_bytes
+use Rattle.jobs.proofs.label_bytes.Reads as label_bytes-reads
 
 abbrev pub is-job : Function is_job.ended ℕ Bool Nothing
 is-job =
     record {
-      clauses = λ w. is_job.clauses w.𝓛 w.𝓜.mem w.𝓡.run;
-      asked = is_job.Reads.Asked;
-      post = is_job.Reads.Post;
+      clauses = λ w. is_job.clauses w.𝓛 w.𝓜.mem w.𝓡.returns;
+      asked = is_job-reads.Asked;
+      post = is_job-reads.Post;
       handed = λ κs a. a.0;
       answered = λ κs r. r;
       left = λ κs e. tt;
@@ -31,9 +34,9 @@ is_job_says = record { says = λ κs a r e p. (p, refl) }
 abbrev pub label-bytes : Function label_bytes.ended ℕ ℕ Nothing
 label-bytes =
     record {
-      clauses = λ w. label_bytes.clauses w.𝓛 w.𝓜.mem w.𝓡.run;
-      asked = label_bytes.Reads.Asked;
-      post = label_bytes.Reads.Post;
+      clauses = λ w. label_bytes.clauses w.𝓛 w.𝓜.mem w.𝓡.returns;
+      asked = label_bytes-reads.Asked;
+      post = label_bytes-reads.Post;
       handed = λ κs a. a.0;
       answered = λ κs r. r;
       left = λ κs e. tt;
@@ -46,9 +49,9 @@ label_bytes_says = record { says = λ κs a r e p. (p, refl) }
 abbrev pub half : Function half-claims.ended (ℕ × ℕ × List ℕ × (ℕ × ℕ)) (List ℕ × (ℕ × ℕ)) Nothing
 half =
     record {
-      clauses = λ w. half-claims.clauses w.𝓛 w.𝓜.mem w.𝓡.run;
-      asked = half-claims.Reads.Asked;
-      post = half-claims.Reads.Post;
+      clauses = λ w. half-claims.clauses w.𝓛 w.𝓜.mem w.𝓡.returns;
+      asked = half-claims-reads.Asked;
+      post = half-claims-reads.Post;
       handed = λ κs a. (a.0, a.1.0, a.1.1.0.now, a.1.1.0.ref_ptr);
       answered = λ κs r. (r.now, r.ref_ptr);
       left = λ κs e. tt;
