@@ -1,5 +1,5 @@
 -- `half` hands back the half of a job: in bytes, and as a place of the caller's memory.
-use Rattle.jobs.proofs.Jobs.{ends_within, part_is_half}
+use Rattle.jobs.proofs.Halves.{ends_within, part_is_half}
 use Rattle.jobs.proofs.half.Goals as goal
 
 pub slice_bounds-result-end : goal.slice_bounds-result-end
