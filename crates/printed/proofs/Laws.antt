@@ -163,7 +163,7 @@ none_line = refl
 
 none_pair : (labels : List ℕ) → pair_lines 4 1 labels (0x01 ∷ 0x00 ∷ 0x00 ∷ 0x81 ∷ []) 2 ≡ text "input refused 9 3\n"
 unfolding pair_lines line_at line_from next_at next_from number_at decimal width least
-none_pair labels = refl
+none_pair _ = refl
 
 sample_input : listing (0x01 ∷ 0x00 ∷ 0x00 ∷ 0x81 ∷ [])
     ≡ text "cube 1 faulty 0 safe 2 ordinary 0 strong 0 rounds 1\n" ++ text "input refused 9 3\n"
