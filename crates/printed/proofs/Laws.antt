@@ -32,7 +32,7 @@ use Rattle.walk.specs.Walk.{hops, last, onto, refused, row, spot, stops, turn, w
 use Rattle.lines.specs.Lines.{cube_line, input_refused, notice_refused, pair_line, row_text, too_long}
 use Rattle.printed.specs.Printed.{cabinet_of, first_line, head_line, labels_in, line_at, line_from, listing, next_at, next_from, pair_lines, pairs_of}
 use Rattle.lines.specs.Text.{decimal, text, width}
-use Rattle.printed.proofs.Heads.{no_alarm}
+use Rattle.printed.proofs.Alarm.{no_alarm}
 use Rattle.printed.proofs.Pairs.{first_read, first_refused, next_beyond, second_refused}
 use Rattle.printed.specs.Laws.{ListingLaws, sample_bytes, sample_lines}
 
