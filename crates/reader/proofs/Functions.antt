@@ -1,7 +1,6 @@
 -- The crate's public functions as they are seen from outside, each with the claims of its clauses, and what its contract says: the answer, and what is
--- left of what was lent, for whatever is handed; and that an entry point asks nothing of its caller. The methods `new` and `next` hold a borrow, and
--- of such a function the check makes no claims to take: they are taken here from its clauses in the same way, by the kit's reading of a clause, which
--- gives the facts that it states.
+-- left of what was lent, for whatever is handed; and that an entry point asks nothing of its caller. What the clauses of the methods `new` and `next`
+-- claim is taken here from those clauses, by the kit's reading of a clause, which gives the facts that it states.
 use mathlib.Core.List.{List}
 use mathlib.Core.Path.{refl, ap₂}
 use Prim.Native.Nat.{ℕ}
