@@ -8,13 +8,15 @@ use Rattle.printed.specs.Printed.{head_line, labels_in, line_at, next_at}
 use Rattle.printed.specs.declared.Head.{Head}
 use Rattle.printed.specs.declared.Line.{Line}
 use Rattle.printed.proofs.Functions as printed
-use Rattle.printed.proofs.head_line as head-line
-use Rattle.printed.proofs.line_at as line-at
+use Rattle.printed.specs.contracts.head_line as head-line
+use Rattle.printed.proofs.head_line.Reads as head-line-reads
+use Rattle.printed.specs.contracts.line_at as line-at
+use Rattle.printed.proofs.line_at.Reads as line-at-reads
 
 pub record Listed : Type 2 where
   pub head_tied :
-      Tied printed.head-line (λ w. head-line.clauses w.𝓛 w.𝓜.mem w.𝓡.run) head-line.Reads.Asked head-line.Reads.Post
-  pub line_tied : Tied printed.line-at (λ w. line-at.clauses w.𝓛 w.𝓜.mem w.𝓡.run) line-at.Reads.Asked line-at.Reads.Post
+      Tied printed.head-line (λ w. head-line.clauses w.𝓛 w.𝓜.mem w.𝓡.returns) head-line-reads.Asked head-line-reads.Post
+  pub line_tied : Tied printed.line-at (λ w. line-at.clauses w.𝓛 w.𝓜.mem w.𝓡.returns) line-at-reads.Asked line-at-reads.Post
   -- for the notice: its line stands at the front of the buffer, and beside it are the dimension and the labels of its cube
   pub head :
       {bytes faults labels out labels' out' : List ℕ} {h : Head} → May printed.head-line (bytes, faults, labels, out) h (labels', out')
