@@ -7,14 +7,15 @@ use Rattle.cube.specs.Allowed.{AsksNothing, Function, Nothing}
 use Rattle.cube.proofs.Contracts.{Says}
 use Rattle.groups.specs.Number.{number_at}
 use Rattle.groups.specs.declared.Number.{Number}
-use Rattle.groups.proofs.number_at
+use Rattle.groups.specs.contracts.number_at
+use Rattle.groups.proofs.number_at.Reads as number_at-reads
 
 abbrev pub number-at : Function number_at.ended (List ℕ × ℕ) Number Nothing
 number-at =
     record {
-      clauses = λ w. number_at.clauses w.𝓛 w.𝓜.mem w.𝓡.run;
-      asked = number_at.Reads.Asked;
-      post = number_at.Reads.Post;
+      clauses = λ w. number_at.clauses w.𝓛 w.𝓜.mem w.𝓡.returns;
+      asked = number_at-reads.Asked;
+      post = number_at-reads.Post;
       handed = λ κs a. (a.0.now, a.1.0);
       answered = λ κs r. r;
       left = λ κs e. tt;

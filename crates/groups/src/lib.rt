@@ -5,7 +5,7 @@ ghost use Rattle.std.specs.Prelude.{◌≡◌};
 ghost use Rattle.groups.specs.Number.{number_at};
 
 // One number: its value with the next place, or the refusal, 9 or 10, with the place where the number begins.
-#[derive(Drop)]
+#[derive(Clone, Copy, Drop)]
 pub enum Number {
     Value(usize, usize),
     Refused(u32, usize),

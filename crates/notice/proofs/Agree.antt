@@ -69,7 +69,7 @@ module _ (s t : List ℕ) where
 
   -- the dimension by itself and the reader agree too
   pub dimension_refused : (k at : ℕ) → dimension_at s ≡ number.Refused k at → noticed s t ≡ Refused k at
-  dimension_refused k at e = sym (outcome_number s t (sym e)).0
+  dimension_refused k at e = sym (outcome_number s t (sym e)).answer
 
   pub dimension_read : (n next n' m taken : ℕ) → dimension_at s ≡ number.Value n next → noticed s t ≡ Notice n' m taken → n' ≡ n
   unfolding noticed

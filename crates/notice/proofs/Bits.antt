@@ -2,7 +2,7 @@
 -- set has node k's bit exactly where k is one of the addresses.
 use mathlib.Core.Path.{◌≡◌, refl, sym, ap, ◌∙◌}
 use mathlib.Core.Logic.{◌⊎◌, inl, inr}
-use mathlib.Core.Bool.{true, false, xor, ◌||◌, or_false, or_assoc}
+use mathlib.Core.Bool.{true, false, xor, ◌||◌, or-false, or_assoc}
 use mathlib.Core.List.{List, [], ◌∷◌}
 use Prim.Native.Nat.{ℕ, zero, suc, ◌+◌, ◌*◌, ◌/◌, ◌%◌, ◌^◌, ◌<◌}
 use native.Mathlib.Omega.{arith}
@@ -64,7 +64,7 @@ pub bit_with : (t : List ℕ) (a k : ℕ) → a / 8 < length t → node_bit (wit
 unfolding node_bit with_bit
 bit_with t a k h = elim (ℕ_discrete (k / 8) (a / 8)) [
   | yes e ↦ rw (e, get_or-set_same) (bit-or (k % 8) (get_or t (a / 8) 0) (2 ^ (a % 8)) ∙ rw (bit_power, same_byte k a e))
-  | no d ↦ rw (get_or-set_other t (a / 8) (k / 8) _ 0 d, ne_eqb k a (λ q. d (ap (λ (j : ℕ). j / 8) q))) (sym (or_false (bit (k % 8) (get_or t (k / 8) 0))))
+  | no d ↦ rw (get_or-set_other t (a / 8) (k / 8) _ 0 d, ne_eqb k a (λ q. d (ap (λ (j : ℕ). j / 8) q))) (sym (or-false (bit (k % 8) (get_or t (k / 8) 0))))
 ]
 
 pub length_bits : (t l : List ℕ) → length (with_bits t l) ≡ length t
@@ -74,7 +74,7 @@ length_bits t (a ∷ l) = length_bits (with_bit t a) l ∙ length_with t a
 
 pub bits_with : (t : List ℕ) (base : ℕ) (l : List ℕ) (k : ℕ) → rising base (8 * length t) l ≡ true → node_bit (with_bits t l) k ≡ (node_bit t k || among l k)
 unfolding with_bits among
-bits_with t base [] k e = sym (or_false (node_bit t k))
+bits_with t base [] k e = sym (or-false (node_bit t k))
 bits_with t base (a ∷ l) k e =
     let r = rises base (8 * length t) a l e in
     bits_with (with_bit t a) (a + 1) l k (rw (length_with t a) r.2) ∙ rw (bit_with t a k (omega (arith, r.1))) (or_assoc (node_bit t k) (eqb k a) (among l k))

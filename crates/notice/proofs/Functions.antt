@@ -10,18 +10,23 @@ use Rattle.groups.specs.declared.Number.{Number}
 use Rattle.notice.specs.Addresses.{with_bit}
 use Rattle.notice.specs.Notice.{dimension_at, noticed, table_after, tail_at}
 use Rattle.notice.specs.declared.Noticed.{Noticed}
-use Rattle.notice.proofs.clear as clear-claims
-use Rattle.notice.proofs.dimension as dimension-claims
-use Rattle.notice.proofs.read as read-claims
-use Rattle.notice.proofs.set_bit
-use Rattle.notice.proofs.tail as tail-claims
+use Rattle.notice.specs.contracts.clear as clear-claims
+use Rattle.notice.proofs.clear.Reads as clear-claims-reads
+use Rattle.notice.specs.contracts.dimension as dimension-claims
+use Rattle.notice.proofs.dimension.Reads as dimension-claims-reads
+use Rattle.notice.specs.contracts.read as read-claims
+use Rattle.notice.proofs.read.Reads as read-claims-reads
+use Rattle.notice.specs.contracts.set_bit
+use Rattle.notice.proofs.set_bit.Reads as set_bit-reads
+use Rattle.notice.specs.contracts.tail as tail-claims
+use Rattle.notice.proofs.tail.Reads as tail-claims-reads
 
 abbrev pub dimension : Function dimension-claims.ended (List ℕ) Number Nothing
 dimension =
     record {
-      clauses = λ w. dimension-claims.clauses w.𝓛 w.𝓜.mem w.𝓡.run;
-      asked = dimension-claims.Reads.Asked;
-      post = dimension-claims.Reads.Post;
+      clauses = λ w. dimension-claims.clauses w.𝓛 w.𝓜.mem w.𝓡.returns;
+      asked = dimension-claims-reads.Asked;
+      post = dimension-claims-reads.Post;
       handed = λ κs a. a.0.now;
       answered = λ κs r. r;
       left = λ κs e. tt;
@@ -36,9 +41,9 @@ dimension_says = record { says = λ κs a r e p. (p, refl) }
 abbrev pub read : Function read-claims.ended (List ℕ × List ℕ) Noticed (List ℕ)
 read =
     record {
-      clauses = λ w. read-claims.clauses w.𝓛 w.𝓜.mem w.𝓡.run;
-      asked = read-claims.Reads.Asked;
-      post = read-claims.Reads.Post;
+      clauses = λ w. read-claims.clauses w.𝓛 w.𝓜.mem w.𝓡.returns;
+      asked = read-claims-reads.Asked;
+      post = read-claims-reads.Post;
       handed = λ κs a. (a.0.now, a.1.0.now);
       answered = λ κs r. r;
       left = λ κs e. e.1.0.now;
@@ -54,9 +59,9 @@ read_says = record { says = λ κs a r e p. (p.0, p.1) }
 abbrev pub tail : Function tail-claims.ended (List ℕ × (ℕ × ℕ)) (List ℕ × (ℕ × ℕ)) Nothing
 tail =
     record {
-      clauses = λ w. tail-claims.clauses w.𝓛 w.𝓜.mem w.𝓡.run;
-      asked = tail-claims.Reads.Asked;
-      post = tail-claims.Reads.Post;
+      clauses = λ w. tail-claims.clauses w.𝓛 w.𝓜.mem w.𝓡.returns;
+      asked = tail-claims-reads.Asked;
+      post = tail-claims-reads.Post;
       handed = λ κs a. (a.0.now, a.0.ref_ptr);
       answered = λ κs r. (r.now, r.ref_ptr);
       left = λ κs e. tt;
@@ -71,9 +76,9 @@ tail_says = record { says = λ κs a r e p. (ap₂ (λ (s : List ℕ) (q : ℕ �
 abbrev pub clear : Function clear-claims.ended (List ℕ) Nothing (List ℕ)
 clear =
     record {
-      clauses = λ w. clear-claims.clauses w.𝓛 w.𝓜.mem w.𝓡.run;
-      asked = clear-claims.Reads.Asked;
-      post = clear-claims.Reads.Post;
+      clauses = λ w. clear-claims.clauses w.𝓛 w.𝓜.mem w.𝓡.returns;
+      asked = clear-claims-reads.Asked;
+      post = clear-claims-reads.Post;
       handed = λ κs a. a.0.now;
       answered = λ κs r. tt;
       left = λ κs e. e.0.now;
@@ -88,9 +93,9 @@ clear_says = record { says = λ κs a r e p. (refl, p) }
 abbrev pub set-bit : Function set_bit.ended (List ℕ × ℕ) Nothing (List ℕ)
 set-bit =
     record {
-      clauses = λ w. set_bit.clauses w.𝓛 w.𝓜.mem w.𝓡.run;
-      asked = set_bit.Reads.Asked;
-      post = set_bit.Reads.Post;
+      clauses = λ w. set_bit.clauses w.𝓛 w.𝓜.mem w.𝓡.returns;
+      asked = set_bit-reads.Asked;
+      post = set_bit-reads.Post;
       handed = λ κs a. (a.0.now, a.1.0);
       answered = λ κs r. tt;
       left = λ κs e. e.0.now;

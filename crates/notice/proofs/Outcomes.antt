@@ -103,20 +103,20 @@ module _ (s : List ℕ) where
 
   -- the part from a place on, as bytes and as a place of memory
   pub tail_part : (block offset at end : ℕ) → at ≡ end
-      → (take (length s - at) (drop at s) ≡ drop end s) × (◌≡◌ {A = ℕ × ℕ} (block, at + offset) (block, offset + end))
+      → record { bytes : take (length s - at) (drop at s) ≡ drop end s; place : ◌≡◌ {A = ℕ × ℕ} (block, at + offset) (block, offset + end) }
   tail_part block offset at end e =
       let z : at + offset ≡ offset + end = omega arith in
-      (part_drop s at ∙ ap (λ (k : ℕ). drop k s) e, ap (λ (k : ℕ). (block, k)) z)
+      record { bytes = part_drop s at ∙ ap (λ (k : ℕ). drop k s) e; place = ap (λ (k : ℕ). (block, k)) z }
 
 -- ---- the reader
 
 -- what `read` has to show of its answer, and of the table after it
 abbrev pub Outcome : (s t : List ℕ) → Noticed → List ℕ → Type 0
-Outcome s t answer after = (answer ≡ noticed s t) × (after ≡ table_after s t)
+Outcome s t told after = record { answer : told ≡ noticed s t; table : after ≡ table_after s t }
 
 outcome_refused : (s t : List ℕ) {k p : ℕ} → Refused k p ≡ noticed s t → Outcome s t (Refused k p) t
 unfolding table_after
-outcome_refused s t e = (e, rw (sym e))
+outcome_refused s t e = record { answer = e; table = rw (sym e) }
 
 module _ (s : List ℕ) where
   pub outcome_number : (t : List ℕ) {k p : ℕ} → number.Refused k p ≡ dimension_at s → Outcome s t (Refused k p) t
@@ -151,17 +151,20 @@ module _ (s : List ℕ) where
         cleared : length zeros ≡ table_len n
         cleared = ap length clear ∙ length-replicate (length t) 0 ∙ sized
 
-        pub outcome_room : (length zeros ≤ 512)
-            × (rising 0 (8 * length zeros) (addresses_at m (take (length s - start) (drop start s)) 0 0) ≡ true)
-        outcome_room = (
-          omega (arith, cleared, table_few n small),
-          rw (part_drop s start)
-              (rising_wider 0 (2 ^ n) (8 * length zeros) (addresses_at m (drop start s) 0 0) (omega (arith, cleared, table_room n)) rest_read.rises),
-        )
+        pub outcome_room : record {
+          faults_len_bound : length zeros ≤ 512;
+          bytes_value : rising 0 (8 * length zeros) (addresses_at m (take (length s - start) (drop start s)) 0 0) ≡ true;
+        }
+        outcome_room = record {
+          faults_len_bound = omega (arith, cleared, table_few n small);
+          bytes_value =
+              rw (part_drop s start)
+              (rising_wider 0 (2 ^ n) (8 * length zeros) (addresses_at m (drop start s) 0 0) (omega (arith, cleared, table_room n)) rest_read.rises);
+        }
 
         pub outcome_notice : {after : List ℕ} → after ≡ with_bits zeros (addresses_at m (take (length s - start) (drop start s)) 0 0)
             → Outcome s t (Notice n m end) after
         unfolding noticed table_after
         outcome_notice w =
             let good : Notice n m end ≡ noticed s t = notice_good s (sized_value t sized) f in
-            (good, w ∙ ap₂ with_bits clear handed ∙ rw (sym good))
+            record { answer = good; table = w ∙ ap₂ with_bits clear handed ∙ rw (sym good) }

@@ -5,7 +5,7 @@ use mathlib.Core.Path.{◌≡◌}
 use Prim.Native.Nat.{ℕ, zero, suc, ◌+◌, ◌-◌, ◌/◌, ◌%◌, ◌^◌, ◌≤◌, ◌<◌}
 use native.Mathlib.Omega.{arith}
 use lib.Dec.{ltb}
-use lib.ListN.{get_or, length}
+use lib.ListN.{length}
 use borrow.Author.Tests.{ltb-true}
 use Rattle.cube.specs.Tables.{node_bit}
 use Rattle.cube.proofs.Bools.{by_cases}

@@ -100,8 +100,8 @@ module _ (n : ℕ) (faults behind : List ℕ) (is : IsTable n faults) where
 
   pub reads_back : ReadsBack n faults s (length (notice_bytes n faults))
   reads_back = record {
-    answer = λ before same. sym (outcome before same).0;
-    table = λ before same bytes. sym (outcome before same).1 ∙ table_again n faults is bytes;
+    answer = λ before same. sym (outcome before same).answer;
+    table = λ before same bytes. sym (outcome before same).table ∙ table_again n faults is bytes;
   }
 
 -- ---- an accepted notice
