@@ -1,7 +1,7 @@
 -- The walk on a board with N networks, WHATEVER THE LABELS: it comes to an end within 2 * n * N hops; where its last decision is no hop, a board with
 -- more networks makes the same walk; and on good labels with a safe node five networks bring every message to its destination.
 use mathlib.Core.Path.{◌≡◌, sym, ap, ◌∙◌}
-use mathlib.Core.Logic.{◌⊎◌, ⊎_elim}
+use mathlib.Core.Logic.{⊎_elim}
 use mathlib.Core.Bool.{true, false}
 use Prim.Native.Nat.{ℕ, zero, suc, ◌*◌, ◌^◌, ◌≤◌, ◌<◌}
 use native.Mathlib.Omega.{arith}

@@ -2,7 +2,7 @@
 -- node that meets the rule is marked at once. A mark that stood when that round began was put there by an earlier one, so that node's own round is smaller.
 use mathlib.Core.Path.{◌≡◌, refl, sym, ap₂, ◌∙◌}
 use mathlib.Core.Logic.{◌⊎◌, inl, inr, ⊎_elim}
-use mathlib.Core.Bool.{Bool, true, false, cond, ◌||◌}
+use mathlib.Core.Bool.{Bool, true, false, ◌||◌}
 use Prim.Native.Nat.{ℕ, zero, suc, ◌+◌, ◌-◌, ◌≤◌, ◌<◌}
 use native.Mathlib.Omega.{arith}
 use native.Mathlib.Nat.{eq-or-lt_of_le}
@@ -17,7 +17,7 @@ use Rattle.rule.specs.Rounds.{Unsafe}
 use Rattle.rule.specs.Rule.{exchanges, marked, newly, rounds}
 use Rattle.rule.proofs.Rounds.{marked_suc, marked_zero, marks, meets_says, newly_says}
 use Rattle.causes.specs.Cause.{bad_cause, bad_near, cause_of, cause_with, earlier, nth, out_near, round_of}
-use Rattle.causes.specs.Laws.{LeadsTo, Marked, MarkedBefore, MarkedIn, Names, TrueCause, TwoLowest, ThreeLowest, faulty, two, three}
+use Rattle.causes.specs.Laws.{Marked, MarkedBefore, MarkedIn, TrueCause, TwoLowest, ThreeLowest, faulty, two, three}
 use Rattle.causes.specs.declared.Cause.{Cause}
 use Rattle.causes.specs.declared.Cause.TheVariants.{Faulty, Two, Three}
 use Rattle.causes.proofs.Nth.{not_two, nth_same, three_lowest, two_lowest}

@@ -1,7 +1,6 @@
 -- What a round and a cause say (RULES, Why a node has its label), apart from how they are computed; and that causes can be followed down. Proved in
 -- proofs/Nth.antt (the lowest dimensions), proofs/Causes.antt and proofs/Down.antt.
-use Rattle.std.specs.Prelude.{Bool, true, false, ◌⊎◌, ◌≡◌, ℕ, zero, suc, ◌+◌, ◌≤◌, ◌<◌}
-use Rattle.cube.specs.Count.{count}
+use Rattle.std.specs.Prelude.{Bool, true, false, ◌⊎◌, ◌≡◌, ℕ, suc, ◌+◌, ◌≤◌, ◌<◌}
 use Rattle.cube.specs.Cube.{flip}
 use Rattle.rule.specs.Rounds.{Unsafe}
 use Rattle.rule.specs.Rule.{marked, rounds}

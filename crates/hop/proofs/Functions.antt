@@ -18,21 +18,29 @@ use Rattle.hop.specs.Helpers.{gathered, in_set, near_refusal, place_refusal}
 use Rattle.hop.specs.Hop as spec
 use Rattle.hop.specs.declared.Decision.{Decision}
 use Rattle.hop.specs.declared.Hopped.{Hopped}
-use Rattle.hop.proofs.hop as hop-claims
-use Rattle.hop.proofs.place_refusal
-use Rattle.hop.proofs.chosen as chosen-claims
-use Rattle.hop.proofs.gather as gather-claims
-use Rattle.hop.proofs.hop_at
-use Rattle.hop.proofs.last_hop
-use Rattle.hop.proofs.lowest as lowest-claims
-use Rattle.hop.proofs.near_refusal
+use Rattle.hop.specs.contracts.hop as hop-claims
+use Rattle.hop.proofs.hop.Reads as hop-claims-reads
+use Rattle.hop.specs.contracts.place_refusal
+use Rattle.hop.proofs.place_refusal.Reads as place_refusal-reads
+use Rattle.hop.specs.contracts.chosen as chosen-claims
+use Rattle.hop.proofs.chosen.Reads as chosen-claims-reads
+use Rattle.hop.specs.contracts.gather as gather-claims
+use Rattle.hop.proofs.gather.Reads as gather-claims-reads
+use Rattle.hop.specs.contracts.hop_at
+use Rattle.hop.proofs.hop_at.Reads as hop_at-reads
+use Rattle.hop.specs.contracts.last_hop
+use Rattle.hop.proofs.last_hop.Reads as last_hop-reads
+use Rattle.hop.specs.contracts.lowest as lowest-claims
+use Rattle.hop.proofs.lowest.Reads as lowest-claims-reads
+use Rattle.hop.specs.contracts.near_refusal
+use Rattle.hop.proofs.near_refusal.Reads as near_refusal-reads
 
 abbrev pub hop : Function hop-claims.ended (ℕ × ℕ × ℕ × ℕ × List ℕ) Hopped Nothing
 hop =
     record {
-      clauses = λ w. hop-claims.clauses w.𝓛 w.𝓜.mem w.𝓡.run;
-      asked = hop-claims.Reads.Asked;
-      post = hop-claims.Reads.Post;
+      clauses = λ w. hop-claims.clauses w.𝓛 w.𝓜.mem w.𝓡.returns;
+      asked = hop-claims-reads.Asked;
+      post = hop-claims-reads.Post;
       handed = λ κs a. (a.0, a.1.0, a.1.1.0, a.1.1.1.0, a.1.1.1.1.0.now);
       answered = λ κs r. r;
       left = λ κs e. tt;
@@ -47,9 +55,9 @@ hop_says = record { says = λ κs a r e p. (p, refl) }
 abbrev pub place-refusal : Function place_refusal.ended (ℕ × ℕ × ℕ × ℕ × ℕ × Bool) ℕ Nothing
 place-refusal =
     record {
-      clauses = λ w. place_refusal.clauses w.𝓛 w.𝓜.mem w.𝓡.run;
-      asked = place_refusal.Reads.Asked;
-      post = place_refusal.Reads.Post;
+      clauses = λ w. place_refusal.clauses w.𝓛 w.𝓜.mem w.𝓡.returns;
+      asked = place_refusal-reads.Asked;
+      post = place_refusal-reads.Post;
       handed = λ κs a. (a.0, a.1.0, a.1.1.0, a.1.1.1.0, a.1.1.1.1.0, a.1.1.1.1.1.0);
       answered = λ κs r. r;
       left = λ κs e. tt;
@@ -64,9 +72,9 @@ place_refusal_says = record { says = λ κs a r e p. (p, refl) }
 abbrev pub near-refusal : Function near_refusal.ended (ℕ × ℕ × ℕ × Bool) ℕ Nothing
 near-refusal =
     record {
-      clauses = λ w. near_refusal.clauses w.𝓛 w.𝓜.mem w.𝓡.run;
-      asked = near_refusal.Reads.Asked;
-      post = near_refusal.Reads.Post;
+      clauses = λ w. near_refusal.clauses w.𝓛 w.𝓜.mem w.𝓡.returns;
+      asked = near_refusal-reads.Asked;
+      post = near_refusal-reads.Post;
       handed = λ κs a. (a.0, a.1.0, a.1.1.0, a.1.1.1.0);
       answered = λ κs r. r;
       left = λ κs e. tt;
@@ -81,9 +89,9 @@ near_refusal_says = record { says = λ κs a r e p. (p, refl) }
 abbrev pub hop-at : Function hop_at.ended (ℕ × ℕ × ℕ × List ℕ) Decision Nothing
 hop-at =
     record {
-      clauses = λ w. hop_at.clauses w.𝓛 w.𝓜.mem w.𝓡.run;
-      asked = hop_at.Reads.Asked;
-      post = hop_at.Reads.Post;
+      clauses = λ w. hop_at.clauses w.𝓛 w.𝓜.mem w.𝓡.returns;
+      asked = hop_at-reads.Asked;
+      post = hop_at-reads.Post;
       handed = λ κs a. (a.0, a.1.0, a.1.1.0, a.1.1.1.0.now);
       answered = λ κs r. r;
       left = λ κs e. tt;
@@ -96,9 +104,9 @@ hop_at_says = record { says = λ κs a r e p. (p, refl) }
 abbrev pub gather : Function gather-claims.ended (ℕ × List ℕ × ℕ × List ℕ) Bool (List ℕ)
 gather =
     record {
-      clauses = λ w. gather-claims.clauses w.𝓛 w.𝓜.mem w.𝓡.run;
-      asked = gather-claims.Reads.Asked;
-      post = gather-claims.Reads.Post;
+      clauses = λ w. gather-claims.clauses w.𝓛 w.𝓜.mem w.𝓡.returns;
+      asked = gather-claims-reads.Asked;
+      post = gather-claims-reads.Post;
       handed = λ κs a. (a.0, a.1.0.now, a.1.1.0, a.1.1.1.0.now);
       answered = λ κs r. r;
       left = λ κs e. e.1.1.1.0.now;
@@ -111,9 +119,9 @@ gather_says = record { says = λ κs a r e p. (p.1, p.0) }
 abbrev pub chosen : Function chosen-claims.ended (ℕ × ℕ × ℕ × ℕ × List ℕ) ℕ Nothing
 chosen =
     record {
-      clauses = λ w. chosen-claims.clauses w.𝓛 w.𝓜.mem w.𝓡.run;
-      asked = chosen-claims.Reads.Asked;
-      post = chosen-claims.Reads.Post;
+      clauses = λ w. chosen-claims.clauses w.𝓛 w.𝓜.mem w.𝓡.returns;
+      asked = chosen-claims-reads.Asked;
+      post = chosen-claims-reads.Post;
       handed = λ κs a. (a.0, a.1.0, a.1.1.0, a.1.1.1.0, a.1.1.1.1.0.now);
       answered = λ κs r. r;
       left = λ κs e. tt;
@@ -126,9 +134,9 @@ chosen_says = record { says = λ κs a r e p. (p, refl) }
 abbrev pub lowest : Function lowest-claims.ended (ℕ × ℕ × List ℕ × ℕ) ℕ Nothing
 lowest =
     record {
-      clauses = λ w. lowest-claims.clauses w.𝓛 w.𝓜.mem w.𝓡.run;
-      asked = lowest-claims.Reads.Asked;
-      post = lowest-claims.Reads.Post;
+      clauses = λ w. lowest-claims.clauses w.𝓛 w.𝓜.mem w.𝓡.returns;
+      asked = lowest-claims-reads.Asked;
+      post = lowest-claims-reads.Post;
       handed = λ κs a. (a.0, a.1.0, a.1.1.0.now, a.1.1.1.0);
       answered = λ κs r. r;
       left = λ κs e. tt;
@@ -141,9 +149,9 @@ lowest_says = record { says = λ κs a r e p. (p, refl) }
 abbrev pub last-hop : Function last_hop.ended (ℕ × ℕ × ℕ × List ℕ) ℕ Nothing
 last-hop =
     record {
-      clauses = λ w. last_hop.clauses w.𝓛 w.𝓜.mem w.𝓡.run;
-      asked = last_hop.Reads.Asked;
-      post = last_hop.Reads.Post;
+      clauses = λ w. last_hop.clauses w.𝓛 w.𝓜.mem w.𝓡.returns;
+      asked = last_hop-reads.Asked;
+      post = last_hop-reads.Post;
       handed = λ κs a. (a.0, a.1.0, a.1.1.0, a.1.1.1.0.now);
       answered = λ κs r. r;
       left = λ κs e. tt;

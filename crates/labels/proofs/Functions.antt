@@ -9,16 +9,18 @@ use Rattle.cube.proofs.Contracts.{Says}
 use Rattle.rule.specs.Cabinet.{cabinet}
 use Rattle.labels.specs.Labelling.{label_refusal, labelled, labels_after}
 use Rattle.labels.specs.declared.Labelled.{Labelled}
-use Rattle.labels.proofs.label as label-claims
-use Rattle.labels.proofs.label_refusal
+use Rattle.labels.specs.contracts.label as label-claims
+use Rattle.labels.proofs.label.Reads as label-claims-reads
+use Rattle.labels.specs.contracts.label_refusal
+use Rattle.labels.proofs.label_refusal.Reads as label_refusal-reads
 
 -- handed the dimension, the rule's number, the job, the fault table, the table of draining nodes, that of the nodes that the job closes, and the label buffer
 abbrev pub label : Function label-claims.ended (ℕ × ℕ × ℕ × List ℕ × List ℕ × List ℕ × List ℕ) Labelled (List ℕ)
 label =
     record {
-      clauses = λ w. label-claims.clauses w.𝓛 w.𝓜.mem w.𝓡.run;
-      asked = label-claims.Reads.Asked;
-      post = label-claims.Reads.Post;
+      clauses = λ w. label-claims.clauses w.𝓛 w.𝓜.mem w.𝓡.returns;
+      asked = label-claims-reads.Asked;
+      post = label-claims-reads.Post;
       handed = λ κs a.
           (a.0, a.1.0, a.1.1.0, a.1.1.1.0.now, a.1.1.1.1.0.now, a.1.1.1.1.1.0.now, a.1.1.1.1.1.1.0.now);
       answered = λ κs r. r;
@@ -38,9 +40,9 @@ label_says = record { says = λ κs a r e p. (p.0, p.1) }
 abbrev pub label-refusal : Function label_refusal.ended (ℕ × ℕ × ℕ × List ℕ × List ℕ × List ℕ × ℕ) ℕ Nothing
 label-refusal =
     record {
-      clauses = λ w. label_refusal.clauses w.𝓛 w.𝓜.mem w.𝓡.run;
-      asked = label_refusal.Reads.Asked;
-      post = label_refusal.Reads.Post;
+      clauses = λ w. label_refusal.clauses w.𝓛 w.𝓜.mem w.𝓡.returns;
+      asked = label_refusal-reads.Asked;
+      post = label_refusal-reads.Post;
       handed = λ κs a.
           (a.0, a.1.0, a.1.1.0, a.1.1.1.0.now, a.1.1.1.1.0.now, a.1.1.1.1.1.0.now, a.1.1.1.1.1.1.0);
       answered = λ κs r. r;

@@ -11,17 +11,21 @@ use Rattle.cube.specs.Count.{count}
 use Rattle.cube.specs.Tables.{node_bit, tab}
 use Rattle.cube.proofs.Contracts.{Says}
 use Rattle.passes.specs.Passes.{finished, fresh, settled, started, swept}
-use Rattle.passes.proofs.finish as finish-claims
-use Rattle.passes.proofs.settle as settle-claims
-use Rattle.passes.proofs.start as start-claims
-use Rattle.passes.proofs.sweep as sweep-claims
+use Rattle.passes.specs.contracts.finish as finish-claims
+use Rattle.passes.proofs.finish.Reads as finish-claims-reads
+use Rattle.passes.specs.contracts.settle as settle-claims
+use Rattle.passes.proofs.settle.Reads as settle-claims-reads
+use Rattle.passes.specs.contracts.start as start-claims
+use Rattle.passes.proofs.start.Reads as start-claims-reads
+use Rattle.passes.specs.contracts.sweep as sweep-claims
+use Rattle.passes.proofs.sweep.Reads as sweep-claims-reads
 
 abbrev pub start : Function start-claims.ended (ℕ × List ℕ × List ℕ × List ℕ × List ℕ) Nothing (List ℕ)
 start =
     record {
-      clauses = λ w. start-claims.clauses w.𝓛 w.𝓜.mem w.𝓡.run;
-      asked = start-claims.Reads.Asked;
-      post = start-claims.Reads.Post;
+      clauses = λ w. start-claims.clauses w.𝓛 w.𝓜.mem w.𝓡.returns;
+      asked = start-claims-reads.Asked;
+      post = start-claims-reads.Post;
       handed = λ κs a. (a.0, a.1.0.now, a.1.1.0.now, a.1.1.1.0.now, a.1.1.1.1.0.now);
       answered = λ κs r. tt;
       left = λ κs e. e.1.1.1.1.0.now;
@@ -34,9 +38,9 @@ start_says = record { says = λ κs a r e p. (refl, p) }
 abbrev pub sweep : Function sweep-claims.ended (ℕ × ℕ × List ℕ) ℕ (List ℕ)
 sweep =
     record {
-      clauses = λ w. sweep-claims.clauses w.𝓛 w.𝓜.mem w.𝓡.run;
-      asked = sweep-claims.Reads.Asked;
-      post = sweep-claims.Reads.Post;
+      clauses = λ w. sweep-claims.clauses w.𝓛 w.𝓜.mem w.𝓡.returns;
+      asked = sweep-claims-reads.Asked;
+      post = sweep-claims-reads.Post;
       handed = λ κs a. (a.0, a.1.0, a.1.1.0.now);
       answered = λ κs r. r;
       left = λ κs e. e.1.1.0.now;
@@ -48,9 +52,9 @@ sweep_says = record { says = λ κs a r e p. (p.0, p.1) }
 abbrev pub settle : Function settle-claims.ended (List ℕ) Nothing (List ℕ)
 settle =
     record {
-      clauses = λ w. settle-claims.clauses w.𝓛 w.𝓜.mem w.𝓡.run;
-      asked = settle-claims.Reads.Asked;
-      post = settle-claims.Reads.Post;
+      clauses = λ w. settle-claims.clauses w.𝓛 w.𝓜.mem w.𝓡.returns;
+      asked = settle-claims-reads.Asked;
+      post = settle-claims-reads.Post;
       handed = λ κs a. a.0.now;
       answered = λ κs r. tt;
       left = λ κs e. e.0.now;
@@ -65,9 +69,9 @@ settle_says = record { says = λ κs a r e p. (refl, p) }
 abbrev pub finish : Function finish-claims.ended (ℕ × List ℕ × List ℕ × List ℕ) Nothing (List ℕ)
 finish =
     record {
-      clauses = λ w. finish-claims.clauses w.𝓛 w.𝓜.mem w.𝓡.run;
-      asked = finish-claims.Reads.Asked;
-      post = finish-claims.Reads.Post;
+      clauses = λ w. finish-claims.clauses w.𝓛 w.𝓜.mem w.𝓡.returns;
+      asked = finish-claims-reads.Asked;
+      post = finish-claims-reads.Post;
       handed = λ κs a. (a.0, a.1.0.now, a.1.1.0.now, a.1.1.1.0.now);
       answered = λ κs r. tt;
       left = λ κs e. e.1.1.1.0.now;

@@ -11,16 +11,18 @@ use Rattle.cube.proofs.Contracts.{Says}
 use Rattle.rule.specs.Looks.{looks, looks_near}
 use Rattle.rule.specs.Rule.{meets}
 use Rattle.passes.specs.Passes.{mark_in, out_in, plain_in}
-use Rattle.passes.proofs.meets_rule
-use Rattle.passes.proofs.plain_near
+use Rattle.passes.specs.contracts.meets_rule
+use Rattle.passes.proofs.meets_rule.Reads as meets_rule-reads
+use Rattle.passes.specs.contracts.plain_near
+use Rattle.passes.proofs.plain_near.Reads as plain_near-reads
 
 -- handed the dimension, the rule's number, the table and the node
 abbrev pub meets-rule : Function meets_rule.ended (ℕ × ℕ × List ℕ × ℕ) (Bool × ℕ) Nothing
 meets-rule =
     record {
-      clauses = λ w. meets_rule.clauses w.𝓛 w.𝓜.mem w.𝓡.run;
-      asked = meets_rule.Reads.Asked;
-      post = meets_rule.Reads.Post;
+      clauses = λ w. meets_rule.clauses w.𝓛 w.𝓜.mem w.𝓡.returns;
+      asked = meets_rule-reads.Asked;
+      post = meets_rule-reads.Post;
       handed = λ κs a. (a.0, a.1.0, a.1.1.0.now, a.1.1.1.0);
       answered = λ κs r. (r.holds, r.looked);
       left = λ κs e. tt;
@@ -34,9 +36,9 @@ meets_rule_says = record { says = λ κs a r e p. (rw (p.0, p.1), refl) }
 abbrev pub plain-near : Function plain_near.ended (ℕ × List ℕ × ℕ) (Bool × ℕ) Nothing
 plain-near =
     record {
-      clauses = λ w. plain_near.clauses w.𝓛 w.𝓜.mem w.𝓡.run;
-      asked = plain_near.Reads.Asked;
-      post = plain_near.Reads.Post;
+      clauses = λ w. plain_near.clauses w.𝓛 w.𝓜.mem w.𝓡.returns;
+      asked = plain_near-reads.Asked;
+      post = plain_near-reads.Post;
       handed = λ κs a. (a.0, a.1.0.now, a.1.1.0);
       answered = λ κs r. (r.holds, r.looked);
       left = λ κs e. tt;

@@ -3,14 +3,16 @@
 use mathlib.Core.Path.{refl}
 use Rattle.cube.specs.Allowed.{Tied}
 use Rattle.passes.proofs.Tests.{meets-rule, plain-near}
-use Rattle.passes.proofs.meets_rule
-use Rattle.passes.proofs.plain_near
+use Rattle.passes.specs.contracts.meets_rule
+use Rattle.passes.proofs.meets_rule.Reads as meets_rule-reads
+use Rattle.passes.specs.contracts.plain_near
+use Rattle.passes.proofs.plain_near.Reads as plain_near-reads
 
 pub record TestsTied : Type 2 where
   pub rule :
-      Tied meets-rule (λ w. meets_rule.clauses w.𝓛 w.𝓜.mem w.𝓡.run) meets_rule.Reads.Asked meets_rule.Reads.Post
+      Tied meets-rule (λ w. meets_rule.clauses w.𝓛 w.𝓜.mem w.𝓡.returns) meets_rule-reads.Asked meets_rule-reads.Post
   pub near :
-      Tied plain-near (λ w. plain_near.clauses w.𝓛 w.𝓜.mem w.𝓡.run) plain_near.Reads.Asked plain_near.Reads.Post
+      Tied plain-near (λ w. plain_near.clauses w.𝓛 w.𝓜.mem w.𝓡.returns) plain_near-reads.Asked plain_near-reads.Post
 
 pub tests_tied : TestsTied
 tests_tied =

@@ -11,16 +11,19 @@ use Rattle.jobs.specs.Jobs.{label_for}
 use Rattle.walk.specs.Helpers.{table_refusal}
 use Rattle.walk.specs.Walk.{row_bytes, walked}
 use Rattle.walk.specs.declared.Walked.{Walked}
-use Rattle.walk.proofs.walk as walk-claims
-use Rattle.walk.proofs.table_refusal
-use Rattle.walk.proofs.walk_for
+use Rattle.walk.specs.contracts.walk as walk-claims
+use Rattle.walk.proofs.walk.Reads as walk-claims-reads
+use Rattle.walk.specs.contracts.table_refusal
+use Rattle.walk.proofs.table_refusal.Reads as table_refusal-reads
+use Rattle.walk.specs.contracts.walk_for
+use Rattle.walk.proofs.walk_for.Reads as walk_for-reads
 
 abbrev pub walk : Function walk-claims.ended (ℕ × ℕ × ℕ × ℕ × List ℕ) Walked Nothing
 walk =
     record {
-      clauses = λ w. walk-claims.clauses w.𝓛 w.𝓜.mem w.𝓡.run;
-      asked = walk-claims.Reads.Asked;
-      post = walk-claims.Reads.Post;
+      clauses = λ w. walk-claims.clauses w.𝓛 w.𝓜.mem w.𝓡.returns;
+      asked = walk-claims-reads.Asked;
+      post = walk-claims-reads.Post;
       handed = λ κs a. (a.0, a.1.0, a.1.1.0, a.1.1.1.0, a.1.1.1.1.0.now);
       answered = λ κs r. r;
       left = λ κs e. tt;
@@ -35,9 +38,9 @@ walk_says = record { says = λ κs a r e p. (p, refl) }
 abbrev pub walk-for : Function walk_for.ended (ℕ × ℕ × ℕ × ℕ × List ℕ × ℕ) Walked Nothing
 walk-for =
     record {
-      clauses = λ w. walk_for.clauses w.𝓛 w.𝓜.mem w.𝓡.run;
-      asked = walk_for.Reads.Asked;
-      post = walk_for.Reads.Post;
+      clauses = λ w. walk_for.clauses w.𝓛 w.𝓜.mem w.𝓡.returns;
+      asked = walk_for-reads.Asked;
+      post = walk_for-reads.Post;
       handed = λ κs a. (a.0, a.1.0, a.1.1.0, a.1.1.1.0, a.1.1.1.1.0.now, a.1.1.1.1.1.0);
       answered = λ κs r. r;
       left = λ κs e. tt;
@@ -53,9 +56,9 @@ walk_for_says = record { says = λ κs a r e p. (p, refl) }
 abbrev pub table-refusal : Function table_refusal.ended (ℕ × ℕ × ℕ × List ℕ) ℕ Nothing
 table-refusal =
     record {
-      clauses = λ w. table_refusal.clauses w.𝓛 w.𝓜.mem w.𝓡.run;
-      asked = table_refusal.Reads.Asked;
-      post = table_refusal.Reads.Post;
+      clauses = λ w. table_refusal.clauses w.𝓛 w.𝓜.mem w.𝓡.returns;
+      asked = table_refusal-reads.Asked;
+      post = table_refusal-reads.Post;
       handed = λ κs a. (a.0, a.1.0, a.1.1.0, a.1.1.1.0.now);
       answered = λ κs r. r;
       left = λ κs e. tt;
