@@ -1,4 +1,5 @@
 pub mod Groups
 pub mod HandedOn
+pub mod Back
 pub mod Laws
 pub mod Functions

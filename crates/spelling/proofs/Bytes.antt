@@ -17,7 +17,7 @@ use Rattle.notice.proofs.Rising.{rises}
 use Rattle.spelling.specs.Laws.{Bytes, IsTable}
 use Rattle.spelling.specs.Spelled.{address_bytes, faulty_nodes, notice_bytes}
 use Rattle.spelling.proofs.Having.{having_count}
-use Rattle.spelling.proofs.Tables.{nodes_rise}
+use Rattle.spelling.proofs.Nodes.{nodes_rise}
 
 pub bytes_none : Bytes []
 bytes_none i = omega arith

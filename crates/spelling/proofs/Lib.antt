@@ -1,6 +1,7 @@
 pub mod Numbers
 pub mod Addresses
 pub mod Having
+pub mod Nodes
 pub mod Tables
 pub mod Notice
 pub mod Worked

@@ -28,7 +28,8 @@ use Rattle.spelling.specs.Laws.{Bytes, IsTable, ReadsBack}
 use Rattle.spelling.proofs.Numbers.{number_here, behind_here, number_spelled}
 use Rattle.spelling.proofs.Addresses.{ReadHere, read_here, addresses_spelled}
 use Rattle.spelling.proofs.Having.{having_count, having_is}
-use Rattle.spelling.proofs.Tables.{bytes_bits, bytes_zeros, nodes_rise, table_again}
+use Rattle.spelling.proofs.Nodes.{nodes_rise}
+use Rattle.spelling.proofs.Tables.{bytes_bits, bytes_zeros, table_again}
 
 -- ---- the notice of a table, before any other bytes
 

@@ -1,8 +1,6 @@
 -- A fault table is given by its bits: bytes with the same eight bits are the same. So a cleared table with the bits of the faulty nodes set is the table that
 -- names them, as no bit of it stands for anything else.
 use mathlib.Core.Path.{◌≡◌, sym, ◌∙◌}
-use mathlib.Core.Logic.{◌⊎◌, inl, inr}
-use mathlib.Core.Bool.{true, false, ◌&&◌}
 use mathlib.Core.List.{List, [], ◌∷◌}
 use Prim.Native.Nat.{ℕ, zero, suc, ◌+◌, ◌*◌, ◌/◌, ◌%◌, ◌^◌, ◌≤◌, ◌<◌}
 use native.Mathlib.Omega.{arith}
@@ -11,19 +9,17 @@ use lib.Dec.{leb}
 use lib.ListN.{length, get_or, set, replicate, length-replicate}
 use lib.Pow.{pow-lt}
 use lib.Seq.{ext_get_or}
-use borrow.Author.Tests.{leb-true, leb-false}
 use Rattle.cube.specs.Cube.{bit}
-use Rattle.cube.specs.Tables.{node_bit, unused_set}
+use Rattle.cube.specs.Tables.{node_bit}
 use Rattle.cube.proofs.Bools.{either}
 use Rattle.cube.proofs.Cube.{bits_same}
-use Rattle.cube.proofs.Search.{none_some}
 use Rattle.cube.proofs.Tables.{table_room}
-use Rattle.notice.specs.Addresses.{rising, among, with_bit, with_bits}
+use Rattle.notice.specs.Addresses.{with_bit, with_bits}
 use Rattle.notice.proofs.Bits.{length_bits, bits_among}
-use Rattle.notice.proofs.Rising.{not_among, rising_wider}
+use Rattle.notice.proofs.Rising.{rising_wider}
 use Rattle.spelling.specs.Spelled.{faulty_nodes}
 use Rattle.spelling.specs.Laws.{Bytes, IsTable}
-use Rattle.spelling.proofs.Having.{having_among, having_rises}
+use Rattle.spelling.proofs.Nodes.{nodes_among, nodes_rise}
 
 -- ---- setting bits leaves bytes
 
@@ -63,16 +59,6 @@ same_table t u e b c same =
 -- ---- the faulty nodes
 
 module _ (n : ℕ) (faults : List ℕ) (is : IsTable n faults) where
-  pub nodes_rise : rising 0 (2 ^ n) (faulty_nodes n faults) ≡ true
-  nodes_rise = having_rises (2 ^ n) (node_bit faults) (2 ^ n) 0 (omega arith)
-
-  nodes_among : (k : ℕ) → k < 8 * length faults → (leb (2 ^ n) k ≡ true) ⊎ (leb (2 ^ n) k ≡ false) → among (faulty_nodes n faults) k ≡ node_bit faults k
-  unfolding unused_set
-  nodes_among k h (inl t) =
-      not_among 0 (2 ^ n) (faulty_nodes n faults) k nodes_rise (inr (leb-true (2 ^ n) k t))
-      ∙ sym (rw t at (none_some (8 * length faults) (λ j. leb (2 ^ n) j && node_bit faults j) is.unused k h))
-  nodes_among k h (inr t) = having_among (2 ^ n) (node_bit faults) (2 ^ n) 0 k (omega arith) (omega arith) (leb-false (2 ^ n) k t)
-
   pub table_again : Bytes faults → with_bits (replicate (length faults) 0) (faulty_nodes n faults) ≡ faults
   table_again bytes =
       let zeros : List ℕ = replicate (length faults) 0 in
@@ -80,5 +66,5 @@ module _ (n : ℕ) (faults : List ℕ) (is : IsTable n faults) where
       let room : 2 ^ n ≤ 8 * length faults = omega (arith, is.sized, table_room n) in
       same_table (with_bits zeros (faulty_nodes n faults)) faults sized
       (bytes_bits zeros (faulty_nodes n faults) (bytes_zeros (length faults))) bytes
-      (λ k h. bits_among (length faults) 0 (faulty_nodes n faults) k (rising_wider 0 (2 ^ n) (8 * length faults) (faulty_nodes n faults) room nodes_rise)
-      ∙ nodes_among k (omega (arith, sized)) (either (leb (2 ^ n) k)))
+      (λ k h. bits_among (length faults) 0 (faulty_nodes n faults) k (rising_wider 0 (2 ^ n) (8 * length faults) (faulty_nodes n faults) room (nodes_rise n faults is))
+      ∙ nodes_among n faults is k (omega (arith, sized)) (either (leb (2 ^ n) k)))
