@@ -1,6 +1,6 @@
 -- The cause as the code finds it: from one dimension that counts it goes on behind it to the next. There are two neighbours that do not work exactly where
 -- the second search finds one.
-use mathlib.Core.Path.{◌≡◌, refl, sym, ap, ◌∙◌}
+use mathlib.Core.Path.{◌≡◌, refl, ap, ◌∙◌}
 use mathlib.Core.Bool.{Bool, true, false}
 use mathlib.Core.List.{List}
 use Prim.Native.Nat.{ℕ, ◌+◌, ◌≤◌, ◌<◌}

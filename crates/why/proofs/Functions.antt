@@ -12,16 +12,18 @@ use Rattle.why.specs.HopReasons.{hop_reason}
 use Rattle.why.specs.NodeReasons.{labels_left, node_reason}
 use Rattle.why.specs.declared.HopReason.{HopReason}
 use Rattle.why.specs.declared.NodeReason.{NodeReason}
-use Rattle.why.proofs.why_hop
-use Rattle.why.proofs.why_node
+use Rattle.why.specs.contracts.why_hop
+use Rattle.why.proofs.why_hop.Reads as why_hop-reads
+use Rattle.why.specs.contracts.why_node
+use Rattle.why.proofs.why_node.Reads as why_node-reads
 
 -- handed what labelling is, and between the job and the tables the node
 abbrev pub why-node : Function why_node.ended (ℕ × ℕ × ℕ × ℕ × List ℕ × List ℕ × List ℕ × List ℕ) NodeReason (List ℕ)
 why-node =
     record {
-      clauses = λ w. why_node.clauses w.𝓛 w.𝓜.mem w.𝓡.run;
-      asked = why_node.Reads.Asked;
-      post = why_node.Reads.Post;
+      clauses = λ w. why_node.clauses w.𝓛 w.𝓜.mem w.𝓡.returns;
+      asked = why_node-reads.Asked;
+      post = why_node-reads.Post;
       handed = λ κs a.
           (a.0, a.1.0, a.1.1.0, a.1.1.1.0, a.1.1.1.1.0.now, a.1.1.1.1.1.0.now, a.1.1.1.1.1.1.0.now, a.1.1.1.1.1.1.1.0.now);
       answered = λ κs r. r;
@@ -39,9 +41,9 @@ why_node_says = record { says = λ κs a r e p. (p.0, p.1) }
 abbrev pub why-hop : Function why_hop.ended (ℕ × ℕ × ℕ × ℕ × List ℕ) HopReason Nothing
 why-hop =
     record {
-      clauses = λ w. why_hop.clauses w.𝓛 w.𝓜.mem w.𝓡.run;
-      asked = why_hop.Reads.Asked;
-      post = why_hop.Reads.Post;
+      clauses = λ w. why_hop.clauses w.𝓛 w.𝓜.mem w.𝓡.returns;
+      asked = why_hop-reads.Asked;
+      post = why_hop-reads.Post;
       handed = λ κs a. (a.0, a.1.0, a.1.1.0, a.1.1.1.0, a.1.1.1.1.0.now);
       answered = λ κs r. r;
       left = λ κs e. tt;

@@ -1,10 +1,10 @@
 -- What the two answers say: of a node by its label, of a hop by what the scans pick.
-use mathlib.Core.Path.{◌≡◌, refl, sym, ap, ◌∙◌}
+use mathlib.Core.Path.{◌≡◌, refl, sym, ◌∙◌}
 use mathlib.Core.Logic.{◌⊎◌, inl, inr}
-use mathlib.Core.Bool.{Bool, true, false, not, ◌||◌}
+use mathlib.Core.Bool.{Bool, true, false}
 use Prim.Native.Nat.{ℕ, ◌^◌, ◌≤◌, ◌<◌}
 use native.Mathlib.Omega.{arith}
-use lib.Dec.{eqb, leb, ltb}
+use lib.Dec.{eqb, ltb}
 use borrow.Author.Tests.{eqb-true, eqb-false, ltb-true, ltb-false}
 use Rattle.cube.specs.Cube.{dist, flip}
 use Rattle.cube.specs.Tables.{label_in}
@@ -14,8 +14,6 @@ use Rattle.rule.specs.Rule.{label, label_of, marked, rounds, safe}
 use Rattle.rule.proofs.Bytes.{Label, four}
 use Rattle.rule.proofs.Bytes as bytes
 use Rattle.rule.proofs.Cabinet.{is_zero, label-in, out_high}
-use Rattle.rule.proofs.Rounds.{marks_work}
-use Rattle.causes.specs.Cause.{cause_of, round_of}
 use Rattle.causes.proofs.Down.{cause_laws}
 use Rattle.scans.specs.Scans.{no_scan}
 use Rattle.scans.proofs.Picking.{first_picks, first_scan_at, lowest_at, none_picks}

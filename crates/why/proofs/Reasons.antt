@@ -1,8 +1,8 @@
 -- The reason by the final labels and by what was seen of the node is the one that the definition gives: no round marked a node that does not work or is
 -- safe, and of its neighbours those that do not work have a label of 3 or more, and those that are not safe one of 1 or more.
-use mathlib.Core.Path.{◌≡◌, refl, sym, ap, ap₂, ◌∙◌}
+use mathlib.Core.Path.{◌≡◌, sym, ap, ap₂, ◌∙◌}
 use mathlib.Core.Logic.{◌⊎◌, inl, inr}
-use mathlib.Core.Bool.{Bool, true, false, not, ◌||◌}
+use mathlib.Core.Bool.{Bool, true, false, not}
 use mathlib.Core.List.{List}
 use Prim.Native.Nat.{ℕ, ◌^◌, ◌<◌}
 use native.Mathlib.Omega.{arith}
@@ -11,7 +11,7 @@ use borrow.Author.Tests.{le-leb, lt-leb}
 use Rattle.cube.specs.Count.{count}
 use Rattle.cube.specs.Cube.{flip}
 use Rattle.cube.specs.Tables.{label_in}
-use Rattle.cube.proofs.Bools.{clash, either, is_false}
+use Rattle.cube.proofs.Bools.{clash, either}
 use Rattle.cube.proofs.Count.{count_same}
 use Rattle.cube.proofs.Cube.{flip_lt}
 use Rattle.rule.specs.Cabinet.{Cabinet, labels_of, out, out_byte}

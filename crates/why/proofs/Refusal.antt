@@ -8,7 +8,7 @@ use Prim.Native.Nat.{ℕ, ◌^◌, ◌≤◌, ◌<◌}
 use lib.Dec.{eqb, leb}
 use lib.ListN.{length}
 use native.Mathlib.Omega.{arith}
-use borrow.Author.Tests.{eq-eqb, eqb-false, eqb-true, le-leb, leb-false, lt-leb, ne_eqb}
+use borrow.Author.Tests.{eq-eqb, eqb-false, eqb-true, le-leb, lt-leb, ne_eqb}
 use Rattle.cube.specs.Refusal.{first, ◌⇒◌}
 use Rattle.cube.proofs.Bools.{either}
 use Rattle.cube.proofs.Refusal.{first_le, first_none, first_passes, first_stops}

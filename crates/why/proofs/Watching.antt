@@ -5,7 +5,7 @@ use mathlib.Core.Path.{◌≡◌, refl, sym, ap, ◌∙◌}
 use mathlib.Core.Logic.{⊎_elim}
 use mathlib.Core.Bool.{Bool, true, false, ◌||◌}
 use mathlib.Core.List.{List}
-use Prim.Native.Nat.{ℕ, suc, ◌+◌, ◌^◌, ◌≤◌, ◌<◌}
+use Prim.Native.Nat.{ℕ, ◌+◌, ◌^◌, ◌≤◌, ◌<◌}
 use native.Mathlib.Numerals.{add-one}
 use native.Mathlib.Omega.{arith}
 use lib.Dec.{eqb}
@@ -16,7 +16,7 @@ use Rattle.cube.specs.Tables.{label_in, tab}
 use Rattle.cube.proofs.Bools.{clash, either, or_none, or_right}
 use Rattle.cube.proofs.Cube.{flip_lt}
 use Rattle.rule.specs.Cabinet.{Cabinet, out}
-use Rattle.rule.specs.Rule.{marked, quiet, rounds}
+use Rattle.rule.specs.Rule.{quiet, rounds}
 use Rattle.rule.proofs.Rounds.{marked_suc, marked_zero, rest}
 use Rattle.causes.specs.Cause.{cause_of, cause_with, earlier, round_of}
 use Rattle.causes.proofs.Causes.{cause_same, earlier_is}

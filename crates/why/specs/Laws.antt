@@ -1,6 +1,6 @@
 -- What the two answers say (RULES, Why), apart from how they are computed. Proved in proofs/Laws.antt; that a node's cause is true and can be followed down is
 -- proved of every cause, in the crate causes.
-use Rattle.std.specs.Prelude.{Bool, true, false, ◌≡◌, ℕ, ◌^◌, ◌≤◌, ◌<◌, leb}
+use Rattle.std.specs.Prelude.{true, ◌≡◌, ℕ, ◌^◌, ◌≤◌, ◌<◌, leb}
 use Rattle.cube.specs.Count.{count}
 use Rattle.cube.specs.Cube.{dist, flip}
 use Rattle.cube.specs.Tables.{label_in}

@@ -1,0 +1,13 @@
+-- `label_watching` goes as `label_nodes` does (crates/labels/proofs/Loop.antt). Invariant: the table stands as after some rounds, `round` is one more, and of
+-- x was seen what is to be seen after these rounds. The measure is what is left of one more than the working nodes.
+use Prim.Native.Nat.{◌+◌, ◌-◌}
+use Rattle.rule.specs.Cabinet.{cabinet, out}
+use Rattle.rule.specs.Rule.{working}
+use Rattle.why.proofs.Watching.{Watch}
+use Rattle.why.proofs.label_watching.Given as goal
+
+abbrev pub invariant-loop-marked : goal.invariant-loop-marked
+invariant-loop-marked l = Watch (cabinet l.n l.rule l.faults l.draining l.closed) l.x l.labels l.watched l.round
+
+abbrev pub decreases-loop-marked : goal.decreases-loop-marked
+decreases-loop-marked l = working l.n (out (cabinet l.n l.rule l.faults l.draining l.closed)) + 1 - l.round
