@@ -22,14 +22,14 @@ const NO_SCAN: usize = 6; // the scans are 0 to 5
 pub const NO_CHOICE: usize = 96; // from here on a choice has no scan: NO_SCAN * 16
 
 // The decision at a node.
-#[derive(Drop)]
+#[derive(Clone, Copy)]
 pub enum Decision {
     Deliver,
     Hop(usize),
     Halted,
 }
 
-#[derive(Drop)]
+#[derive(Clone, Copy)]
 pub enum Hopped {
     Decided(Decision),
     Refused(u32),

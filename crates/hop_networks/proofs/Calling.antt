@@ -1,7 +1,7 @@
 -- A call of FORWARD as the code makes it, block by block: a block looks at one set of dimensions, as the bits of a number; one that finds nothing is passed,
 -- and the first that finds a dimension makes its hop or ends the call.
 use mathlib.Core.Path.{◌≡◌, refl, sym, ap, ◌∙◌}
-use mathlib.Core.Logic.{◌⊎◌, ⊎_elim}
+use mathlib.Core.Logic.{⊎_elim}
 use mathlib.Core.Bool.{Bool, true, false, beq, cond, not, xor, ◌&&◌}
 use Prim.Native.Nat.{ℕ, suc, ◌-◌, ◌^◌, ◌≤◌, ◌<◌}
 use native.Mathlib.Omega.{arith}

@@ -15,20 +15,26 @@ use Rattle.blocks.specs.Blocks as blocks
 use Rattle.blocks.specs.Phase as phases
 use Rattle.hop_networks.specs.Helpers.{board_refusal, list_refusal}
 use Rattle.hop_networks.specs.Hopping.{hopped_in, is_board}
-use Rattle.hop_networks.proofs.after as after-claims
-use Rattle.hop_networks.proofs.board_refusal
-use Rattle.hop_networks.proofs.hop_networks
-use Rattle.hop_networks.proofs.is_board
-use Rattle.hop_networks.proofs.list_refusal
-use Rattle.hop_networks.proofs.pick_at
+use Rattle.hop_networks.specs.contracts.after as after-claims
+use Rattle.hop_networks.proofs.after.Reads as after-claims-reads
+use Rattle.hop_networks.specs.contracts.board_refusal
+use Rattle.hop_networks.proofs.board_refusal.Reads as board_refusal-reads
+use Rattle.hop_networks.specs.contracts.hop_networks
+use Rattle.hop_networks.proofs.hop_networks.Reads as hop_networks-reads
+use Rattle.hop_networks.specs.contracts.is_board
+use Rattle.hop_networks.proofs.is_board.Reads as is_board-reads
+use Rattle.hop_networks.specs.contracts.list_refusal
+use Rattle.hop_networks.proofs.list_refusal.Reads as list_refusal-reads
+use Rattle.hop_networks.specs.contracts.pick_at
+use Rattle.hop_networks.proofs.pick_at.Reads as pick_at-reads
 
 -- handed the dimension, how many networks there are, the job, both nodes, the message's network and direction, and the labels
 abbrev pub hop-networks : Function hop_networks.ended (ℕ × ℕ × ℕ × ℕ × ℕ × ℕ × ℕ × List ℕ) Hopped Nothing
 hop-networks =
     record {
-      clauses = λ w. hop_networks.clauses w.𝓛 w.𝓜.mem w.𝓡.run;
-      asked = hop_networks.Reads.Asked;
-      post = hop_networks.Reads.Post;
+      clauses = λ w. hop_networks.clauses w.𝓛 w.𝓜.mem w.𝓡.returns;
+      asked = hop_networks-reads.Asked;
+      post = hop_networks-reads.Post;
       handed = λ κs a.
           (a.0, a.1.0, a.1.1.0, a.1.1.1.0, a.1.1.1.1.0, a.1.1.1.1.1.0, a.1.1.1.1.1.1.0, a.1.1.1.1.1.1.1.0.now);
       answered = λ κs r. r;
@@ -45,9 +51,9 @@ hop_networks_says = record { says = λ κs a r e p. (p, refl) }
 abbrev pub is-board : Function is_board.ended ℕ Bool Nothing
 is-board =
     record {
-      clauses = λ w. is_board.clauses w.𝓛 w.𝓜.mem w.𝓡.run;
-      asked = is_board.Reads.Asked;
-      post = is_board.Reads.Post;
+      clauses = λ w. is_board.clauses w.𝓛 w.𝓜.mem w.𝓡.returns;
+      asked = is_board-reads.Asked;
+      post = is_board-reads.Post;
       handed = λ κs a. a.0;
       answered = λ κs r. r;
       left = λ κs e. tt;
@@ -62,9 +68,9 @@ is_board_says = record { says = λ κs a r e p. (p, refl) }
 abbrev pub board-refusal : Function board_refusal.ended (ℕ × Bool) ℕ Nothing
 board-refusal =
     record {
-      clauses = λ w. board_refusal.clauses w.𝓛 w.𝓜.mem w.𝓡.run;
-      asked = board_refusal.Reads.Asked;
-      post = board_refusal.Reads.Post;
+      clauses = λ w. board_refusal.clauses w.𝓛 w.𝓜.mem w.𝓡.returns;
+      asked = board_refusal-reads.Asked;
+      post = board_refusal-reads.Post;
       handed = λ κs a. (a.0, a.1.0);
       answered = λ κs r. r;
       left = λ κs e. tt;
@@ -80,9 +86,9 @@ board_refusal_says = record { says = λ κs a r e p. (p, refl) }
 abbrev pub list-refusal : Function list_refusal.ended (ℕ × ℕ × ℕ × ℕ × ℕ × Bool) ℕ Nothing
 list-refusal =
     record {
-      clauses = λ w. list_refusal.clauses w.𝓛 w.𝓜.mem w.𝓡.run;
-      asked = list_refusal.Reads.Asked;
-      post = list_refusal.Reads.Post;
+      clauses = λ w. list_refusal.clauses w.𝓛 w.𝓜.mem w.𝓡.returns;
+      asked = list_refusal-reads.Asked;
+      post = list_refusal-reads.Post;
       handed = λ κs a. (a.0, a.1.0, a.1.1.0, a.1.1.1.0, a.1.1.1.1.0, a.1.1.1.1.1.0);
       answered = λ κs r. r;
       left = λ κs e. tt;
@@ -95,9 +101,9 @@ list_refusal_says = record { says = λ κs a r e p. (p, refl) }
 abbrev pub after : Function after-claims.ended (ℕ × ℕ × ℕ) ℕ Nothing
 after =
     record {
-      clauses = λ w. after-claims.clauses w.𝓛 w.𝓜.mem w.𝓡.run;
-      asked = after-claims.Reads.Asked;
-      post = after-claims.Reads.Post;
+      clauses = λ w. after-claims.clauses w.𝓛 w.𝓜.mem w.𝓡.returns;
+      asked = after-claims-reads.Asked;
+      post = after-claims-reads.Post;
       handed = λ κs a. (a.0, a.1.0, a.1.1.0);
       answered = λ κs r. r;
       left = λ κs e. tt;
@@ -110,9 +116,9 @@ after_says = record { says = λ κs a r e p. (p, refl) }
 abbrev pub pick-at : Function pick_at.ended (ℕ × ℕ × ℕ × ℕ × List ℕ) ℕ Nothing
 pick-at =
     record {
-      clauses = λ w. pick_at.clauses w.𝓛 w.𝓜.mem w.𝓡.run;
-      asked = pick_at.Reads.Asked;
-      post = pick_at.Reads.Post;
+      clauses = λ w. pick_at.clauses w.𝓛 w.𝓜.mem w.𝓡.returns;
+      asked = pick_at-reads.Asked;
+      post = pick_at-reads.Post;
       handed = λ κs a. (a.0, a.1.0, a.1.1.0, a.1.1.1.0, a.1.1.1.1.0.now);
       answered = λ κs r. r;
       left = λ κs e. tt;

@@ -17,21 +17,21 @@ use jobs::half;
 const ROW_BYTES: usize = 34; // a row that is lent: two bytes for each of 17 places
 
 // The travelling message: where it is, where it goes, and its hops so far.
-#[derive(Drop)]
+#[derive(Clone, Copy)]
 pub struct Message {
     pub at: usize,
     pub to: usize,
     pub hops: usize,
 }
 
-#[derive(Drop)]
+#[derive(Clone, Copy)]
 pub enum Ending {
     Delivered,
     Halted,
     Refused(u32),
 }
 
-#[derive(Drop)]
+#[derive(Clone, Copy)]
 pub struct Walked {
     pub row: [u16; 17],
     pub hops: usize,

@@ -9,15 +9,16 @@ use Rattle.cube.proofs.Contracts.{Says}
 use Rattle.jobs.specs.Jobs.{label_for}
 use Rattle.walk_networks.specs.Crossing.{crossing, hops_after}
 use Rattle.walk_networks.specs.declared.Crossed.{Crossed}
-use Rattle.walk_networks.proofs.walk_networks
+use Rattle.walk_networks.specs.contracts.walk_networks
+use Rattle.walk_networks.proofs.walk_networks.Reads as walk_networks-reads
 
 -- handed the dimension, how many networks there are, the job, both nodes, the labels and a hop list
 abbrev pub walk-networks : Function walk_networks.ended (ℕ × ℕ × ℕ × ℕ × ℕ × List ℕ × List ℕ) Crossed (List ℕ)
 walk-networks =
     record {
-      clauses = λ w. walk_networks.clauses w.𝓛 w.𝓜.mem w.𝓡.run;
-      asked = walk_networks.Reads.Asked;
-      post = walk_networks.Reads.Post;
+      clauses = λ w. walk_networks.clauses w.𝓛 w.𝓜.mem w.𝓡.returns;
+      asked = walk_networks-reads.Asked;
+      post = walk_networks-reads.Post;
       handed = λ κs a.
           (a.0, a.1.0, a.1.1.0, a.1.1.1.0, a.1.1.1.1.0, a.1.1.1.1.1.0.now, a.1.1.1.1.1.1.0.now);
       answered = λ κs r. r;

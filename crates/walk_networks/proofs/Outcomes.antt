@@ -6,7 +6,6 @@ use Prim.Native.Nat.{ℕ, ◌^◌, ◌≤◌, ◌<◌}
 use native.Mathlib.Omega.{arith}
 use lib.Dec.{eqb, leb, ltb}
 use borrow.Author.Tests.{eqb-false, eqb-true, leb-false, ltb-false, ltb-true, not-false}
-use Rattle.cube.specs.Refusal.{first}
 use Rattle.cube.specs.Tables.{highest, is_dimension}
 use Rattle.cube.proofs.Bools.{by_cases, clash, or_false}
 use Rattle.cube.proofs.Refusal.{first_le, first_none}

@@ -17,7 +17,7 @@ use jobs::half;
 use walk::table_refusal;
 
 // How a walk ended, with its hop count, or the refusal.
-#[derive(Drop)]
+#[derive(Clone, Copy)]
 pub enum Crossed {
     Delivered(usize),
     Halted(usize),

@@ -1,0 +1,21 @@
+-- `decided` delivers at the destination, and elsewhere goes by what is picked.
+use Rattle.hop_networks.proofs.Deciding.{arrived, halted, hopped, refused}
+use Rattle.hop_networks.proofs.decided.Goals as goal
+
+pub returns-then-c-d : goal.returns-then-c-d
+returns-then-c-d c = arrived _ _ _ _ _ _ _ c.if-c-d.true
+
+pub returns-then-n-i : goal.returns-then-n-i
+returns-then-n-i c =
+    let s = c.requires in
+    halted _ _ _ _ _ _ _ s.1 s.2 c.if-c-d.false _ c.pick-i.ensures c.if-n-i.true
+
+pub returns-then-networks-next : goal.returns-then-networks-next
+returns-then-networks-next c =
+    let s = c.requires in
+    refused _ _ _ _ _ _ _ s.1 s.2 c.if-c-d.false _ c.pick-i.ensures c.if-n-i.false _ c.after-next.ensures c.if-networks-next.true
+
+pub returns : goal.returns
+returns c =
+    let s = c.requires in
+    hopped _ _ _ _ _ _ _ s.1 s.2 c.if-c-d.false _ c.pick-i.ensures c.if-n-i.false _ c.after-next.ensures c.if-networks-next.false

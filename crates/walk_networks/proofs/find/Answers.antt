@@ -1,0 +1,74 @@
+use Prim.Native.Nat.{◌+◌, ◌*◌, ◌/◌, ◌<◌}
+use native.Mathlib.Omega.{arith}
+use Rattle.blocks.specs.Board.{most_hops}
+use Rattle.walk_networks.proofs.Steps.{delivered, halted, lacking, most_few, on, room, start}
+use Rattle.walk_networks.proofs.find.Goals as goal
+use Rattle.walk_networks.proofs.find.Goals.{Else-networks-next}
+
+-- the hop is made: there is room for it in the list, and its number is a byte
+room_at : (c : Else-networks-next) → let a = c.args in c.loop-at.hops < most_hops a.n a.networks
+room_at c =
+    let p = c.requires.0 in
+    room _ _ _ _ _ p.placed.first p.some _ _ _ _ _ c.loop-at.invariant p.placed.second c.loop-at-test.true _ c.pick_at-i.ensures
+    c.if-n-i.false _ c.after-next.ensures c.if-networks-next.false
+
+few-at : (c : Else-networks-next) → c.loop-at.hops < 120
+few-at c =
+    let p = c.requires.0 in
+    omega (arith, room_at c, most_few _ _ p.placed.small p.few)
+
+byte_at : (c : Else-networks-next) → c.after-next.result / 2 * 16 + c.pick_at-i.result < 256
+byte_at c =
+    let p = c.requires.0 in
+    omega (arith, c.if-networks-next.false, p.few, c.if-n-i.false, p.placed.small)
+
+pub loop-at-init : goal.loop-at-init
+loop-at-init c = let p = c.requires.0 in start _ _ _ _ _ p.placed.first p.some _
+
+pub returns-then-n-i-clause-answer : goal.returns-then-n-i-clause-answer
+returns-then-n-i-clause-answer c =
+    let p = c.requires.0 in
+    (halted _ _ _ _ _ p.placed.first p.some _ _ _ _ _ c.loop-at.invariant p.placed.second c.loop-at-test.true _ c.pick_at-i.ensures c.if-n-i.true).0
+
+pub returns-then-n-i-clause-list : goal.returns-then-n-i-clause-list
+returns-then-n-i-clause-list c =
+    let p = c.requires.0 in
+    (halted _ _ _ _ _ p.placed.first p.some _ _ _ _ _ c.loop-at.invariant p.placed.second c.loop-at-test.true _ c.pick_at-i.ensures c.if-n-i.true).1
+
+pub returns-then-networks-next-clause-answer : goal.returns-then-networks-next-clause-answer
+returns-then-networks-next-clause-answer c =
+    let p = c.requires.0 in
+    (lacking _ _ _ _ _ p.placed.first p.some _ _ _ _ _ c.loop-at.invariant p.placed.second c.loop-at-test.true _ c.pick_at-i.ensures c.if-n-i.false _
+    c.after-next.ensures c.if-networks-next.true).0
+
+pub returns-then-networks-next-clause-list : goal.returns-then-networks-next-clause-list
+returns-then-networks-next-clause-list c =
+    let p = c.requires.0 in
+    (lacking _ _ _ _ _ p.placed.first p.some _ _ _ _ _ c.loop-at.invariant p.placed.second c.loop-at-test.true _ c.pick_at-i.ensures c.if-n-i.false _
+    c.after-next.ensures c.if-networks-next.true).1
+
+pub bounds-list-hops : goal.bounds-list-hops
+bounds-list-hops c = few-at (goal.at.bounds-list-hops c).Else-networks-next
+
+pub overflow_add-hops : goal.overflow_add-hops
+overflow_add-hops c = omega (arith, few-at (goal.at.overflow_add-hops c).Else-networks-next)
+
+pub loop-at-smaller : goal.loop-at-smaller
+loop-at-smaller c = omega (arith, room_at (goal.at.loop-at-smaller c).Else-networks-next)
+
+pub loop-at-preserved : goal.loop-at-preserved
+loop-at-preserved c =
+    let z = c.requires in
+    let p = z.0 in
+    on _ _ _ _ _ p.placed.first p.some _ _ _ _ _ c.loop-at.invariant p.placed.second c.loop-at-test.true _ c.pick_at-i.ensures
+    c.if-n-i.false _ c.after-next.ensures c.if-networks-next.false (omega (arith, few-at (goal.at.loop-at-preserved c).Else-networks-next, z.1)) _ c.neighbour-at.ensures
+
+pub returns-clause-answer : goal.returns-clause-answer
+returns-clause-answer c =
+    let p = c.requires.0 in
+    (delivered _ _ _ _ _ p.placed.first p.some _ _ _ _ _ c.loop-at.invariant c.loop-at-test.false).0
+
+pub returns-clause-list : goal.returns-clause-list
+returns-clause-list c =
+    let p = c.requires.0 in
+    (delivered _ _ _ _ _ p.placed.first p.some _ _ _ _ _ c.loop-at.invariant c.loop-at-test.false).1

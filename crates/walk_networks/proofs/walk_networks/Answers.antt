@@ -1,0 +1,147 @@
+-- `walk_networks`: the board first, then what needs no label, then what the labels of the job's half refuse; then the hops are found, and written unless the
+-- walk is refused.
+use mathlib.Core.Path.{◌≡◌, refl, sym, ap, ◌∙◌}
+use mathlib.Core.Bool.{not}
+use Prim.Native.Nat.{ℕ, ◌^◌, ◌<◌, ◌≤◌}
+use native.Mathlib.Omega.{arith}
+use borrow.Author.Tests.{ltb-false, not-false}
+use lib.ListN.{length}
+use Rattle.cube.specs.Tables.{label_in}
+use Rattle.cube.proofs.Tables.{dimension_is}
+use Rattle.jobs.specs.Jobs.{half}
+use Rattle.hop.specs.Helpers.{Asked, Placed}
+use Rattle.hop.proofs.Refusals.{half_placed}
+use Rattle.walk.specs.Helpers.{table_refusal}
+use Rattle.blocks.specs.Board.{hops_on, last_on, most_hops}
+use Rattle.blocks.proofs.Board.{walks}
+use Rattle.hop_networks.specs.Helpers.{board_refusal, list_refusal}
+use Rattle.hop_networks.specs.Hopping.{is_board}
+use Rattle.hop_networks.proofs.Refusals.{board_good, board_is, list_good}
+use Rattle.walk_networks.specs.Crossing.{ended_by, hops_of, too_short}
+use Rattle.walk_networks.specs.declared.Crossed.{Crossed}
+use Rattle.walk_networks.proofs.Refusals.{hops_within, unboarded, unlabelled, unlisted, walked}
+use Rattle.walk_networks.proofs.Steps.{most_few}
+use Rattle.walk_networks.proofs.walk_networks.Goals as goal
+use Rattle.walk_networks.proofs.walk_networks.Goals.{After-board_refusal-by_board, After-find-found, After-half-table, After-list_refusal-by_place, After-table_refusal-by_labels, Else-by_board-ne0, Else-by_place-ne0}
+
+-- what the first two tests show
+board-refuses : (c : After-board_refusal-by_board) → let a = c.args in c.board_refusal-by_board.result ≡ board_refusal a.n (not (is_board a.networks))
+board-refuses c = rw c.is_board.ensures at c.board_refusal-by_board.ensures
+
+board : (c : Else-by_board-ne0) → let a = c.args in board_refusal a.n (not (is_board a.networks)) ≡ 0
+board c = sym (rw c.is_board.ensures at c.board_refusal-by_board.ensures) ∙ c.if-by_board-ne0.false
+
+small : (c : Else-by_board-ne0) → c.args.n ≤ 12
+small c = (dimension_is _ (board_good _ _ (board c)).0).1
+
+networks-few : (c : Else-by_board-ne0) → let a = c.args in (0 < a.networks) × (a.networks ≤ 5)
+networks-few c = board_is _ (not-false _ (board_good _ _ (board c)).1)
+
+most : (c : Else-by_board-ne0) → let a = c.args in most_hops a.n a.networks ≤ 120
+most c = most_few _ _ (small c) (networks-few c).1
+
+list-refuses : (c : After-list_refusal-by_place) → let a = c.args in
+    c.list_refusal-by_place.result ≡ list_refusal a.n a.job a.s a.d (length a.labels.now) (too_short a.n a.networks (length a.hops.now))
+unfolding too_short
+list-refuses c = c.list_refusal-by_place.ensures
+
+listed : (c : Else-by_place-ne0) → let a = c.args in
+    list_refusal a.n a.job a.s a.d (length a.labels.now) (too_short a.n a.networks (length a.hops.now)) ≡ 0
+unfolding too_short
+listed c = sym c.list_refusal-by_place.ensures ∙ c.if-by_place-ne0.false
+
+asked : (c : Else-by_place-ne0) → c.args.n ≤ 12 → let a = c.args in
+    Asked a.n a.job a.s a.d (length a.labels.now) × (most_hops a.n a.networks ≤ length a.hops.now)
+unfolding too_short
+asked c l = let r = list_good _ _ _ _ _ _ l (listed c) in (r.0, ltb-false _ _ r.1)
+
+-- the job's half is a table, and its labels are tested and walked by
+good : (c : After-half-table) → let a = c.args in Asked a.n a.job a.s a.d (length a.labels.now) → Placed a.n a.s a.d (length c.half-table.result.now)
+good c p = rw c.half-table.ensures.bytes (half_placed _ _ _ _ _ p)
+
+labels-refuse : (c : After-table_refusal-by_labels) → let a = c.args in
+    c.table_refusal-by_labels.result ≡ table_refusal a.n a.s a.d (label_in (half a.job (2 ^ a.n) a.labels.now))
+labels-refuse c = rw c.half-table.ensures.bytes at c.table_refusal-by_labels.ensures
+
+-- what was found is the walk by the half's labels
+found : (c : After-find-found) → let a = c.args in
+    let lab = label_in (half a.job (2 ^ a.n) a.labels.now) in
+    c.find-found.result ≡ ended_by (hops_on a.n a.networks lab a.d a.s) (last_on a.n a.networks lab a.d a.s)
+found c = rw c.half-table.ensures.bytes at c.find-found.ensures.answer
+
+-- and no walk has more hops than a walk may have
+count_few : (n N : ℕ) (lab : ℕ → ℕ) (d s : ℕ) (r : Crossed) (count : ℕ) → s < 2 ^ n → 0 < N → r ≡ ended_by (hops_on n N lab d s) (last_on n N lab d s)
+    → count ≡ hops_of r → count ≤ most_hops n N
+count_few n N lab d s r count hs some e ec =
+    let w = walks n lab d s hs N some in
+    omega (arith, ec, ap hops_of e, hops_within (hops_on n N lab d s) (last_on n N lab d s), w.within)
+
+pub returns-then-by_board-ne0-clause-answer : goal.returns-then-by_board-ne0-clause-answer
+returns-then-by_board-ne0-clause-answer c =
+    (unboarded _ _ _ _ _ _ _ c.args.hops.now _ (board-refuses (goal.at.returns-then-by_board-ne0-clause-answer c).After-board_refusal-by_board) c.if-by_board-ne0.true).0
+
+pub returns-then-by_board-ne0-clause-hops : goal.returns-then-by_board-ne0-clause-hops
+returns-then-by_board-ne0-clause-hops c =
+    (unboarded _ _ _ _ _ _ _ c.args.hops.now _ (board-refuses (goal.at.returns-then-by_board-ne0-clause-hops c).After-board_refusal-by_board) c.if-by_board-ne0.true).1
+
+pub overflow_mul-n : goal.overflow_mul-n
+overflow_mul-n c =
+    omega (arith, small (goal.at.overflow_mul-n c).Else-by_board-ne0)
+
+pub overflow_mul-n-2 : goal.overflow_mul-n-2
+overflow_mul-n-2 c =
+    omega (arith, most (goal.at.overflow_mul-n-2 c).Else-by_board-ne0)
+
+pub list_refusal-by_place-requires : goal.list_refusal-by_place-requires
+list_refusal-by_place-requires c =
+    small (goal.at.list_refusal-by_place-requires c).Else-by_board-ne0
+
+pub returns-then-by_place-ne0-clause-answer : goal.returns-then-by_place-ne0-clause-answer
+returns-then-by_place-ne0-clause-answer c =
+    (unlisted _ _ _ _ _ _ _ c.args.hops.now (board (goal.at.returns-then-by_place-ne0-clause-answer c).Else-by_board-ne0) _ (list-refuses (goal.at.returns-then-by_place-ne0-clause-answer c).After-list_refusal-by_place) c.if-by_place-ne0.true).0
+
+pub returns-then-by_place-ne0-clause-hops : goal.returns-then-by_place-ne0-clause-hops
+returns-then-by_place-ne0-clause-hops c =
+    (unlisted _ _ _ _ _ _ _ c.args.hops.now (board (goal.at.returns-then-by_place-ne0-clause-hops c).Else-by_board-ne0) _ (list-refuses (goal.at.returns-then-by_place-ne0-clause-hops c).After-list_refusal-by_place) c.if-by_place-ne0.true).1
+
+pub half-table-requires : goal.half-table-requires
+half-table-requires c =
+    (asked (goal.at.half-table-requires c).Else-by_place-ne0 (small (goal.at.half-table-requires c).Else-by_board-ne0)).0.halved
+
+pub table_refusal-by_labels-requires : goal.table_refusal-by_labels-requires
+table_refusal-by_labels-requires c =
+    good (goal.at.table_refusal-by_labels-requires c).After-half-table (asked (goal.at.table_refusal-by_labels-requires c).Else-by_place-ne0 (small (goal.at.table_refusal-by_labels-requires c).Else-by_board-ne0)).0
+
+pub returns-then-by_labels-ne0-clause-answer : goal.returns-then-by_labels-ne0-clause-answer
+returns-then-by_labels-ne0-clause-answer c =
+    (unlabelled _ _ _ _ _ _ _ c.args.hops.now (board (goal.at.returns-then-by_labels-ne0-clause-answer c).Else-by_board-ne0) (listed (goal.at.returns-then-by_labels-ne0-clause-answer c).Else-by_place-ne0) _
+    (labels-refuse (goal.at.returns-then-by_labels-ne0-clause-answer c).After-table_refusal-by_labels) c.if-by_labels-ne0.true).0
+
+pub returns-then-by_labels-ne0-clause-hops : goal.returns-then-by_labels-ne0-clause-hops
+returns-then-by_labels-ne0-clause-hops c =
+    (unlabelled _ _ _ _ _ _ _ c.args.hops.now (board (goal.at.returns-then-by_labels-ne0-clause-hops c).Else-by_board-ne0) (listed (goal.at.returns-then-by_labels-ne0-clause-hops c).Else-by_place-ne0) _
+    (labels-refuse (goal.at.returns-then-by_labels-ne0-clause-hops c).After-table_refusal-by_labels) c.if-by_labels-ne0.true).1
+
+pub find-found-requires : goal.find-found-requires
+find-found-requires c =
+    let b = networks-few (goal.at.find-found-requires c).Else-by_board-ne0 in
+    (record { placed = good (goal.at.find-found-requires c).After-half-table (asked (goal.at.find-found-requires c).Else-by_place-ne0 (small (goal.at.find-found-requires c).Else-by_board-ne0)).0; some = b.0; few = b.1 }, refl)
+
+pub write-requires : goal.write-requires
+write-requires c =
+    let b = networks-few (goal.at.write-requires c).Else-by_board-ne0 in
+    let p = asked (goal.at.write-requires c).Else-by_place-ne0 (small (goal.at.write-requires c).Else-by_board-ne0) in
+    let few = count_few _ _ _ _ _ _ _ p.0.first b.0 (found (goal.at.write-requires c).After-find-found) c.made.ensures in
+    (omega (arith, few, most (goal.at.write-requires c).Else-by_board-ne0), omega (arith, few, p.1))
+
+pub returns-clause-answer : goal.returns-clause-answer
+returns-clause-answer c =
+    (walked _ _ _ _ _ _ _ c.args.hops.now (board (goal.at.returns-clause-answer c).Else-by_board-ne0) (listed (goal.at.returns-clause-answer c).Else-by_place-ne0)
+    (sym (labels-refuse (goal.at.returns-clause-answer c).After-table_refusal-by_labels) ∙ c.if-by_labels-ne0.false) _ _ _ _ _ (found (goal.at.returns-clause-answer c).After-find-found)
+    (rw c.half-table.ensures.bytes at c.find-found.ensures.list) c.made.ensures c.write.ensures).0
+
+pub returns-clause-hops : goal.returns-clause-hops
+returns-clause-hops c =
+    (walked _ _ _ _ _ _ _ c.args.hops.now (board (goal.at.returns-clause-hops c).Else-by_board-ne0) (listed (goal.at.returns-clause-hops c).Else-by_place-ne0)
+    (sym (labels-refuse (goal.at.returns-clause-hops c).After-table_refusal-by_labels) ∙ c.if-by_labels-ne0.false) _ _ _ _ _ (found (goal.at.returns-clause-hops c).After-find-found)
+    (rw c.half-table.ensures.bytes at c.find-found.ensures.list) c.made.ensures c.write.ensures).1
