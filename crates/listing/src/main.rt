@@ -7,17 +7,24 @@ ghost use Rattle.lines.specs.Lines.{room};
 ghost use Rattle.notice.specs.Notice.{dimension_of, notice_of};
 ghost use Rattle.printed.specs.Printed.{labels_in};
 
-use libc::{STDIN_FILENO, STDOUT_FILENO};
+use std::io;
+use std::io::Read;
 
 // Writes the line at the front of the buffer.
-fn say(out: &[u8], end: usize)
+fn say(rt: &impl Print, out: &[u8], end: usize) -> io::Result<()>
     requires { end ≤ length out.now }
 {
-    io::write_all(STDOUT_FILENO, &out[..end]);
+    rt.write_all(&out[..end])
 }
 
 // A line for each pair behind the notice; places are those of the whole input. Behind a refused notice no bytes are left, so its line is the only one.
-fn list_pairs(n: usize, labels: &[u8], bytes: &[u8], out: &mut [u8])
+fn list_pairs(
+    rt: &impl Print,
+    n: usize,
+    labels: &[u8],
+    bytes: &[u8],
+    out: &mut [u8],
+) -> io::Result<()>
     requires n_value { (n ≡ dimension_of (notice_of bytes.now)) × (labels.now ≡ labels_in bytes.now) }
     requires out_len { length out.old ≡ room }
 {
@@ -25,31 +32,38 @@ fn list_pairs(n: usize, labels: &[u8], bytes: &[u8], out: &mut [u8])
     let mut at = bytes.len() - pairs.len();
     while at < bytes.len() {
         let line = printed::line_at(n, labels, bytes, at, out);
-        say(out, line.end);
+        say(rt, out, line.end)?;
         at = line.next;
     }
+    Ok(())
 }
 
-fn list(bytes: &[u8], faults: &mut [u8], labels: &mut [u8], out: &mut [u8])
+fn list(
+    rt: &impl Print,
+    bytes: &[u8],
+    faults: &mut [u8],
+    labels: &mut [u8],
+    out: &mut [u8],
+) -> io::Result<()>
     requires faults_len { length faults.old ≡ 512 }
     requires labels_value { (labels.old ≡ replicate 8192 0) × (length out.old ≡ room) }
 {
     let head = printed::head_line(bytes, faults, labels, out);
-    say(out, head.end);
+    say(rt, out, head.end)?;
     let kept = head.bytes;
-    list_pairs(head.n, &labels[..kept], bytes, out);
+    list_pairs(rt, head.n, &labels[..kept], bytes, out)
 }
 
-fn main() {
-    let mut input = [0u8; 16385];
+// One byte more than an input may have is read: that tells one that is too long.
+fn main(rt: HostRuntime) -> io::Result<()> {
+    let mut input = Vec::new(rt.alloc());
+    rt.reader().take(16385).read_to_end(&mut input)?;
     let mut out = [0u8; 1024];
-    let length = io::read_full(STDIN_FILENO, &mut input);
-    if 16384 < length {
+    if 16384 < input.len() {
         let end = lines::long_line(&mut out);
-        say(&out, end);
-        return;
+        return say(&rt, &out, end);
     }
     let mut faults = [0u8; 512];
     let mut labels = [0u8; 8192];
-    list(&input[..length], &mut faults, &mut labels, &mut out);
+    list(&rt, &input, &mut faults, &mut labels, &mut out)
 }

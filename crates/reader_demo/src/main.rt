@@ -4,50 +4,51 @@
 #![tactic(auto)]
 
 use groups::Number;
-use libc::STDOUT_FILENO;
 use reader::next_at;
+use std::io;
 
-fn say(text: &[u8]) {
-    io::write_all(STDOUT_FILENO, text);
+fn say(rt: &impl Print, text: &[u8]) -> io::Result<()> {
+    rt.write_all(text)
 }
 
-fn put(n: usize) {
-    io::print_decimal(STDOUT_FILENO, n as u64);
+fn put(rt: &impl Print, n: usize) -> io::Result<()> {
+    rt.print(n)
 }
 
-fn put_number(number: Number) {
+fn put_number(rt: &impl Print, number: Number) -> io::Result<()> {
     match number {
         Number::Value(v, _) => {
-            say(b" value ");
-            put(v);
+            say(rt, b" value ")?;
+            put(rt, v)
         }
         Number::Refused(k, at) => {
-            say(b" refused ");
-            put(k as usize);
-            say(b" ");
-            put(at);
+            say(rt, b" refused ")?;
+            put(rt, k as usize)?;
+            say(rt, b" ")?;
+            put(rt, at)
         }
     }
 }
 
 // Prints the number at a place, and gives the place after it.
-fn put_next(bytes: &[u8], at: usize) -> usize {
+fn put_next(rt: &impl Print, bytes: &[u8], at: usize) -> io::Result<usize> {
     let step = next_at(bytes, at);
     let number = step.number;
-    say(b"place ");
-    put(at);
-    put_number(number);
-    say(b"\n");
-    step.at
+    say(rt, b"place ")?;
+    put(rt, at)?;
+    put_number(rt, number)?;
+    say(rt, b"\n")?;
+    Ok(step.at)
 }
 
 // n = 4 with faulty 2, 4, 8, 15; n = 8 with faulty 200, 206; then 81 00.
-fn main() {
+fn main(rt: HostRuntime) -> io::Result<()> {
     let bytes = b"\x04\x04\x02\x01\x03\x06\x08\x02\xC8\x01\x05\x81\x00";
     let mut at = 0;
     let mut i: usize = 0;
     while i < 12 {
-        at = put_next(bytes, at);
+        at = put_next(&rt, bytes, at)?;
         i += 1;
     }
+    Ok(())
 }
