@@ -13,7 +13,7 @@ use borrow.Author.Tests.{le-leb, leb-true, lt-leb}
 use Rattle.cube.specs.Cube.{bit}
 use Rattle.cube.specs.Tables.{node_bit}
 use Rattle.cube.proofs.Bools.{either, or_none, or_right}
-use Rattle.notice.specs.Addresses.{with_bits}
+use Rattle.notice.specs.Addresses.{with_bit, with_bits}
 use Rattle.notice.proofs.Bits.{bits_with, length_bits}
 use Rattle.spelling.specs.Laws.{Bytes}
 use Rattle.spelling.specs.Spelled.{having}
@@ -81,7 +81,7 @@ nodes_parts (suc a) b k =
 pub bits_then : (t l m : List ℕ) → with_bits t (l ++ m) ≡ with_bits (with_bits t l) m
 unfolding with_bits
 bits_then t [] m = refl
-bits_then t (x ∷ l) m = bits_then _ l m
+bits_then t (x ∷ l) m = bits_then (with_bit t x) l m
 
 pub between_parts : (k hi : ℕ) → k + 7 ≤ hi → between k hi ≡ between k (k + 7) ++ between (k + 8) hi
 between_parts k hi h =

@@ -6,14 +6,15 @@ use Prim.Native.Nat.{ℕ}
 use Rattle.cube.specs.Allowed.{AsksNothing, Function}
 use Rattle.cube.proofs.Contracts.{Says}
 use Rattle.list_reader.specs.Reading.{list_refusal, list_table}
-use Rattle.list_reader.proofs.read as read-claims
+use Rattle.list_reader.specs.contracts.read as read-claims
+use Rattle.list_reader.proofs.read.Reads as read-claims-reads
 
 abbrev pub read : Function read-claims.ended (ℕ × List ℕ × List ℕ) ℕ (List ℕ)
 read =
     record {
-      clauses = λ w. read-claims.clauses w.𝓛 w.𝓜.mem w.𝓡.run;
-      asked = read-claims.Reads.Asked;
-      post = read-claims.Reads.Post;
+      clauses = λ w. read-claims.clauses w.𝓛 w.𝓜.mem w.𝓡.returns;
+      asked = read-claims-reads.Asked;
+      post = read-claims-reads.Post;
       handed = λ κs a. (a.0, a.1.0.now, a.1.1.0.now);
       answered = λ κs r. r;
       left = λ κs e. e.1.1.0.now;

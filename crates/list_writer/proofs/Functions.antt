@@ -8,14 +8,15 @@ use Rattle.cube.specs.Allowed.{AsksNothing, Function}
 use Rattle.cube.proofs.Contracts.{Says}
 use Rattle.writer.specs.declared.Wrote.{Wrote}
 use Rattle.list_writer.specs.Lists.{list_after, wrote_list}
-use Rattle.list_writer.proofs.write as write-claims
+use Rattle.list_writer.specs.contracts.write as write-claims
+use Rattle.list_writer.proofs.write.Reads as write-claims-reads
 
 abbrev pub write : Function write-claims.ended (ℕ × List ℕ × List ℕ) Wrote (List ℕ)
 write =
     record {
-      clauses = λ w. write-claims.clauses w.𝓛 w.𝓜.mem w.𝓡.run;
-      asked = write-claims.Reads.Asked;
-      post = write-claims.Reads.Post;
+      clauses = λ w. write-claims.clauses w.𝓛 w.𝓜.mem w.𝓡.returns;
+      asked = write-claims-reads.Asked;
+      post = write-claims-reads.Post;
       handed = λ κs a. (a.0, a.1.0.now, a.1.1.0.now);
       answered = λ κs r. r;
       left = λ κs e. e.1.1.0.now;
