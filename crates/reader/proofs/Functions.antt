@@ -1,7 +1,6 @@
 -- The crate's public functions as they are seen from outside, each with the claims of its clauses, and what its contract says: the answer, and what is
--- left of what was lent, for whatever is handed; and that an entry point asks nothing of its caller. The methods `new` and `next` hold a borrow, and
--- of such a function the check makes no claims to take: they are taken here from its clauses in the same way, by the kit's reading of a clause, which
--- gives the facts that it states.
+-- left of what was lent, for whatever is handed; and that an entry point asks nothing of its caller. What the clauses of the methods `new` and `next`
+-- claim is taken here from those clauses, by the kit's reading of a clause, which gives the facts that it states.
 use mathlib.Core.List.{List}
 use mathlib.Core.Path.{refl, ap₂}
 use Prim.Native.Nat.{ℕ}
@@ -22,7 +21,8 @@ use Rattle.reader.specs.declared.Reader.{Reader}
 use Rattle.reader.specs.declared.Step.{Step}
 use Rattle.reader.specs.contracts.Reader.new as new-claims
 use Rattle.reader.specs.contracts.Reader.next as next-claims
-use Rattle.reader.proofs.next_at
+use Rattle.reader.specs.contracts.next_at
+use Rattle.reader.proofs.next_at.Reads as next_at-reads
 
 -- a clause, read where nothing is known besides
 abbrev Reads : (w : World) → Pr w → Type 2
@@ -31,7 +31,7 @@ Reads w = ReadAt w (λ w. emp w.𝓤) no_know
 -- ---- a new reader, which has the caller's own reference and not only equal bytes
 
 abbrev new_clauses : (w : World) → Clauses w.𝓤 new-claims.ended
-new_clauses w = new-claims.clauses w.𝓛 w.𝓜.mem w.𝓡.run
+new_clauses w = new-claims.clauses w.𝓛 w.𝓜.mem w.𝓡.returns
 
 abbrev new_requires : (w : World) (κs : Lfts 1) (a : Args new-claims.signature κs) → Reads w ((new_clauses w κs a).requires tt)
 new_requires w κs a = search reads
@@ -61,7 +61,7 @@ new_says = record { says = λ κs a r e p. (ap₂ (λ b t. record { bytes = b; a
 -- ---- the next number of a reader
 
 abbrev next_clauses : (w : World) → Clauses w.𝓤 next-claims.ended
-next_clauses w = next-claims.clauses w.𝓛 w.𝓜.mem w.𝓡.run
+next_clauses w = next-claims.clauses w.𝓛 w.𝓜.mem w.𝓡.returns
 
 abbrev next_requires : (w : World) (κs : Lfts 2) (a : Args next-claims.signature κs) → Reads w ((next_clauses w κs a).requires tt)
 next_requires w κs a = search reads
@@ -93,9 +93,9 @@ next_says = record { says = λ κs a r e p. (p.0, ap₂ (λ b t. record { bytes 
 abbrev pub next-at : Function next_at.ended (List ℕ × ℕ) Step Nothing
 next-at =
     record {
-      clauses = λ w. next_at.clauses w.𝓛 w.𝓜.mem w.𝓡.run;
-      asked = next_at.Reads.Asked;
-      post = next_at.Reads.Post;
+      clauses = λ w. next_at.clauses w.𝓛 w.𝓜.mem w.𝓡.returns;
+      asked = next_at-reads.Asked;
+      post = next_at-reads.Post;
       handed = λ κs a. (a.0.now, a.1.0);
       answered = λ κs r. r;
       left = λ κs e. tt;

@@ -6,7 +6,6 @@ use Prim.Native.Nat.{ℕ, zero, suc, ◌+◌, ◌^◌, ◌<◌}
 use native.Mathlib.Omega.{arith}
 use lib.ListN.{drop}
 use Rattle.groups.specs.Number.{number_at, value_in, two_groups, further}
-use Rattle.groups.specs.declared.Number.TheVariants as number
 use Rattle.groups.specs.declared.Number.TheVariants.{Value}
 use Rattle.groups.proofs.HandedOn.{handed_on}
 use Rattle.notice.specs.Addresses.{addresses_end, addresses_at}

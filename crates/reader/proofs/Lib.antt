@@ -1,7 +1,3 @@
-pub mod Owned
-pub mod Lent
-pub mod Facts
-pub mod Callees
 pub mod Told
 pub mod Refused
 pub mod Laws

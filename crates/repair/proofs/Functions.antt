@@ -7,15 +7,16 @@ use lib.ListN.{length}
 use Rattle.cube.specs.Allowed.{AsksNothing, Function}
 use Rattle.cube.proofs.Contracts.{Says}
 use Rattle.repair.specs.Repairing.{namers_after, repair_refusal, result_after}
-use Rattle.repair.proofs.repair as repair-claims
+use Rattle.repair.specs.contracts.repair as repair-claims
+use Rattle.repair.proofs.repair.Reads as repair-claims-reads
 
 -- handed: the dimension, the old table, the masks, the result and the row; left: the result and the row
 abbrev pub repair : Function repair-claims.ended (ℕ × List ℕ × List ℕ × List ℕ × List ℕ) ℕ (List ℕ × List ℕ)
 repair =
     record {
-      clauses = λ w. repair-claims.clauses w.𝓛 w.𝓜.mem w.𝓡.run;
-      asked = repair-claims.Reads.Asked;
-      post = repair-claims.Reads.Post;
+      clauses = λ w. repair-claims.clauses w.𝓛 w.𝓜.mem w.𝓡.returns;
+      asked = repair-claims-reads.Asked;
+      post = repair-claims-reads.Post;
       handed = λ κs a. (a.0, a.1.0.now, a.1.1.0.now, a.1.1.1.0.now, a.1.1.1.1.0.now);
       answered = λ κs r. r;
       left = λ κs e. (e.1.1.1.0.now, e.1.1.1.1.0.now);

@@ -6,7 +6,6 @@ use mathlib.Core.Path.{◌≡◌, refl, sym, ap, ◌∙◌}
 use Prim.Native.Nat.{ℕ, ◌^◌, ◌<◌}
 use native.Mathlib.Omega.{arith}
 use lib.ListN.{replicate}
-use Rattle.cube.specs.Count.{least}
 use Rattle.cube.specs.Cube.{bit}
 use Rattle.cube.specs.Tables.{node_bit}
 use Rattle.cube.proofs.Bools.{clash, either, or_false, or_left, or_none, or_right, or_true}

@@ -9,15 +9,17 @@ use Rattle.cube.specs.Refusal.{first}
 use Rattle.cube.proofs.Contracts.{Says}
 use Rattle.writer.specs.Writing.{buffer_after, fault_tests, wrote}
 use Rattle.writer.specs.declared.Wrote.{Wrote}
-use Rattle.writer.proofs.table_refusal
-use Rattle.writer.proofs.write as write-claims
+use Rattle.writer.specs.contracts.table_refusal
+use Rattle.writer.proofs.table_refusal.Reads as table_refusal-reads
+use Rattle.writer.specs.contracts.write as write-claims
+use Rattle.writer.proofs.write.Reads as write-claims-reads
 
 abbrev pub write : Function write-claims.ended (ℕ × List ℕ × List ℕ) Wrote (List ℕ)
 write =
     record {
-      clauses = λ w. write-claims.clauses w.𝓛 w.𝓜.mem w.𝓡.run;
-      asked = write-claims.Reads.Asked;
-      post = write-claims.Reads.Post;
+      clauses = λ w. write-claims.clauses w.𝓛 w.𝓜.mem w.𝓡.returns;
+      asked = write-claims-reads.Asked;
+      post = write-claims-reads.Post;
       handed = λ κs a. (a.0, a.1.0.now, a.1.1.0.now);
       answered = λ κs r. r;
       left = λ κs e. e.1.1.0.now;
@@ -32,9 +34,9 @@ write_says = record { says = λ κs a r e p. (p.0, p.1) }
 abbrev pub table-refusal : Function table_refusal.ended (ℕ × List ℕ) ℕ Nothing
 table-refusal =
     record {
-      clauses = λ w. table_refusal.clauses w.𝓛 w.𝓜.mem w.𝓡.run;
-      asked = table_refusal.Reads.Asked;
-      post = table_refusal.Reads.Post;
+      clauses = λ w. table_refusal.clauses w.𝓛 w.𝓜.mem w.𝓡.returns;
+      asked = table_refusal-reads.Asked;
+      post = table_refusal-reads.Post;
       handed = λ κs a. (a.0, a.1.0.now);
       answered = λ κs r. r;
       left = λ κs e. tt;

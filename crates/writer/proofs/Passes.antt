@@ -34,18 +34,18 @@ some_group v = by_cases (λ (g : List ℕ). 1 ≤ length g) (ltb v 128) (λ e. o
 
 -- stored at their places, they are written there, and the next place is behind them
 module _ (at v : ℕ) (s : List ℕ) (room : at + length (groups_of v) ≤ length s) where
-  pub stored_one : v < 128 → (at + 1 ≡ at + length (groups_of v)) × (set s at v ≡ over_at at (groups_of v) s)
+  pub stored_one : v < 128 → record { next : at + 1 ≡ at + length (groups_of v); bytes : set s at v ≡ over_at at (groups_of v) s }
   stored_one h =
       let e = one_group h in
       let l : at + 1 ≤ length s = omega (arith, ap length e) in
-      (omega (arith, ap length e), rw e (over_one at v s l))
+      record { next = omega (arith, ap length e); bytes = rw e (over_one at v s l) }
 
   pub stored_two : 128 ≤ v
-      → (at + 2 ≡ at + length (groups_of v)) × (set (set s at (128 + v % 128)) (at + 1) (v / 128) ≡ over_at at (groups_of v) s)
+      → record { next : at + 2 ≡ at + length (groups_of v); bytes : set (set s at (128 + v % 128)) (at + 1) (v / 128) ≡ over_at at (groups_of v) s }
   stored_two h =
       let e = two-groups h in
       let l : at + 2 ≤ length s = omega (arith, ap length e) in
-      (omega (arith, ap length e), rw e (over_two at (128 + v % 128) (v / 128) s l))
+      record { next = omega (arith, ap length e); bytes = rw e (over_two at (128 + v % 128) (v / 128) s l) }
 
 -- ---- the nodes that are left
 
