@@ -33,8 +33,8 @@ returns-then-weight-ge64 c =
     let p = c.requires.le_rule in
     let l = (goal.at.returns-then-weight-ge64 c).At-loop-bit in
     let kept = c.requires.kept (place l) (omega (arith, inside l (omega arith) (omega arith))) in
-    let r = rule_looked _ _ _ _ _ (seen_enough _ _ _ _ p.0 p.1 _ _ _ c.loop-bit.invariant _ (omega arith) refl kept (omega arith)) in
-    record { holds = r.0; looked = r.1 }
+    let enough = rule_looked _ _ _ _ _ (seen_enough _ _ _ _ p.0 p.1 _ _ _ c.loop-bit.invariant _ (omega arith) refl kept (omega arith)) in
+    record { holds = enough.0; looked = enough.1 }
 
 pub loop-bit-preserved : goal.loop-bit-preserved
 unfolding label_in
@@ -47,5 +47,5 @@ loop-bit-preserved c =
 pub returns : goal.returns
 returns c =
     let p = c.requires.le_rule in
-    let r = rule_looked _ _ _ _ _ (seen_all _ _ _ _ p.0 p.1 _ _ _ c.loop-bit.invariant (omega arith)) in
-    record { holds = r.0; looked = r.1 }
+    let all = rule_looked _ _ _ _ _ (seen_all _ _ _ _ p.0 p.1 _ _ _ c.loop-bit.invariant (omega arith)) in
+    record { holds = all.0; looked = all.1 }
