@@ -10,15 +10,17 @@ use Rattle.notice.specs.Notice.{dimension_of, notice_of, tail_at}
 use Rattle.printed.specs.Printed.{Headed, labels_in, line_at, next_at}
 use Rattle.printed.specs.declared.Head.{Head}
 use Rattle.printed.specs.declared.Line.{Line}
-use Rattle.printed.proofs.head_line as head-claims
-use Rattle.printed.proofs.line_at as line-claims
+use Rattle.printed.specs.contracts.head_line as head-claims
+use Rattle.printed.proofs.head_line.Reads as head-reads
+use Rattle.printed.specs.contracts.line_at as line-claims
+use Rattle.printed.proofs.line_at.Reads as line-reads
 
 abbrev pub head-line : Function head-claims.ended (List ℕ × List ℕ × List ℕ × List ℕ) Head (List ℕ × List ℕ)
 head-line =
     record {
-      clauses = λ w. head-claims.clauses w.𝓛 w.𝓜.mem w.𝓡.run;
-      asked = head-claims.Reads.Asked;
-      post = head-claims.Reads.Post;
+      clauses = λ w. head-claims.clauses w.𝓛 w.𝓜.mem w.𝓡.returns;
+      asked = head-reads.Asked;
+      post = head-reads.Post;
       handed = λ κs a. (a.0.now, a.1.0.now, a.1.1.0.now, a.1.1.1.0.now);
       answered = λ κs r. r;
       left = λ κs e. (e.1.1.0.now, e.1.1.1.0.now);
@@ -27,9 +29,9 @@ head-line =
 abbrev pub line-at : Function line-claims.ended (ℕ × List ℕ × List ℕ × ℕ × List ℕ) Line (List ℕ)
 line-at =
     record {
-      clauses = λ w. line-claims.clauses w.𝓛 w.𝓜.mem w.𝓡.run;
-      asked = line-claims.Reads.Asked;
-      post = line-claims.Reads.Post;
+      clauses = λ w. line-claims.clauses w.𝓛 w.𝓜.mem w.𝓡.returns;
+      asked = line-reads.Asked;
+      post = line-reads.Post;
       handed = λ κs a. (a.0, a.1.0.now, a.1.1.0.now, a.1.1.1.0, a.1.1.1.1.0.now);
       answered = λ κs r. r;
       left = λ κs e. e.1.1.1.1.0.now;

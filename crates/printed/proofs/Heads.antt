@@ -1,6 +1,6 @@
 -- What is printed for the notice, as the code comes to it. The fault table t has the length that the notice asks for, so the reader's answer is the
 -- notice itself; an accepted notice leaves a good fault table, so labelling does not refuse it.
-use mathlib.Core.Path.{◌≡◌, refl, sym, ap, subst, ◌∙◌}
+use mathlib.Core.Path.{◌≡◌, refl, sym, ap, ◌∙◌}
 use mathlib.Core.List.{List, ◌++◌}
 use mathlib.Core.Logic.{inl}
 use Prim.Native.Nat.{ℕ, ◌^◌, ◌≤◌, ◌<◌}
@@ -10,7 +10,7 @@ use lib.ListN.{drop, length, length-replicate, replicate, take}
 use lib.Seq.{take_at}
 use borrow.Author.Tests.{eq-eqb}
 use Rattle.cube.specs.Refusal.{first}
-use Rattle.cube.specs.Tables.{empty_table, label_count, label_in, node_bit, table_len}
+use Rattle.cube.specs.Tables.{label_count, label_in, node_bit, table_len}
 use Rattle.cube.proofs.Count.{count_pos, count_same}
 use Rattle.cube.proofs.Tables.{nodes_few, table_few, zeros_behind, zeros_unused}
 use Rattle.groups.specs.Number.{on_number}
@@ -60,7 +60,7 @@ abbrev pub Few : ℕ → Type 0
 Few n = (n ≤ 12) × (2 ^ n ≤ 4096)
 
 module _ (s t : List ℕ) (sized : length t ≡ wanted_len s) where
-  same : noticed s t ≡ notice_of s
+  pub same : noticed s t ≡ notice_of s
   unfolding noticed notice_of wanted_len
   same = ap (λ (x : Number). notice_from x s) (passes t (dimension_at s) sized)
 
@@ -92,7 +92,7 @@ module _ (s t : List ℕ) (sized : length t ≡ wanted_len s) where
       abbrev K : Cabinet
       K = plain n 3 faults
 
-      same_cabinet : K ≡ cabinet_of s n
+      pub same_cabinet : K ≡ cabinet_of s n
       unfolding table_after
       same_cabinet =
           ap (plain n 3) after ∙ rw e (ap (λ (k : ℕ). plain n 3 (with_bits (replicate k 0) (addresses_of s))) same_length)
@@ -112,14 +112,13 @@ module _ (s t : List ℕ) (sized : length t ≡ wanted_len s) where
           ∙ ap (λ (l : List ℕ). labels_of K ++ drop (2 ^ n) l) zeros
           ∙ ap (λ (l : List ℕ). labels_of K ++ l) (zeros_behind (2 ^ n) (label_bytes n) (2 ^ n) (omega arith)))
 
-      -- fewer faulty nodes than dimensions leave a safe one
-      out_few : m < n → out_of_work K < n
-      out_few h =
-          omega (arith, h, table.total, count_same (2 ^ n) (out K) (node_bit (table_after s t)) (λ x _. plain_out n 3 faults x ∙ ap (λ l. node_bit l x) after))
+      -- as many nodes are out of work as the notice names, and fewer than dimensions leave a safe one
+      pub out_count : out_of_work K ≡ m
+      out_count = count_same (2 ^ n) (out K) (node_bit (table_after s t)) (λ x _. plain_out n 3 faults x ∙ ap (λ l. node_bit l x) after) ∙ table.total
 
-      safe_left : m < n → 0 < label_count (labels_of K) 0
-      safe_left h =
-          let (x, hx, z) = few_out_safe K (inl (refl, out_few h)) in
+      pub safe_left : out_of_work K < n → 0 < label_count (labels_of K) 0
+      safe_left few =
+          let (x, hx, z) = few_out_safe K (inl (refl, few)) in
           count_pos (length (labels_of K)) (λ y. eqb (label_in (labels_of K) y) 0) x (omega (arith, labels_length K)) (eq-eqb (label_in (labels_of K) x) 0 z)
 
       pub cube_head : {bytes end : ℕ} (before labels rest out : List ℕ) → bytes ≡ label_bytes n → before ≡ replicate (label_bytes n) 0
@@ -136,18 +135,3 @@ module _ (s t : List ℕ) (sized : length t ≡ wanted_len s) where
             labelled = take_at labels rest bytes (long ∙ sym full) ∙ kept ∙ rw (is_notice, same_cabinet);
             few = omega (arith, full, few_nodes.1);
           }
-
--- an accepted notice is read into an empty table as into any other
-pub no_alarm : (s : List ℕ) (n m taken : ℕ) → notice_of s ≡ Notice n m taken → m < n → 0 < label_count (labels_of (cabinet_of s n)) 0
-unfolding notice_of
-no_alarm s n m taken e h =
-    subst (λ (K : Cabinet). 0 < label_count (labels_of K) 0) (same_cabinet s t sized read refl) (safe_left s t sized read refl h)
-  where
-    t : List ℕ
-    t = empty_table n
-
-    sized : length t ≡ wanted_len s
-    sized = length-replicate (table_len n) 0 ∙ table_wanted s (sym (opened_notice (dimension_at s) s n m taken e).dimension)
-
-    read : noticed s t ≡ Notice n m taken
-    read = same s t sized ∙ e

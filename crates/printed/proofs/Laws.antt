@@ -32,7 +32,7 @@ use Rattle.walk.specs.Walk.{hops, last, onto, refused, row, spot, stops, turn, w
 use Rattle.lines.specs.Lines.{cube_line, input_refused, notice_refused, pair_line, row_text, too_long}
 use Rattle.printed.specs.Printed.{cabinet_of, first_line, head_line, labels_in, line_at, line_from, listing, next_at, next_from, pair_lines, pairs_of}
 use Rattle.lines.specs.Text.{decimal, text, width}
-use Rattle.printed.proofs.Heads.{no_alarm}
+use Rattle.printed.proofs.Alarm.{no_alarm}
 use Rattle.printed.proofs.Pairs.{first_read, first_refused, next_beyond, second_refused}
 use Rattle.printed.specs.Laws.{ListingLaws, sample_bytes, sample_lines}
 
@@ -163,7 +163,7 @@ none_line = refl
 
 none_pair : (labels : List ℕ) → pair_lines 4 1 labels (0x01 ∷ 0x00 ∷ 0x00 ∷ 0x81 ∷ []) 2 ≡ text "input refused 9 3\n"
 unfolding pair_lines line_at line_from next_at next_from number_at decimal width least
-none_pair labels = refl
+none_pair _ = refl
 
 sample_input : listing (0x01 ∷ 0x00 ∷ 0x00 ∷ 0x81 ∷ [])
     ≡ text "cube 1 faulty 0 safe 2 ordinary 0 strong 0 rounds 1\n" ++ text "input refused 9 3\n"

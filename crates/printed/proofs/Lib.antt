@@ -1,4 +1,5 @@
 pub mod Pairs
 pub mod Heads
+pub mod Alarm
 pub mod Laws
 pub mod Functions
