@@ -41,19 +41,22 @@ is_number-requires c =
 
 pub returns-then-not-is_number : goal.returns-then-not-is_number
 returns-then-not-is_number c =
+    let p = goal.at.returns-then-not-is_number c in
     let a = c.args in
-    range_zero a.s.now a.at c.leading-second.result.count (rest (goal.at.returns-then-not-is_number c).After-leading-second) (rest-is (goal.at.returns-then-not-is_number c).After-leading-second) c.leading-second.ensures.count
+    range_zero a.s.now a.at c.leading-second.result.count (rest p.After-leading-second) (rest-is p.After-leading-second) c.leading-second.ensures.count
     (sym c.is_number.ensures ∙ c.if-not-is_number.true)
 
 pub slice_bounds-is_above-end-2 : goal.slice_bounds-is_above-end-2
 slice_bounds-is_above-end-2 c =
+    let p = goal.at.slice_bounds-is_above-end-2 c in
     let a = c.args in
-    sym (length-take-le c.leading-second.result.count (rest (goal.at.slice_bounds-is_above-end-2 c).After-leading-second) (omega (arith, few (goal.at.slice_bounds-is_above-end-2 c).After-leading-second, ap length (rest-is (goal.at.slice_bounds-is_above-end-2 c).After-leading-second))))
+    sym (length-take-le c.leading-second.result.count (rest p.After-leading-second) (omega (arith, few p.After-leading-second, ap length (rest-is p.After-leading-second))))
 
 pub returns-then-is_above : goal.returns-then-is_above
 returns-then-is_above c =
+    let p = goal.at.returns-then-is_above c in
     let a = c.args in
-    range_below a.s.now a.at c.leading-second.result.count (rest (goal.at.returns-then-is_above c).After-leading-second) (rest-is (goal.at.returns-then-is_above c).After-leading-second) c.leading-second.ensures.count (number (goal.at.returns-then-is_above c).Else-not-is_number)
+    range_below a.s.now a.at c.leading-second.result.count (rest p.After-leading-second) (rest-is p.After-leading-second) c.leading-second.ensures.count (number p.Else-not-is_number)
     (sym c.is_above.ensures ∙ c.if-is_above.true)
 
 pub overflow_add-start-2 : goal.overflow_add-start-2
@@ -64,6 +67,7 @@ close-requires c = among (goal.at.close-requires c).After-leading-second
 
 pub returns : goal.returns
 returns c =
+    let p = goal.at.returns c in
     c.close.ensures
-    ∙ range_good c.args.s.now c.args.at c.leading-second.result.count (rest (goal.at.returns c).After-leading-second) (rest-is (goal.at.returns c).After-leading-second) c.leading-second.ensures.count (number (goal.at.returns c).Else-not-is_number) c.requires.0
+    ∙ range_good c.args.s.now c.args.at c.leading-second.result.count (rest p.After-leading-second) (rest-is p.After-leading-second) c.leading-second.ensures.count (number p.Else-not-is_number) c.requires.0
     (sym c.is_above.ensures ∙ c.if-is_above.false) c.requires.1 c.leading-second.ensures.value

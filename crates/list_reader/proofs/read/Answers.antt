@@ -61,9 +61,9 @@ pub returns-then-refusal-ne0 : goal.returns-then-refusal-ne0
 returns-then-refusal-ne0 c =
     let p = goal.at.returns-then-refusal-ne0 c in
     let a = c.args in
-    let r = wrong_text a.n a.text.now a.faults.now (dimension p.Else-not-is_dimension) (sized p.Else-faults-table_len) c.check-refusal.result
+    let t = wrong_text a.n a.text.now a.faults.now (dimension p.Else-not-is_dimension) (sized p.Else-faults-table_len) c.check-refusal.result
     (judged p.After-check-refusal) c.if-refusal-ne0.true in
-    record { answer = r.0; table = r.1 }
+    record { answer = t.0; table = t.1 }
 
 pub put_entries-requires : goal.put_entries-requires
 put_entries-requires c =

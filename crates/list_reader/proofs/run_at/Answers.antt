@@ -41,15 +41,16 @@ overflow_add-result c =
 
 pub returns-then-s-at-eq45 : goal.returns-then-s-at-eq45
 returns-then-s-at-eq45 c =
+    let p = goal.at.returns-then-s-at-eq45 c in
     let s = c.args.s.now in
     let f = c.leading-first.ensures in
     let g = c.leading-second.ensures in
     record {
       low = f.value;
       high =
-          g.value ∙ ap (λ (r : List ℕ). capped (value (front r))) (rest-is (goal.at.returns-then-s-at-eq45 c).Then-s-at-eq45) ∙ sym (high_dashed s (there (goal.at.returns-then-s-at-eq45 c).Then-s-at-eq45));
+          g.value ∙ ap (λ (r : List ℕ). capped (value (front r))) (rest-is p.Then-s-at-eq45) ∙ sym (high_dashed s (there p.Then-s-at-eq45));
       bytes =
-          omega (arith, f.count, g.count, ap lead (rest-is (goal.at.returns-then-s-at-eq45 c).Then-s-at-eq45), bytes_dashed s (there (goal.at.returns-then-s-at-eq45 c).Then-s-at-eq45));
+          omega (arith, f.count, g.count, ap lead (rest-is p.Then-s-at-eq45), bytes_dashed s (there p.Then-s-at-eq45));
     }
 
 pub returns-else-s-at-eq45 : goal.returns-else-s-at-eq45

@@ -3,25 +3,24 @@ use mathlib.Core.Path.{sym}
 use Prim.Native.Nat.{◌/◌}
 use native.Mathlib.Omega.{arith}
 use Rattle.list_writer.proofs.Digits.{length_more, length_one}
-use Rattle.list_writer.proofs.width.Statement.{statement}
-use Rattle.list_writer.proofs.width.Tie as tie
+use Rattle.list_writer.proofs.width.Goals as goal
 
-returns : tie.Need-returns
-returns c = sym (length_one _ c.if1.true)
+pub returns-then-v-lt10 : goal.returns-then-v-lt10
+returns-then-v-lt10 c = sym (length_one _ c.if-v-lt10.true)
 
-returns-2 : tie.Need-returns-2
-returns-2 c =
-    let v = c.before.before.args.v in
+pub returns-then-v-lt100 : goal.returns-then-v-lt100
+returns-then-v-lt100 c =
+    let v = c.args.v in
     omega (arith, length_more v (omega arith), length_one (v / 10) (omega arith))
 
-returns-3 : tie.Need-returns-3
-returns-3 c =
-    let v = c.before.before.before.args.v in
+pub returns-then-v-lt1000 : goal.returns-then-v-lt1000
+returns-then-v-lt1000 c =
+    let v = c.args.v in
     omega (arith, length_more v (omega arith), length_more (v / 10) (omega arith), length_one (v / 10 / 10) (omega arith))
 
-returns-4 : tie.Need-returns-4
-returns-4 c =
-    let v = c.before.before.before.args.v in
+pub returns : goal.returns
+returns c =
+    let v = c.args.v in
     omega (
       arith,
       length_more v (omega arith),
@@ -29,6 +28,3 @@ returns-4 c =
       length_more (v / 10 / 10) (omega arith),
       length_one (v / 10 / 10 / 10) (omega arith),
     )
-
-pub width_spec : {M : Type 1} → statement M
-width_spec = tie.close (tie.spec returns returns-2 returns-3 returns-4)

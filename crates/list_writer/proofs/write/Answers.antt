@@ -1,0 +1,85 @@
+-- `write` knows the length before it writes: the table is one that is taken, and the text has room.
+use mathlib.Core.List.{List}
+use mathlib.Core.Path.{◌≡◌, sym, ap, ◌∙◌}
+use Prim.Native.Nat.{ℕ, ◌^◌, ◌*◌, ◌≤◌}
+use native.Mathlib.Omega.{arith}
+use lib.ListN.{length}
+use Rattle.cube.specs.Over.{over}
+use Rattle.cube.specs.Tables.{node_bit}
+use Rattle.ranges.specs.Written.{list_text, text_of}
+use Rattle.spelling.specs.Laws.{IsTable}
+use Rattle.spelling.specs.Spelled.{having}
+use Rattle.writer.specs.declared.Wrote.TheVariants.{Length}
+use Rattle.writer.proofs.Parts.{nodes_fit}
+use Rattle.writer.proofs.Refusal.{buffer_kept, buffer_written, has_room, no_room, table_first, table_taken, wrote_length, wrote_refused}
+use Rattle.list_writer.proofs.write.Goals as goal
+use Rattle.list_writer.proofs.write.Goals.{After-measure-length, After-nodes-size, Else-out-length, Else-refusal-ne0}
+
+table : (c : Else-refusal-ne0) → IsTable c.args.n c.args.faults.now
+table c = table_taken _ _ (sym c.table_refusal-refusal.ensures ∙ c.if-refusal-ne0.false)
+
+-- what is measured and put is the table's text
+text-is : (n size : ℕ) (faults : List ℕ) → size ≡ 2 ^ n → text_of (having size 0 (node_bit faults)) ≡ list_text n faults
+unfolding list_text
+text-is n size faults e = ap (λ (k : ℕ). text_of (having k 0 (node_bit faults))) e
+
+length_is : (c : After-measure-length) → c.measure-length.result ≡ length (list_text c.args.n c.args.faults.now)
+length_is c = c.measure-length.ensures ∙ ap length (text-is _ _ _ c.nodes-size.ensures)
+
+-- and has room
+room : (c : Else-out-length) → length (list_text c.args.n c.args.faults.now) ≤ length c.args.out.now
+room c = omega (arith, c.measure-length.ensures, ap length (text-is _ _ c.args.faults.now c.nodes-size.ensures), c.if-out-length.false)
+
+pub returns-then-refusal-ne0 : goal.returns-then-refusal-ne0
+returns-then-refusal-ne0 c =
+    let a = c.args in
+    let w = list_text a.n a.faults.now in
+    let e = c.table_refusal-refusal.ensures in
+    let k = table_first a.n a.faults.now w (length a.out.now) (λ z. c.if-refusal-ne0.true (e ∙ z)) ∙ sym e in
+    record {
+      answer = wrote_refused a.n a.faults.now w (length a.out.now) k c.if-refusal-ne0.true;
+      buffer = buffer_kept a.n a.faults.now w a.out.now k c.if-refusal-ne0.true;
+    }
+
+pub nodes-size-requires : goal.nodes-size-requires
+nodes-size-requires c = omega (arith, (table (goal.at.nodes-size-requires c).Else-refusal-ne0).dimension.1)
+
+fit : (c : After-nodes-size) → (c.nodes-size.result ≤ 4096) × (c.nodes-size.result ≤ 8 * length c.args.faults.now)
+fit c = let t = table_taken _ _ (sym c.table_refusal-refusal.ensures ∙ c.if-refusal-ne0.false) in nodes_fit t.dimension.1 t.sized c.nodes-size.ensures
+
+pub measure-length-requires : goal.measure-length-requires
+measure-length-requires c = fit (goal.at.measure-length-requires c).After-nodes-size
+
+pub returns-then-out-length : goal.returns-then-out-length
+returns-then-out-length c =
+    let p = goal.at.returns-then-out-length c in
+    let a = c.args in
+    let w = list_text a.n a.faults.now in
+    let t = table p.Else-refusal-ne0 in
+    let k = no_room a.n a.faults.now w (length a.out.now) t (omega (arith, length_is p.After-measure-length, c.if-out-length.true)) in
+    record {
+      answer = wrote_refused a.n a.faults.now w (length a.out.now) k (λ z. omega arith);
+      buffer = buffer_kept a.n a.faults.now w a.out.now k (λ z. omega arith);
+    }
+
+pub put_list-requires : goal.put_list-requires
+put_list-requires c =
+    let p = goal.at.put_list-requires c in
+    record {
+      size_bound = fit p.After-nodes-size;
+      faults_in_bounds = omega (arith, room p.Else-out-length, ap length (text-is _ _ c.args.faults.now c.nodes-size.ensures));
+    }
+
+pub returns : goal.returns
+returns c =
+    let a = c.args in
+    let w = list_text a.n a.faults.now in
+    let p = goal.at.returns c in
+    let k = has_room a.n a.faults.now w (length a.out.now) (table p.Else-refusal-ne0) (room p.Else-out-length) in
+    record {
+      answer = ap Length (length_is p.After-measure-length) ∙ wrote_length a.n a.faults.now w (length a.out.now) k;
+      buffer =
+          c.put_list.ensures
+          ∙ ap (λ (l : List ℕ). over l a.out.now) (text-is _ _ a.faults.now c.nodes-size.ensures)
+          ∙ buffer_written a.n a.faults.now w a.out.now k;
+    }
