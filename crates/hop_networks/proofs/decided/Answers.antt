@@ -10,6 +10,8 @@ returns-then-n-i c =
     let s = c.requires in
     halted _ _ _ _ _ _ _ s.1 s.2 c.if-c-d.false _ c.pick-i.ensures c.if-n-i.true
 
+-- where the board lacks the network of the hop that is picked,
+-- no other block is asked for another hop
 pub returns-then-networks-next : goal.returns-then-networks-next
 returns-then-networks-next c =
     let s = c.requires in

@@ -1,11 +1,11 @@
-use Prim.Native.Nat.{◌+◌, ◌*◌, ◌/◌, ◌<◌}
+use Prim.Native.Nat.{◌<◌}
 use native.Mathlib.Omega.{arith}
 use Rattle.blocks.specs.Board.{most_hops}
 use Rattle.walk_networks.proofs.Steps.{delivered, halted, lacking, most_few, on, room, start}
 use Rattle.walk_networks.proofs.find.Goals as goal
 use Rattle.walk_networks.proofs.find.Goals.{Else-networks-next}
 
--- the hop is made: there is room for it in the list, and its number is a byte
+-- the hop is made: there is room for it in the list
 room_at : (c : Else-networks-next) → let a = c.args in c.loop-at.hops < most_hops a.n a.networks
 room_at c =
     let p = c.requires.0 in
@@ -17,35 +17,21 @@ few-at c =
     let p = c.requires.0 in
     omega (arith, room_at c, most_few _ _ p.placed.small p.few)
 
-byte_at : (c : Else-networks-next) → c.after-next.result / 2 * 16 + c.pick_at-i.result < 256
-byte_at c =
-    let p = c.requires.0 in
-    omega (arith, c.if-networks-next.false, p.few, c.if-n-i.false, p.placed.small)
-
 pub loop-at-init : goal.loop-at-init
 loop-at-init c = let p = c.requires.0 in start _ _ _ _ _ p.placed.first p.some _
 
-pub returns-then-n-i-clause-answer : goal.returns-then-n-i-clause-answer
-returns-then-n-i-clause-answer c =
+pub returns-then-n-i : goal.returns-then-n-i
+returns-then-n-i c =
     let p = c.requires.0 in
-    (halted _ _ _ _ _ p.placed.first p.some _ _ _ _ _ c.loop-at.invariant p.placed.second c.loop-at-test.true _ c.pick_at-i.ensures c.if-n-i.true).0
+    let r = halted _ _ _ _ _ p.placed.first p.some _ _ _ _ _ c.loop-at.invariant p.placed.second c.loop-at-test.true _ c.pick_at-i.ensures c.if-n-i.true in
+    record { answer = r.0; list = r.1 }
 
-pub returns-then-n-i-clause-list : goal.returns-then-n-i-clause-list
-returns-then-n-i-clause-list c =
+pub returns-then-networks-next : goal.returns-then-networks-next
+returns-then-networks-next c =
     let p = c.requires.0 in
-    (halted _ _ _ _ _ p.placed.first p.some _ _ _ _ _ c.loop-at.invariant p.placed.second c.loop-at-test.true _ c.pick_at-i.ensures c.if-n-i.true).1
-
-pub returns-then-networks-next-clause-answer : goal.returns-then-networks-next-clause-answer
-returns-then-networks-next-clause-answer c =
-    let p = c.requires.0 in
-    (lacking _ _ _ _ _ p.placed.first p.some _ _ _ _ _ c.loop-at.invariant p.placed.second c.loop-at-test.true _ c.pick_at-i.ensures c.if-n-i.false _
-    c.after-next.ensures c.if-networks-next.true).0
-
-pub returns-then-networks-next-clause-list : goal.returns-then-networks-next-clause-list
-returns-then-networks-next-clause-list c =
-    let p = c.requires.0 in
-    (lacking _ _ _ _ _ p.placed.first p.some _ _ _ _ _ c.loop-at.invariant p.placed.second c.loop-at-test.true _ c.pick_at-i.ensures c.if-n-i.false _
-    c.after-next.ensures c.if-networks-next.true).1
+    let r = lacking _ _ _ _ _ p.placed.first p.some _ _ _ _ _ c.loop-at.invariant p.placed.second c.loop-at-test.true _ c.pick_at-i.ensures c.if-n-i.false _
+    c.after-next.ensures c.if-networks-next.true in
+    record { answer = r.0; list = r.1 }
 
 pub bounds-list-hops : goal.bounds-list-hops
 bounds-list-hops c = few-at (goal.at.bounds-list-hops c).Else-networks-next
@@ -63,12 +49,8 @@ loop-at-preserved c =
     on _ _ _ _ _ p.placed.first p.some _ _ _ _ _ c.loop-at.invariant p.placed.second c.loop-at-test.true _ c.pick_at-i.ensures
     c.if-n-i.false _ c.after-next.ensures c.if-networks-next.false (omega (arith, few-at (goal.at.loop-at-preserved c).Else-networks-next, z.1)) _ c.neighbour-at.ensures
 
-pub returns-clause-answer : goal.returns-clause-answer
-returns-clause-answer c =
+pub returns : goal.returns
+returns c =
     let p = c.requires.0 in
-    (delivered _ _ _ _ _ p.placed.first p.some _ _ _ _ _ c.loop-at.invariant c.loop-at-test.false).0
-
-pub returns-clause-list : goal.returns-clause-list
-returns-clause-list c =
-    let p = c.requires.0 in
-    (delivered _ _ _ _ _ p.placed.first p.some _ _ _ _ _ c.loop-at.invariant c.loop-at-test.false).1
+    let r = delivered _ _ _ _ _ p.placed.first p.some _ _ _ _ _ c.loop-at.invariant c.loop-at-test.false in
+    record { answer = r.0; list = r.1 }

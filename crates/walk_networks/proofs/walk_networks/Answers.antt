@@ -76,13 +76,10 @@ count_few n N lab d s r count hs some e ec =
     let w = walks n lab d s hs N some in
     omega (arith, ec, ap hops_of e, hops_within (hops_on n N lab d s) (last_on n N lab d s), w.within)
 
-pub returns-then-by_board-ne0-clause-answer : goal.returns-then-by_board-ne0-clause-answer
-returns-then-by_board-ne0-clause-answer c =
-    (unboarded _ _ _ _ _ _ _ c.args.hops.now _ (board-refuses (goal.at.returns-then-by_board-ne0-clause-answer c).After-board_refusal-by_board) c.if-by_board-ne0.true).0
-
-pub returns-then-by_board-ne0-clause-hops : goal.returns-then-by_board-ne0-clause-hops
-returns-then-by_board-ne0-clause-hops c =
-    (unboarded _ _ _ _ _ _ _ c.args.hops.now _ (board-refuses (goal.at.returns-then-by_board-ne0-clause-hops c).After-board_refusal-by_board) c.if-by_board-ne0.true).1
+pub returns-then-by_board-ne0 : goal.returns-then-by_board-ne0
+returns-then-by_board-ne0 c =
+    let r = unboarded _ _ _ _ _ _ _ c.args.hops.now _ (board-refuses (goal.at.returns-then-by_board-ne0 c).After-board_refusal-by_board) c.if-by_board-ne0.true in
+    record { answer = r.0; hops = r.1 }
 
 pub overflow_mul-n : goal.overflow_mul-n
 overflow_mul-n c =
@@ -96,13 +93,10 @@ pub list_refusal-by_place-requires : goal.list_refusal-by_place-requires
 list_refusal-by_place-requires c =
     small (goal.at.list_refusal-by_place-requires c).Else-by_board-ne0
 
-pub returns-then-by_place-ne0-clause-answer : goal.returns-then-by_place-ne0-clause-answer
-returns-then-by_place-ne0-clause-answer c =
-    (unlisted _ _ _ _ _ _ _ c.args.hops.now (board (goal.at.returns-then-by_place-ne0-clause-answer c).Else-by_board-ne0) _ (list-refuses (goal.at.returns-then-by_place-ne0-clause-answer c).After-list_refusal-by_place) c.if-by_place-ne0.true).0
-
-pub returns-then-by_place-ne0-clause-hops : goal.returns-then-by_place-ne0-clause-hops
-returns-then-by_place-ne0-clause-hops c =
-    (unlisted _ _ _ _ _ _ _ c.args.hops.now (board (goal.at.returns-then-by_place-ne0-clause-hops c).Else-by_board-ne0) _ (list-refuses (goal.at.returns-then-by_place-ne0-clause-hops c).After-list_refusal-by_place) c.if-by_place-ne0.true).1
+pub returns-then-by_place-ne0 : goal.returns-then-by_place-ne0
+returns-then-by_place-ne0 c =
+    let r = unlisted _ _ _ _ _ _ _ c.args.hops.now (board (goal.at.returns-then-by_place-ne0 c).Else-by_board-ne0) _ (list-refuses (goal.at.returns-then-by_place-ne0 c).After-list_refusal-by_place) c.if-by_place-ne0.true in
+    record { answer = r.0; hops = r.1 }
 
 pub half-table-requires : goal.half-table-requires
 half-table-requires c =
@@ -112,15 +106,11 @@ pub table_refusal-by_labels-requires : goal.table_refusal-by_labels-requires
 table_refusal-by_labels-requires c =
     good (goal.at.table_refusal-by_labels-requires c).After-half-table (asked (goal.at.table_refusal-by_labels-requires c).Else-by_place-ne0 (small (goal.at.table_refusal-by_labels-requires c).Else-by_board-ne0)).0
 
-pub returns-then-by_labels-ne0-clause-answer : goal.returns-then-by_labels-ne0-clause-answer
-returns-then-by_labels-ne0-clause-answer c =
-    (unlabelled _ _ _ _ _ _ _ c.args.hops.now (board (goal.at.returns-then-by_labels-ne0-clause-answer c).Else-by_board-ne0) (listed (goal.at.returns-then-by_labels-ne0-clause-answer c).Else-by_place-ne0) _
-    (labels-refuse (goal.at.returns-then-by_labels-ne0-clause-answer c).After-table_refusal-by_labels) c.if-by_labels-ne0.true).0
-
-pub returns-then-by_labels-ne0-clause-hops : goal.returns-then-by_labels-ne0-clause-hops
-returns-then-by_labels-ne0-clause-hops c =
-    (unlabelled _ _ _ _ _ _ _ c.args.hops.now (board (goal.at.returns-then-by_labels-ne0-clause-hops c).Else-by_board-ne0) (listed (goal.at.returns-then-by_labels-ne0-clause-hops c).Else-by_place-ne0) _
-    (labels-refuse (goal.at.returns-then-by_labels-ne0-clause-hops c).After-table_refusal-by_labels) c.if-by_labels-ne0.true).1
+pub returns-then-by_labels-ne0 : goal.returns-then-by_labels-ne0
+returns-then-by_labels-ne0 c =
+    let r = unlabelled _ _ _ _ _ _ _ c.args.hops.now (board (goal.at.returns-then-by_labels-ne0 c).Else-by_board-ne0) (listed (goal.at.returns-then-by_labels-ne0 c).Else-by_place-ne0) _
+    (labels-refuse (goal.at.returns-then-by_labels-ne0 c).After-table_refusal-by_labels) c.if-by_labels-ne0.true in
+    record { answer = r.0; hops = r.1 }
 
 pub find-found-requires : goal.find-found-requires
 find-found-requires c =
@@ -134,14 +124,9 @@ write-requires c =
     let few = count_few _ _ _ _ _ _ _ p.0.first b.0 (found (goal.at.write-requires c).After-find-found) c.made.ensures in
     (omega (arith, few, most (goal.at.write-requires c).Else-by_board-ne0), omega (arith, few, p.1))
 
-pub returns-clause-answer : goal.returns-clause-answer
-returns-clause-answer c =
-    (walked _ _ _ _ _ _ _ c.args.hops.now (board (goal.at.returns-clause-answer c).Else-by_board-ne0) (listed (goal.at.returns-clause-answer c).Else-by_place-ne0)
-    (sym (labels-refuse (goal.at.returns-clause-answer c).After-table_refusal-by_labels) ∙ c.if-by_labels-ne0.false) _ _ _ _ _ (found (goal.at.returns-clause-answer c).After-find-found)
-    (rw c.half-table.ensures.bytes at c.find-found.ensures.list) c.made.ensures c.write.ensures).0
-
-pub returns-clause-hops : goal.returns-clause-hops
-returns-clause-hops c =
-    (walked _ _ _ _ _ _ _ c.args.hops.now (board (goal.at.returns-clause-hops c).Else-by_board-ne0) (listed (goal.at.returns-clause-hops c).Else-by_place-ne0)
-    (sym (labels-refuse (goal.at.returns-clause-hops c).After-table_refusal-by_labels) ∙ c.if-by_labels-ne0.false) _ _ _ _ _ (found (goal.at.returns-clause-hops c).After-find-found)
-    (rw c.half-table.ensures.bytes at c.find-found.ensures.list) c.made.ensures c.write.ensures).1
+pub returns : goal.returns
+returns c =
+    let r = walked _ _ _ _ _ _ _ c.args.hops.now (board (goal.at.returns c).Else-by_board-ne0) (listed (goal.at.returns c).Else-by_place-ne0)
+    (sym (labels-refuse (goal.at.returns c).After-table_refusal-by_labels) ∙ c.if-by_labels-ne0.false) _ _ _ _ _ (found (goal.at.returns c).After-find-found)
+    (rw c.half-table.ensures.bytes at c.find-found.ensures.list) c.made.ensures c.write.ensures in
+    record { answer = r.0; hops = r.1 }
