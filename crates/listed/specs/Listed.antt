@@ -9,14 +9,14 @@ use Rattle.printed.specs.declared.Head.{Head}
 use Rattle.printed.specs.declared.Line.{Line}
 use Rattle.printed.proofs.Functions as printed
 use Rattle.printed.specs.contracts.head_line as head-line
-use Rattle.printed.proofs.head_line.Reads as head-line-reads
 use Rattle.printed.specs.contracts.line_at as line-at
-use Rattle.printed.proofs.line_at.Reads as line-at-reads
+use Rattle.printed.proofs.head_line.Reads as head-reads
+use Rattle.printed.proofs.line_at.Reads as line-reads
 
 pub record Listed : Type 2 where
   pub head_tied :
-      Tied printed.head-line (λ w. head-line.clauses w.𝓛 w.𝓜.mem w.𝓡.returns) head-line-reads.Asked head-line-reads.Post
-  pub line_tied : Tied printed.line-at (λ w. line-at.clauses w.𝓛 w.𝓜.mem w.𝓡.returns) line-at-reads.Asked line-at-reads.Post
+      Tied printed.head-line (λ w. head-line.clauses w.𝓛 w.𝓜.mem w.𝓡.returns) head-reads.Asked head-reads.Post
+  pub line_tied : Tied printed.line-at (λ w. line-at.clauses w.𝓛 w.𝓜.mem w.𝓡.returns) line-reads.Asked line-reads.Post
   -- for the notice: its line stands at the front of the buffer, and beside it are the dimension and the labels of its cube
   pub head :
       {bytes faults labels out labels' out' : List ℕ} {h : Head} → May printed.head-line (bytes, faults, labels, out) h (labels', out')
