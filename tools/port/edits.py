@@ -278,6 +278,14 @@ def bring(edit):
             out += keep
             said.append(f"{now[len(crate) + 1:]} goes away: {old}")
             continue
+        if path not in files and os.path.exists(now):
+            # a file that is new today: written by hand
+            texts.setdefault(path, open(now, encoding="utf-8").read())
+            if texts[path].count(old) != 1:
+                said.append(f"{now[len(crate) + 1:]}: {old}")
+            texts[path] = texts[path].replace(old, new)
+            out += keep
+            continue
         if path not in files or files[path][2] is None:
             out += keep
             said.append(f"{path} is gone: {old}")
@@ -306,6 +314,8 @@ def bring(edit):
         if pair == ():
             changed = True
             continue
+        if pair is None and text.count(old) == 1 and "·" not in old + new:
+            pair = (old, new)
         if pair is None or text.count(pair[0]) != 1:
             out += keep
             said.append(f"{path[len(crate) + 1:]}: {old}")

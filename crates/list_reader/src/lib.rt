@@ -244,7 +244,7 @@ fn run_at(s: &[u8]) -> Run
 // Sets the bits of every entry of a text that was judged.
 fn put_entries(text: &[u8], faults: &mut [u8])
     requires faults_len_bound { (length faults.old ≤ 512) × Bytes faults.old }
-    requires text_value { (is_list text.now ≡ true) × (reaches (8 * length faults.old) text.now ≡ false) }
+    requires text_judged { (is_list text.now ≡ true) × (reaches (8 * length faults.old) text.now ≡ false) }
     ensures { faults.new ≡ with_parts faults.old (parts_of text.now) }
 {
     let mut at: usize = 0;

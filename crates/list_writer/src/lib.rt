@@ -140,7 +140,7 @@ fn put_entry(out: &mut [u8], at: usize, low: usize, high: usize) -> usize
 // Writes the text of the faulty nodes among the first so many to the front of the buffer.
 fn put_list(faults: &[u8], size: usize, out: &mut [u8])
     requires size_bound { (size ≤ 4096) × (size ≤ 8 * length faults.now) }
-    requires faults_in_bounds { length (text_of (having size 0 (node_bit faults.now))) ≤ length out.old }
+    requires room { length (text_of (having size 0 (node_bit faults.now))) ≤ length out.old }
     ensures { out.new ≡ over (text_of (having size 0 (node_bit faults.now))) out.old }
 {
     let mut at: usize = 0;

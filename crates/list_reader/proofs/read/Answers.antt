@@ -78,7 +78,7 @@ put_entries-requires c =
         omega (arith, long, table_few a.n (dimension_is _ (dimension p.Else-not-is_dimension)).1),
         subst Bytes (sym z) (bytes_zeros (length a.faults.now)),
       );
-      text_value = (g.0, reaches_wider (2 ^ a.n) _ a.text.now (omega (arith, long, table_room a.n)) g.1);
+      text_judged = (g.0, reaches_wider (2 ^ a.n) _ a.text.now (omega (arith, long, table_room a.n)) g.1);
     }
 
 pub returns : goal.returns

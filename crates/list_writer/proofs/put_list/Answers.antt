@@ -21,7 +21,7 @@ loop-k-init c = write_start _ _ _
 
 pub put_gap-start-requires : goal.put_gap-start-requires
 put_gap-start-requires c =
-    gap_room _ _ c.loop-k.invariant c.requires.faults_in_bounds (omega arith) c.run_end-end.result c.run_end-end.ensures c.requires.size_bound.0 (faulty (goal.at.put_gap-start-requires c).Then-node_bit)
+    gap_room _ _ c.loop-k.invariant c.requires.room (omega arith) c.run_end-end.result c.run_end-end.ensures c.requires.size_bound.0 (faulty (goal.at.put_gap-start-requires c).Then-node_bit)
 
 pub overflow_sub-end : goal.overflow_sub-end
 overflow_sub-end c = run_begins _ _ (omega arith) c.run_end-end.ensures (faulty (goal.at.overflow_sub-end c).Then-node_bit)
@@ -32,7 +32,7 @@ put_entry-at-requires c =
     let n = run_nodes _ _ (omega arith) c.run_end-end.ensures c.requires.size_bound.0 in (
       n.0,
       omega (arith, n.1),
-      entry_room _ _ c.loop-k.invariant c.requires.faults_in_bounds (omega arith) c.run_end-end.result c.run_end-end.ensures c.requires.size_bound.0 (faulty p.Then-node_bit) (piece p.After-put_gap-start),
+      entry_room _ _ c.loop-k.invariant c.requires.room (omega arith) c.run_end-end.result c.run_end-end.ensures c.requires.size_bound.0 (faulty p.Then-node_bit) (piece p.After-put_gap-start),
     )
 
 pub loop-k-smaller-then-node_bit : goal.loop-k-smaller-then-node_bit
@@ -42,12 +42,12 @@ loop-k-smaller-then-node_bit c =
 pub loop-k-preserved-then-node_bit : goal.loop-k-preserved-then-node_bit
 loop-k-preserved-then-node_bit c =
     let p = goal.at.loop-k-preserved-then-node_bit c in
-    write_run _ _ c.loop-k.invariant c.requires.faults_in_bounds (omega arith) c.run_end-end.result c.run_end-end.ensures c.requires.size_bound.0 (faulty p.Then-node_bit) (piece p.After-put_gap-start)
+    write_run _ _ c.loop-k.invariant c.requires.room (omega arith) c.run_end-end.result c.run_end-end.ensures c.requires.size_bound.0 (faulty p.Then-node_bit) (piece p.After-put_gap-start)
     (record { place = c.put_entry-at.ensures.next; bytes = c.put_entry-at.ensures.bytes })
 
 pub loop-k-preserved : goal.loop-k-preserved
 loop-k-preserved c =
-    write_not _ _ c.loop-k.invariant c.requires.faults_in_bounds (omega arith) (sym c.node_bit.ensures ∙ c.if-node_bit.false)
+    write_not _ _ c.loop-k.invariant c.requires.room (omega arith) (sym c.node_bit.ensures ∙ c.if-node_bit.false)
 
 pub returns : goal.returns
-returns c = write_end _ _ c.loop-k.invariant c.requires.faults_in_bounds (omega arith)
+returns c = write_end _ _ c.loop-k.invariant c.requires.room (omega arith)

@@ -67,7 +67,7 @@ put_list-requires c =
     let p = goal.at.put_list-requires c in
     record {
       size_bound = fit p.After-nodes-size;
-      faults_in_bounds = omega (arith, room p.Else-out-length, ap length (text-is _ _ c.args.faults.now c.nodes-size.ensures));
+      room = omega (arith, room p.Else-out-length, ap length (text-is _ _ c.args.faults.now c.nodes-size.ensures));
     }
 
 pub returns : goal.returns
