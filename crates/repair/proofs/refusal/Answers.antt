@@ -54,12 +54,12 @@ pub returns-then-some_stray : goal.returns-then-some_stray
 returns-then-some_stray c =
     stray-bit _ _ _ _ _ (sym c.is_dimension.ensures ∙ c.if-not-is_dimension.false) (c.if-faults-bytes.false ∙ c.table_len-bytes.ensures)
     (c.if-masks-size.false ∙ c.nodes-size.ensures) (c.if-res-bytes.false ∙ c.table_len-bytes.ensures)
-    (c.if-row-size.false ∙ c.nodes-size.ensures) (sym c.unused_set.ensures ∙ c.if-unused_set.false)
-    (sym c.some_stray.ensures ∙ c.if-some_stray.true)
+    (c.if-row-size.false ∙ c.nodes-size.ensures)
+    (sym c.unused_set.ensures ∙ c.if-unused_set.false) (sym c.some_stray.ensures ∙ c.if-some_stray.true)
 
 pub returns : goal.returns
 returns c =
     nothing_wrong _ _ _ _ _ (sym c.is_dimension.ensures ∙ c.if-not-is_dimension.false) (c.if-faults-bytes.false ∙ c.table_len-bytes.ensures)
     (c.if-masks-size.false ∙ c.nodes-size.ensures) (c.if-res-bytes.false ∙ c.table_len-bytes.ensures)
-    (c.if-row-size.false ∙ c.nodes-size.ensures) (sym c.unused_set.ensures ∙ c.if-unused_set.false)
-    (sym c.some_stray.ensures ∙ c.if-some_stray.false)
+    (c.if-row-size.false ∙ c.nodes-size.ensures)
+    (sym c.unused_set.ensures ∙ c.if-unused_set.false) (sym c.some_stray.ensures ∙ c.if-some_stray.false)
