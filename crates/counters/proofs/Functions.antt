@@ -7,15 +7,16 @@ use lib.ListN.{length}
 use Rattle.cube.specs.Allowed.{AsksNothing, Function}
 use Rattle.cube.proofs.Contracts.{Says}
 use Rattle.counters.specs.Tally.{counters_after, tally_refusal}
-use Rattle.counters.proofs.tally as tally-claims
+use Rattle.counters.specs.contracts.tally as tally-claims
+use Rattle.counters.proofs.tally.Reads as tally-claims-reads
 
 -- handed: the dimension and the counters; left: the counters
 abbrev pub tally : Function tally-claims.ended (ℕ × List ℕ) ℕ (List ℕ)
 tally =
     record {
-      clauses = λ w. tally-claims.clauses w.𝓛 w.𝓜.mem w.𝓡.run;
-      asked = tally-claims.Reads.Asked;
-      post = tally-claims.Reads.Post;
+      clauses = λ w. tally-claims.clauses w.𝓛 w.𝓜.mem w.𝓡.returns;
+      asked = tally-claims-reads.Asked;
+      post = tally-claims-reads.Post;
       handed = λ κs a. (a.0, a.1.0.now);
       answered = λ κs r. r;
       left = λ κs e. e.1.0.now;

@@ -9,7 +9,7 @@ use native.Mathlib.Omega.{arith}
 use lib.Dec.{eqb}
 use lib.ListN.{drop, get_or, length, set, take}
 use lib.Pow.{pow_mono}
-use Rattle.cube.specs.Count.{count, some}
+use Rattle.cube.specs.Count.{count}
 use Rattle.cube.specs.Tables.{label_count}
 use Rattle.cube.proofs.Count.{counted, none_counted}
 use Rattle.cube.proofs.Search.{some_hit, some_none}

@@ -30,25 +30,36 @@ use Rattle.hcube.specs.Answers.{
   walked_by,
   written_number,
 }
-use Rattle.hcube.proofs.hcube_label
-use Rattle.hcube.proofs.hcube_hop
-use Rattle.hcube.proofs.hcube_walk
-use Rattle.hcube.proofs.hcube_why_node
-use Rattle.hcube.proofs.hcube_why_hop
-use Rattle.hcube.proofs.hcube_notice_dimension
-use Rattle.hcube.proofs.hcube_read_notice
-use Rattle.hcube.proofs.hcube_write_notice
-use Rattle.hcube.proofs.hcube_read_list
-use Rattle.hcube.proofs.hcube_write_list
-use Rattle.hcube.proofs.hcube_repair
+use Rattle.hcube.specs.contracts.hcube_label
+use Rattle.hcube.proofs.hcube_label.Reads as hcube_label-reads
+use Rattle.hcube.specs.contracts.hcube_hop
+use Rattle.hcube.proofs.hcube_hop.Reads as hcube_hop-reads
+use Rattle.hcube.specs.contracts.hcube_walk
+use Rattle.hcube.proofs.hcube_walk.Reads as hcube_walk-reads
+use Rattle.hcube.specs.contracts.hcube_why_node
+use Rattle.hcube.proofs.hcube_why_node.Reads as hcube_why_node-reads
+use Rattle.hcube.specs.contracts.hcube_why_hop
+use Rattle.hcube.proofs.hcube_why_hop.Reads as hcube_why_hop-reads
+use Rattle.hcube.specs.contracts.hcube_notice_dimension
+use Rattle.hcube.proofs.hcube_notice_dimension.Reads as hcube_notice_dimension-reads
+use Rattle.hcube.specs.contracts.hcube_read_notice
+use Rattle.hcube.proofs.hcube_read_notice.Reads as hcube_read_notice-reads
+use Rattle.hcube.specs.contracts.hcube_write_notice
+use Rattle.hcube.proofs.hcube_write_notice.Reads as hcube_write_notice-reads
+use Rattle.hcube.specs.contracts.hcube_read_list
+use Rattle.hcube.proofs.hcube_read_list.Reads as hcube_read_list-reads
+use Rattle.hcube.specs.contracts.hcube_write_list
+use Rattle.hcube.proofs.hcube_write_list.Reads as hcube_write_list-reads
+use Rattle.hcube.specs.contracts.hcube_repair
+use Rattle.hcube.proofs.hcube_repair.Reads as hcube_repair-reads
 pub use Rattle.hcube.proofs.NetworkFunctions.{hop-networks, hop_networks_asks, hop_networks_says, walk-networks, walk_networks_asks, walk_networks_says}
 
 abbrev pub label : Function hcube_label.ended (ℕ × ℕ × ℕ × List ℕ × List ℕ × List ℕ × List ℕ) ℕ (List ℕ)
 label =
     record {
-      clauses = λ w. hcube_label.clauses w.𝓛 w.𝓜.mem w.𝓡.run;
-      asked = hcube_label.Reads.Asked;
-      post = hcube_label.Reads.Post;
+      clauses = λ w. hcube_label.clauses w.𝓛 w.𝓜.mem w.𝓡.returns;
+      asked = hcube_label-reads.Asked;
+      post = hcube_label-reads.Post;
       handed = λ κs a.
           (a.0, a.1.0, a.1.1.0, a.1.1.1.0.now, a.1.1.1.1.0.now, a.1.1.1.1.1.0.now, a.1.1.1.1.1.1.0.now);
       answered = λ κs r. r;
@@ -66,9 +77,9 @@ label_says = record { says = λ κs a r e p. (p.0, p.1) }
 abbrev pub hop : Function hcube_hop.ended (ℕ × ℕ × ℕ × ℕ × List ℕ) ℕ Nothing
 hop =
     record {
-      clauses = λ w. hcube_hop.clauses w.𝓛 w.𝓜.mem w.𝓡.run;
-      asked = hcube_hop.Reads.Asked;
-      post = hcube_hop.Reads.Post;
+      clauses = λ w. hcube_hop.clauses w.𝓛 w.𝓜.mem w.𝓡.returns;
+      asked = hcube_hop-reads.Asked;
+      post = hcube_hop-reads.Post;
       handed = λ κs a. (a.0, a.1.0, a.1.1.0, a.1.1.1.0, a.1.1.1.1.0.now);
       answered = λ κs r. r;
       left = λ κs e. tt;
@@ -83,9 +94,9 @@ hop_says = record { says = λ κs a r e p. (p, refl) }
 abbrev pub walk : Function hcube_walk.ended (ℕ × ℕ × ℕ × ℕ × List ℕ × List ℕ) ℕ (List ℕ)
 walk =
     record {
-      clauses = λ w. hcube_walk.clauses w.𝓛 w.𝓜.mem w.𝓡.run;
-      asked = hcube_walk.Reads.Asked;
-      post = hcube_walk.Reads.Post;
+      clauses = λ w. hcube_walk.clauses w.𝓛 w.𝓜.mem w.𝓡.returns;
+      asked = hcube_walk-reads.Asked;
+      post = hcube_walk-reads.Post;
       handed = λ κs a. (a.0, a.1.0, a.1.1.0, a.1.1.1.0, a.1.1.1.1.0.now, a.1.1.1.1.1.0.now);
       answered = λ κs r. r;
       left = λ κs e. e.1.1.1.1.1.0.now;
@@ -103,9 +114,9 @@ walk_says = record { says = λ κs a r e p. (p.0, p.1) }
 abbrev pub why-node : Function hcube_why_node.ended (ℕ × ℕ × ℕ × ℕ × List ℕ × List ℕ × List ℕ × List ℕ) ℕ (List ℕ)
 why-node =
     record {
-      clauses = λ w. hcube_why_node.clauses w.𝓛 w.𝓜.mem w.𝓡.run;
-      asked = hcube_why_node.Reads.Asked;
-      post = hcube_why_node.Reads.Post;
+      clauses = λ w. hcube_why_node.clauses w.𝓛 w.𝓜.mem w.𝓡.returns;
+      asked = hcube_why_node-reads.Asked;
+      post = hcube_why_node-reads.Post;
       handed = λ κs a.
           (a.0, a.1.0, a.1.1.0, a.1.1.1.0, a.1.1.1.1.0.now, a.1.1.1.1.1.0.now, a.1.1.1.1.1.1.0.now, a.1.1.1.1.1.1.1.0.now);
       answered = λ κs r. r;
@@ -123,9 +134,9 @@ why_node_says = record { says = λ κs a r e p. (p.0, p.1) }
 abbrev pub why-hop : Function hcube_why_hop.ended (ℕ × ℕ × ℕ × ℕ × List ℕ) ℕ Nothing
 why-hop =
     record {
-      clauses = λ w. hcube_why_hop.clauses w.𝓛 w.𝓜.mem w.𝓡.run;
-      asked = hcube_why_hop.Reads.Asked;
-      post = hcube_why_hop.Reads.Post;
+      clauses = λ w. hcube_why_hop.clauses w.𝓛 w.𝓜.mem w.𝓡.returns;
+      asked = hcube_why_hop-reads.Asked;
+      post = hcube_why_hop-reads.Post;
       handed = λ κs a. (a.0, a.1.0, a.1.1.0, a.1.1.1.0, a.1.1.1.1.0.now);
       answered = λ κs r. r;
       left = λ κs e. tt;
@@ -141,9 +152,9 @@ why_hop_says = record { says = λ κs a r e p. (p, refl) }
 abbrev pub notice_dimension : Function hcube_notice_dimension.ended (List ℕ) ℕ Nothing
 notice_dimension =
     record {
-      clauses = λ w. hcube_notice_dimension.clauses w.𝓛 w.𝓜.mem w.𝓡.run;
-      asked = hcube_notice_dimension.Reads.Asked;
-      post = hcube_notice_dimension.Reads.Post;
+      clauses = λ w. hcube_notice_dimension.clauses w.𝓛 w.𝓜.mem w.𝓡.returns;
+      asked = hcube_notice_dimension-reads.Asked;
+      post = hcube_notice_dimension-reads.Post;
       handed = λ κs a. a.0.now;
       answered = λ κs r. r;
       left = λ κs e. tt;
@@ -158,9 +169,9 @@ notice_dimension_says = record { says = λ κs a r e p. (p, refl) }
 abbrev pub read_notice : Function hcube_read_notice.ended (List ℕ × List ℕ) ℕ (List ℕ)
 read_notice =
     record {
-      clauses = λ w. hcube_read_notice.clauses w.𝓛 w.𝓜.mem w.𝓡.run;
-      asked = hcube_read_notice.Reads.Asked;
-      post = hcube_read_notice.Reads.Post;
+      clauses = λ w. hcube_read_notice.clauses w.𝓛 w.𝓜.mem w.𝓡.returns;
+      asked = hcube_read_notice-reads.Asked;
+      post = hcube_read_notice-reads.Post;
       handed = λ κs a. (a.0.now, a.1.0.now);
       answered = λ κs r. r;
       left = λ κs e. e.1.0.now;
@@ -175,9 +186,9 @@ read_notice_says = record { says = λ κs a r e p. (p.0, p.1) }
 abbrev pub write_notice : Function hcube_write_notice.ended (ℕ × List ℕ × List ℕ) ℕ (List ℕ)
 write_notice =
     record {
-      clauses = λ w. hcube_write_notice.clauses w.𝓛 w.𝓜.mem w.𝓡.run;
-      asked = hcube_write_notice.Reads.Asked;
-      post = hcube_write_notice.Reads.Post;
+      clauses = λ w. hcube_write_notice.clauses w.𝓛 w.𝓜.mem w.𝓡.returns;
+      asked = hcube_write_notice-reads.Asked;
+      post = hcube_write_notice-reads.Post;
       handed = λ κs a. (a.0, a.1.0.now, a.1.1.0.now);
       answered = λ κs r. r;
       left = λ κs e. e.1.1.0.now;
@@ -192,9 +203,9 @@ write_notice_says = record { says = λ κs a r e p. (p.0, p.1) }
 abbrev pub read_list : Function hcube_read_list.ended (ℕ × List ℕ × List ℕ) ℕ (List ℕ)
 read_list =
     record {
-      clauses = λ w. hcube_read_list.clauses w.𝓛 w.𝓜.mem w.𝓡.run;
-      asked = hcube_read_list.Reads.Asked;
-      post = hcube_read_list.Reads.Post;
+      clauses = λ w. hcube_read_list.clauses w.𝓛 w.𝓜.mem w.𝓡.returns;
+      asked = hcube_read_list-reads.Asked;
+      post = hcube_read_list-reads.Post;
       handed = λ κs a. (a.0, a.1.0.now, a.1.1.0.now);
       answered = λ κs r. r;
       left = λ κs e. e.1.1.0.now;
@@ -209,9 +220,9 @@ read_list_says = record { says = λ κs a r e p. (p.0, p.1) }
 abbrev pub write_list : Function hcube_write_list.ended (ℕ × List ℕ × List ℕ) ℕ (List ℕ)
 write_list =
     record {
-      clauses = λ w. hcube_write_list.clauses w.𝓛 w.𝓜.mem w.𝓡.run;
-      asked = hcube_write_list.Reads.Asked;
-      post = hcube_write_list.Reads.Post;
+      clauses = λ w. hcube_write_list.clauses w.𝓛 w.𝓜.mem w.𝓡.returns;
+      asked = hcube_write_list-reads.Asked;
+      post = hcube_write_list-reads.Post;
       handed = λ κs a. (a.0, a.1.0.now, a.1.1.0.now);
       answered = λ κs r. r;
       left = λ κs e. e.1.1.0.now;
@@ -226,9 +237,9 @@ write_list_says = record { says = λ κs a r e p. (p.0, p.1) }
 abbrev pub repair : Function hcube_repair.ended (ℕ × List ℕ × List ℕ × List ℕ × List ℕ) ℕ (List ℕ × List ℕ)
 repair =
     record {
-      clauses = λ w. hcube_repair.clauses w.𝓛 w.𝓜.mem w.𝓡.run;
-      asked = hcube_repair.Reads.Asked;
-      post = hcube_repair.Reads.Post;
+      clauses = λ w. hcube_repair.clauses w.𝓛 w.𝓜.mem w.𝓡.returns;
+      asked = hcube_repair-reads.Asked;
+      post = hcube_repair-reads.Post;
       handed = λ κs a. (a.0, a.1.0.now, a.1.1.0.now, a.1.1.1.0.now, a.1.1.1.1.0.now);
       answered = λ κs r. r;
       left = λ κs e. (e.1.1.1.0.now, e.1.1.1.1.0.now);

@@ -9,15 +9,17 @@ use Rattle.jobs.specs.Jobs.{label_for}
 use Rattle.hop_networks.specs.Hopping.{hopped_in}
 use Rattle.walk_networks.specs.Crossing.{crossing, hops_after}
 use Rattle.hcube.specs.Answers.{crossed_number, hop_number}
-use Rattle.hcube.proofs.hcube_hop_networks
-use Rattle.hcube.proofs.hcube_walk_networks
+use Rattle.hcube.specs.contracts.hcube_hop_networks
+use Rattle.hcube.proofs.hcube_hop_networks.Reads as hcube_hop_networks-reads
+use Rattle.hcube.specs.contracts.hcube_walk_networks
+use Rattle.hcube.proofs.hcube_walk_networks.Reads as hcube_walk_networks-reads
 
 abbrev pub hop-networks : Function hcube_hop_networks.ended (ℕ × ℕ × ℕ × ℕ × ℕ × ℕ × ℕ × List ℕ) ℕ Nothing
 hop-networks =
     record {
-      clauses = λ w. hcube_hop_networks.clauses w.𝓛 w.𝓜.mem w.𝓡.run;
-      asked = hcube_hop_networks.Reads.Asked;
-      post = hcube_hop_networks.Reads.Post;
+      clauses = λ w. hcube_hop_networks.clauses w.𝓛 w.𝓜.mem w.𝓡.returns;
+      asked = hcube_hop_networks-reads.Asked;
+      post = hcube_hop_networks-reads.Post;
       handed = λ κs a.
           (a.0, a.1.0, a.1.1.0, a.1.1.1.0, a.1.1.1.1.0, a.1.1.1.1.1.0, a.1.1.1.1.1.1.0, a.1.1.1.1.1.1.1.0.now);
       answered = λ κs r. r;
@@ -34,9 +36,9 @@ hop_networks_says = record { says = λ κs a r e p. (p, refl) }
 abbrev pub walk-networks : Function hcube_walk_networks.ended (ℕ × ℕ × ℕ × ℕ × ℕ × List ℕ × List ℕ) ℕ (List ℕ)
 walk-networks =
     record {
-      clauses = λ w. hcube_walk_networks.clauses w.𝓛 w.𝓜.mem w.𝓡.run;
-      asked = hcube_walk_networks.Reads.Asked;
-      post = hcube_walk_networks.Reads.Post;
+      clauses = λ w. hcube_walk_networks.clauses w.𝓛 w.𝓜.mem w.𝓡.returns;
+      asked = hcube_walk_networks-reads.Asked;
+      post = hcube_walk_networks-reads.Post;
       handed = λ κs a.
           (a.0, a.1.0, a.1.1.0, a.1.1.1.0, a.1.1.1.1.0, a.1.1.1.1.1.0.now, a.1.1.1.1.1.1.0.now);
       answered = λ κs r. r;

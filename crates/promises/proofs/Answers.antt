@@ -49,7 +49,7 @@ use Rattle.hcube.specs.Answers.{
 use Rattle.hcube.proofs.Functions as hcube
 use Rattle.promises.specs.Answers.{Answers}
 use Rattle.promises.specs.Library.{rattle, c}
-use Rattle.promises.proofs.Lent.{four, lend, one, two}
+use Rattle.promises.proofs.Lent.{four, lend, lend_mut, one, two}
 use Rattle.promises.proofs.NetworkAnswers as networks
 
 module _ (bytes : List ℕ) where
@@ -67,35 +67,35 @@ module _ (bytes before : List ℕ) where
   table = table_after bytes before
 
   reads : May notice.read (bytes, before) x table
-  reads = may notice.read two (lend bytes, (lend before, tt)) x (lend bytes, (lend table, tt)) (refl, refl)
+  reads = may notice.read two (lend bytes, (lend_mut before, tt)) x (lend bytes, (lend_mut table, tt)) (refl, refl)
 
   c_reads : May hcube.read_notice (bytes, before) (notice_number x) table
-  c_reads = may hcube.read_notice two (lend bytes, (lend before, tt)) (notice_number x) (lend bytes, (lend table, tt)) (refl, refl)
+  c_reads = may hcube.read_notice two (lend bytes, (lend_mut before, tt)) (notice_number x) (lend bytes, (lend_mut table, tt)) (refl, refl)
 
 module _ (n : ℕ) (faults before : List ℕ) where
   abbrev written : List ℕ
   written = buffer_after n faults before
 
   writes : May writer.write (n, faults, before) (wrote n faults (length before)) written
-  writes = may writer.write two (n, (lend faults, (lend before, tt))) (wrote n faults (length before)) (n, (lend faults, (lend written, tt))) (refl, refl)
+  writes = may writer.write two (n, (lend faults, (lend_mut before, tt))) (wrote n faults (length before)) (n, (lend faults, (lend_mut written, tt))) (refl, refl)
 
   c_writes : May hcube.write_notice (n, faults, before) (written_number (wrote n faults (length before))) written
   c_writes =
-      may hcube.write_notice two (n, (lend faults, (lend before, tt))) (written_number (wrote n faults (length before)))
-      (n, (lend faults, (lend written, tt))) (refl, refl)
+      may hcube.write_notice two (n, (lend faults, (lend_mut before, tt))) (written_number (wrote n faults (length before)))
+      (n, (lend faults, (lend_mut written, tt))) (refl, refl)
 
   abbrev listed : List ℕ
   listed = list_after n faults before
 
   writes_list : May list_writer.write (n, faults, before) (wrote_list n faults (length before)) listed
   writes_list =
-      may list_writer.write two (n, (lend faults, (lend before, tt))) (wrote_list n faults (length before)) (n, (lend faults, (lend listed, tt)))
+      may list_writer.write two (n, (lend faults, (lend_mut before, tt))) (wrote_list n faults (length before)) (n, (lend faults, (lend_mut listed, tt)))
       (refl, refl)
 
   c_writes_list : May hcube.write_list (n, faults, before) (written_number (wrote_list n faults (length before))) listed
   c_writes_list =
-      may hcube.write_list two (n, (lend faults, (lend before, tt))) (written_number (wrote_list n faults (length before)))
-      (n, (lend faults, (lend listed, tt))) (refl, refl)
+      may hcube.write_list two (n, (lend faults, (lend_mut before, tt))) (written_number (wrote_list n faults (length before)))
+      (n, (lend faults, (lend_mut listed, tt))) (refl, refl)
 
 module _ (n : ℕ) (text before : List ℕ) where
   abbrev read_table : List ℕ
@@ -103,12 +103,12 @@ module _ (n : ℕ) (text before : List ℕ) where
 
   reads_list : May list_reader.read (n, text, before) (list_refusal n text before) read_table
   reads_list =
-      may list_reader.read two (n, (lend text, (lend before, tt))) (list_refusal n text before) (n, (lend text, (lend read_table, tt))) (refl, refl)
+      may list_reader.read two (n, (lend text, (lend_mut before, tt))) (list_refusal n text before) (n, (lend text, (lend_mut read_table, tt))) (refl, refl)
 
   c_reads_list : May hcube.read_list (n, text, before) (done_number (list_refusal n text before)) read_table
   c_reads_list =
-      may hcube.read_list two (n, (lend text, (lend before, tt))) (done_number (list_refusal n text before))
-      (n, (lend text, (lend read_table, tt))) (refl, refl)
+      may hcube.read_list two (n, (lend text, (lend_mut before, tt))) (done_number (list_refusal n text before))
+      (n, (lend text, (lend_mut read_table, tt))) (refl, refl)
 
 module _ (n : ℕ) (faults masks result row : List ℕ) where
   abbrev done : ℕ
@@ -122,13 +122,13 @@ module _ (n : ℕ) (faults masks result row : List ℕ) where
 
   repairs : May repair.repair (n, faults, masks, result, row) done (t, r)
   repairs =
-      may repair.repair four (n, (lend faults, (lend masks, (lend result, (lend row, tt))))) done (n, (lend faults, (lend masks, (lend t, (lend r, tt)))))
+      may repair.repair four (n, (lend faults, (lend masks, (lend_mut result, (lend_mut row, tt))))) done (n, (lend faults, (lend masks, (lend_mut t, (lend_mut r, tt)))))
       (refl, (refl, refl))
 
   c_repairs : May hcube.repair (n, faults, masks, result, row) (done_number done) (t, r)
   c_repairs =
-      may hcube.repair four (n, (lend faults, (lend masks, (lend result, (lend row, tt))))) (done_number done)
-      (n, (lend faults, (lend masks, (lend t, (lend r, tt))))) (refl, (refl, refl))
+      may hcube.repair four (n, (lend faults, (lend masks, (lend_mut result, (lend_mut row, tt))))) (done_number done)
+      (n, (lend faults, (lend masks, (lend_mut t, (lend_mut r, tt))))) (refl, (refl, refl))
 
 module _ (K : Cabinet) (j : ℕ) (before : List ℕ) where
   abbrev answer : Labelled
@@ -139,13 +139,13 @@ module _ (K : Cabinet) (j : ℕ) (before : List ℕ) where
 
   labels : May labels-crate.label (K.n, K.rule, j, K.faults, K.draining, K.closed, before) answer after
   labels =
-      may labels-crate.label four (K.n, (K.rule, (j, (lend K.faults, (lend K.draining, (lend K.closed, (lend before, tt))))))) answer
-      (K.n, (K.rule, (j, (lend K.faults, (lend K.draining, (lend K.closed, (lend after, tt))))))) (refl, refl)
+      may labels-crate.label four (K.n, (K.rule, (j, (lend K.faults, (lend K.draining, (lend K.closed, (lend_mut before, tt))))))) answer
+      (K.n, (K.rule, (j, (lend K.faults, (lend K.draining, (lend K.closed, (lend_mut after, tt))))))) (refl, refl)
 
   c_labels : May hcube.label (K.n, K.rule, j, K.faults, K.draining, K.closed, before) (label_number answer) after
   c_labels =
-      may hcube.label four (K.n, (K.rule, (j, (lend K.faults, (lend K.draining, (lend K.closed, (lend before, tt))))))) (label_number answer)
-      (K.n, (K.rule, (j, (lend K.faults, (lend K.draining, (lend K.closed, (lend after, tt))))))) (refl, refl)
+      may hcube.label four (K.n, (K.rule, (j, (lend K.faults, (lend K.draining, (lend K.closed, (lend_mut before, tt))))))) (label_number answer)
+      (K.n, (K.rule, (j, (lend K.faults, (lend K.draining, (lend K.closed, (lend_mut after, tt))))))) (refl, refl)
 
   module _ (x : ℕ) where
     abbrev because : NodeReason
@@ -156,14 +156,14 @@ module _ (K : Cabinet) (j : ℕ) (before : List ℕ) where
 
     why_nodes : May why.why-node (K.n, K.rule, j, x, K.faults, K.draining, K.closed, before) because left
     why_nodes =
-        may why.why-node four (K.n, (K.rule, (j, (x, (lend K.faults, (lend K.draining, (lend K.closed, (lend before, tt)))))))) because
-        (K.n, (K.rule, (j, (x, (lend K.faults, (lend K.draining, (lend K.closed, (lend left, tt)))))))) (refl, refl)
+        may why.why-node four (K.n, (K.rule, (j, (x, (lend K.faults, (lend K.draining, (lend K.closed, (lend_mut before, tt)))))))) because
+        (K.n, (K.rule, (j, (x, (lend K.faults, (lend K.draining, (lend K.closed, (lend_mut left, tt)))))))) (refl, refl)
 
     c_why_nodes : May hcube.why-node (K.n, K.rule, j, x, K.faults, K.draining, K.closed, before) (node_reason_number because) left
     c_why_nodes =
-        may hcube.why-node four (K.n, (K.rule, (j, (x, (lend K.faults, (lend K.draining, (lend K.closed, (lend before, tt))))))))
+        may hcube.why-node four (K.n, (K.rule, (j, (x, (lend K.faults, (lend K.draining, (lend K.closed, (lend_mut before, tt))))))))
         (node_reason_number because)
-        (K.n, (K.rule, (j, (x, (lend K.faults, (lend K.draining, (lend K.closed, (lend left, tt)))))))) (refl, refl)
+        (K.n, (K.rule, (j, (x, (lend K.faults, (lend K.draining, (lend K.closed, (lend_mut left, tt)))))))) (refl, refl)
 
 module _ (n j a b : ℕ) (l : List ℕ) where
   abbrev taken : HopReason
@@ -193,8 +193,8 @@ module _ (n j a b : ℕ) (l : List ℕ) where
 
   c_walks : (row : List ℕ) → May hcube.walk (n, j, a, b, l, row) (walk_number (walked_by n j a b l row)) (row_after (walked_by n j a b l row) row)
   c_walks row =
-      may hcube.walk two (n, (j, (a, (b, (lend l, (lend row, tt)))))) (walk_number (walked_by n j a b l row))
-      (n, (j, (a, (b, (lend l, (lend (row_after (walked_by n j a b l row) row), tt)))))) (refl, refl)
+      may hcube.walk two (n, (j, (a, (b, (lend l, (lend_mut row, tt)))))) (walk_number (walked_by n j a b l row))
+      (n, (j, (a, (b, (lend l, (lend_mut (row_after (walked_by n j a b l row) row), tt)))))) (refl, refl)
 
 pub rattle_answers : Answers rattle
 rattle_answers =

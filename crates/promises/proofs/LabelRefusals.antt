@@ -119,11 +119,11 @@ module _ (K : Cabinet) (j m x : ℕ) where
   given_first o z none = absurd (z refl)
 
   -- and where that gives none, 5 is next
-  given_last : {k : ℕ} {order : List ℕ} → Other order → Given (LabelWhen K j m) order 0 → Given (NodeWhen K j m x) (5 ∷ []) k
+  given_last : {k : ℕ} {order : List ℕ} → Given (LabelWhen K j m) order 0 → Other order → Given (NodeWhen K j m x) (5 ∷ []) k
       → Given (NodeWhen K j m x) (order ++ (5 ∷ [])) k
-  given_last o (here w) g = absurd (o.1 refl)
-  given_last o (later unless p) g = later (not_here o.0 unless) (given_last o.2 p g)
-  given_last o none g = g
+  given_last (here w) o g = absurd (o.1 refl)
+  given_last (later unless p) o g = later (not_here o.0 unless) (given_last p o.2 g)
+  given_last none o g = g
 
   others : Other (1 ∷ 18 ∷ 19 ∷ 2 ∷ 3 ∷ [])
   others = (
@@ -148,7 +148,7 @@ module _ (K : Cabinet) (j m x : ℕ) where
   pub node_given : NodeGiven K j m x (Y.node_refusal K j m x)
   node_given =
       elim (ℕ_discrete (L.label_refusal K j m) 0) [
-        | yes z ↦ given_last others (rw z at (label_given K j m)) (last z)
+        | yes z ↦ given_last (rw z at (label_given K j m)) others (last z)
         | no z ↦ rw (← refuses_first K j m x (L.label_refusal K j m) refl z) (given_first others z (label_given K j m))
       ]
     where

@@ -2,10 +2,14 @@
 use mathlib.Core.List.{List, []}
 use Prim.Native.Nat.{ℕ}
 use contract.Lifetimes.{Lfts}
-use denote.Ref.{Bor}
+use Rattle.std.specs.Borrow.{Bor, MutBor}
 
 abbrev pub lend : List ℕ → Bor (List ℕ)
 lend l = record { ref_ptr = (0, 0); now = l }
+
+-- lent to be written
+abbrev pub lend_mut : List ℕ → MutBor (List ℕ)
+lend_mut l = record { ref_ptr = (0, 0); ghost_name = 0; now = l }
 
 -- one lifetime, two, or four
 abbrev pub one : Lfts 1

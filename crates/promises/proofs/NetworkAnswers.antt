@@ -14,7 +14,7 @@ use Rattle.walk_networks.specs.declared.Crossed.{Crossed}
 use Rattle.walk_networks.proofs.Functions as walk_networks
 use Rattle.hcube.specs.Answers.{crossed_number, hop_number}
 use Rattle.hcube.proofs.Functions as hcube
-use Rattle.promises.proofs.Lent.{lend, one, two}
+use Rattle.promises.proofs.Lent.{lend, lend_mut, one, two}
 
 module _ (n N j c d w g : ℕ) (l : List ℕ) where
   abbrev decided : Hopped
@@ -37,10 +37,10 @@ module _ (n N j s d : ℕ) (l before : List ℕ) where
 
   pub walks : May walk_networks.walk-networks (n, N, j, s, d, l, before) crossed after
   walks =
-      may walk_networks.walk-networks two (n, (N, (j, (s, (d, (lend l, (lend before, tt))))))) crossed
-      (n, (N, (j, (s, (d, (lend l, (lend after, tt))))))) (refl, refl)
+      may walk_networks.walk-networks two (n, (N, (j, (s, (d, (lend l, (lend_mut before, tt))))))) crossed
+      (n, (N, (j, (s, (d, (lend l, (lend_mut after, tt))))))) (refl, refl)
 
   pub c_walks : May hcube.walk-networks (n, N, j, s, d, l, before) (crossed_number crossed) after
   c_walks =
-      may hcube.walk-networks two (n, (N, (j, (s, (d, (lend l, (lend before, tt))))))) (crossed_number crossed)
-      (n, (N, (j, (s, (d, (lend l, (lend after, tt))))))) (refl, refl)
+      may hcube.walk-networks two (n, (N, (j, (s, (d, (lend l, (lend_mut before, tt))))))) (crossed_number crossed)
+      (n, (N, (j, (s, (d, (lend l, (lend_mut after, tt))))))) (refl, refl)

@@ -96,10 +96,12 @@ module _ (n N j c d w g m : ℕ) (lab : ℕ → ℕ) where
   fifteen = or_says _ _ (wrong_board N) (or_says _ _ (leb_says N w) (ltb_says 1 g))
 
   said_15 : HopCase 15 → I.lacks N w g ≡ true
+  said_15 (inl x') = elim x' [ ]
   said_15 (inr (inl q)) = fifteen.1 q.1
   said_15 (inr (inr q)) = absurd (omega (arith, q.0))
 
   said_16 : HopCase 16 → beyond N (phase_of w g) c (hop_in n lab d (phase_of w g) c) ≡ true
+  said_16 (inl x') = elim x' [ ]
   said_16 (inr (inl q)) = absurd (omega (arith, q.0))
   said_16 (inr (inr q)) = (beyond_says n N lab d (phase_of w g) c).1 q.1
 
@@ -136,6 +138,7 @@ module _ (n N j s d m room : ℕ) (lab : ℕ → ℕ) where
   walk_case a b c (inr (inr (inr q))) = absurd (c q.0)
 
   said_15w : WalkCase 15 → not (I.is_board N) ≡ true
+  said_15w (inl x') = elim x' [ ]
   said_15w (inr (inl q)) = (wrong_board N).1 q.1
   said_15w (inr (inr (inl q))) = absurd (omega (arith, q.0))
   said_15w (inr (inr (inr q))) = absurd (omega (arith, q.0))
@@ -150,11 +153,13 @@ module _ (n N j s d m room : ℕ) (lab : ℕ → ℕ) where
 
   said_13w : WalkCase 13 → C.too_short n N room ≡ true
   unfolding C.too_short
+  said_13w (inl x') = elim x' [ ]
   said_13w (inr (inl q)) = absurd (omega (arith, q.0))
   said_13w (inr (inr (inl q))) = (ltb_says room (most_hops n N)).1 q.1
   said_13w (inr (inr (inr q))) = absurd (omega (arith, q.0))
 
   said_16w : s < 2 ^ n → 0 < N → WalkCase 16 → not (stops (last_on n N lab d s)) ≡ true
+  said_16w hs h (inl x') = elim x' [ ]
   said_16w hs h (inr (inl q)) = absurd (omega (arith, q.0))
   said_16w hs h (inr (inr (inl q))) = absurd (omega (arith, q.0))
   said_16w hs h (inr (inr (inr q))) = out_given n N lab d s hs h q.1

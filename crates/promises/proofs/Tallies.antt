@@ -29,7 +29,7 @@ use Rattle.promises.specs.Refusals.{none}
 use Rattle.promises.specs.Tallies.{FourKinds, Tallies, TallyGiven, TallyWhen, line_at, tally_1, tally_2}
 use Rattle.promises.proofs.Demands.{is_walk, left}
 use Rattle.promises.proofs.Given.{and_says, eqb_says, leb_says, not_says, one_test}
-use Rattle.promises.proofs.Lent.{lend, one}
+use Rattle.promises.proofs.Lent.{lend_mut, one}
 use Rattle.promises.proofs.Library.{Faithful, rattle_faithful, c_faithful}
 
 -- ---- the refusals
@@ -98,7 +98,7 @@ pub tallies : Tallies
 tallies =
     record {
       answers = λ n before.
-          (_, _, may counters.tally one (n, (lend before, tt)) (tally_refusal n (length before)) (n, (lend (counters_after n before), tt)) (refl, refl));
+          (_, _, may counters.tally one (n, (lend_mut before, tt)) (tally_refusal n (length before)) (n, (lend_mut (counters_after n before), tt)) (refl, refl));
       refusal = λ {n} {k} {before} m. subst (TallyGiven n (length before)) (sym (is m).0) (tally_given n (length before));
       kept = λ m d. kept m d;
       sized = λ {n} {k} {before} m. ap length (is m).1 ∙ counters_long n before;
