@@ -14,6 +14,7 @@ use Rattle.scans.proofs.Progress.{rank_ge, rank_le, scans_progress}
 use Rattle.hop.specs.declared.Decision.TheVariants.{Deliver, Hop, Halted}
 use Rattle.walk.specs.Walk.{spot, turn, hops, last, route}
 use Rattle.theorems.specs.Words.{SomeSafe}
+use Rattle.theorems.proofs.Safe.{rank_safe}
 use Rattle.theorems.proofs.Advances.{On, end, end_of, made, not_there, on}
 
 -- the nodes of the walk work, but for the destination, and each hop is its decision's
@@ -128,7 +129,7 @@ module _ (n : ℕ) (lab : ℕ → ℕ) (G : Good n lab) (d : ℕ) (hd : d < 2 ^ 
 
   from_safe_nears : lab s ≡ 0 → Nears n lab d s
   from_safe_nears e =
-      nears (rank lab d) (λ _. Dark) progress.by_rank near_rank (rank_ge lab d) (omega (arith, rank_le lab d s, e))
+      nears (rank lab d) (λ _. Dark) progress.by_rank near_rank (rank_ge lab d) (rank_safe lab d s e)
 
   module _ (e : lab d ≡ 0) where
     to_safe : Delivers n lab d s 0
