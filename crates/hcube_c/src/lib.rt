@@ -1,5 +1,5 @@
-// The archive for C: what `hcube` offers to Rattle under its names in include/hcube.h, each by a call of the function of the same name, whose contract it
-// repeats word for word. A library is built for Rattle or for C, so this crate has no code of its own.
+// The archive for C: the functions of include/hcube.h. Each calls the function of `hcube` of the same name, which takes the same and whose contract it repeats
+// word for word; tests/promises compares the two. A crate is built for Rattle or for C: `hcube` is what the promises are proved of, and this is what C links.
 #![tactic(auto)]
 
 ghost use Rattle.std.specs.Prelude.{length, ◌≡◌};
