@@ -39,7 +39,7 @@ use Rattle.theorems.specs.Before.{
   walk_tests_then,
   walked_then,
 }
-use Rattle.theorems.proofs.NoFour.{above_same, none_first, not_four}
+use Rattle.theorems.proofs.NoFour.{NoFour, above_same, none_first, not_four}
 use Rattle.theorems.proofs.BeforeLabels.{label_then, labels_then, no_four, twice_same}
 
 -- the tests that need no label
@@ -48,7 +48,7 @@ place_same : (n j : ℕ) → j < 2 → (s d m : ℕ) (wrong : Bool)
 unfolding place_refusal first
 place_same n j job s d m wrong = rw (is-job j job, twice_same n m)
 
-module _ (n : ℕ) (lab : ℕ → ℕ) (none : (x : ℕ) → lab x ≢ 4) where
+module _ (n : ℕ) (lab : ℕ → ℕ) (none : NoFour lab) where
   -- scan 0 takes nothing, and the other lines have no lowest label but 0
   module _ (c d own : ℕ) where
     abbrev near : ℕ → ℕ
