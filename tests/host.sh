@@ -4,7 +4,7 @@
 # kit's emulator.
 #
 #   kit           the kit's folder
-#   kit_tools     its compiler, linker and C library for this machine
+#   kit_tools     its compiler, linker and C library
 #   CC NM OBJDUMP a C compiler for x86-64 and its tools
 #   c_flags       words that this compiler needs to link
 #   run_c         words that run a C program compiled so
@@ -23,10 +23,10 @@ else
     command -v rt >/dev/null 2>&1 ||
         give_up 'rt is not on the PATH: the Rattle kit is needed, and these scripts do not install it'
     kit=$(rt doc) || give_up 'rt doc does not say where the Rattle kit is'
-    kit=$(dirname "$(dirname "$kit")")
+    kit=$(dirname "$kit")
 fi
 machine=$(uname -m)
-kit_tools=$kit/on/$machine/toolchain
+kit_tools=$kit/toolchain
 [ -d "$kit_tools" ] || give_up "the Rattle kit has no $kit_tools"
 case $kit_tools in *[[:space:]]*) give_up "the Rattle kit's path has blanks, by which these scripts part words: $kit" ;; esac
 emulator=''
@@ -70,7 +70,7 @@ listing_files='tests/listing_cases.c tests/listing_refused.c tests/cases.c tests
 
 # Whether a file that is built from the crates is missing or older than they are.
 stale() { # FILE
-    [ ! -f "$1" ] || [ -n "$(find crates crates.txt -newer "$1" -print 2>/dev/null | head -n 1)" ]
+    [ ! -f "$1" ] || [ -n "$(newer_than "$1" crates crates.txt)" ]
 }
 
 # Builds it quietly if so; says what went wrong if it did.
@@ -107,7 +107,7 @@ fi
 find_archive() {
     if [ -z "${ARCHIVE:-}" ]; then
         ARCHIVE=target/staticlib/libhcube.a
-        build "$ARCHIVE" rt staticlib hcube || give_up "$ARCHIVE could not be built"
+        build "$ARCHIVE" tools/build archive || give_up "$ARCHIVE could not be built"
     fi
     [ -f "$ARCHIVE" ] || give_up "ARCHIVE is no file: $ARCHIVE"
 }
@@ -136,7 +136,7 @@ find_program() { # TOOL
 find_listing() {
     if [ -z "${LISTING:-}" ]; then
         LISTING=target/bin/listing
-        build "$LISTING" rt check listing || give_up "$LISTING could not be built"
+        build "$LISTING" tools/build listing || give_up "$LISTING could not be built"
     fi
     [ -f "$LISTING" ] || give_up "LISTING is no file: $LISTING"
 }
@@ -145,7 +145,7 @@ find_listing() {
 find_tally() {
     if [ -z "${TALLY:-}" ]; then
         TALLY=target/bin/tally
-        build "$TALLY" rt check tally || give_up "$TALLY could not be built"
+        build "$TALLY" tools/build tally || give_up "$TALLY could not be built"
     fi
     [ -f "$TALLY" ] || give_up "TALLY is no file: $TALLY"
 }

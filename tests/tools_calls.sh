@@ -39,22 +39,22 @@ result $? "ended by$killed: left behind: ${left:-nothing}"
 result $? "a full disk: $(cat err)"
 
 # A copy of the repository, where blanks are in every path; a link to its tool; and a
-# stand-in for rt, which notes that it was asked, copies the program, and wants no input.
-mkdir -p bin 'a copy/tools' 'a copy/tests' 'a copy/crates' 'a folder'
+# stand-in for tools/build, which notes that it was asked, copies the program, and wants no input.
+mkdir -p 'a copy/tools' 'a copy/tests' 'a copy/crates' 'a folder'
 cp "$root/tools/list" "$root/tools/hex.sh" 'a copy/tools'
 cp "$root/tests/host.sh" "$root/tests/work.sh" 'a copy/tests'
 cp -r "$root/include" 'a copy'
 ln -s '../a copy/tools/list' 'a folder/linked list'
 cp figure 'a folder/figure 1'
-cat >bin/rt <<'END'
+cat >'a copy/tools/build' <<'END'
 #!/bin/sh
 echo "$*" >>"$ASKED"
-[ "$*" = 'check listing' ] && [ -n "$PROGRAM" ] && [ -z "$(cat)" ] || { echo 'not proved'; exit 1; }
+[ "$*" = listing ] && [ -n "$PROGRAM" ] && [ -z "$(cat)" ] || { echo 'not proved'; exit 1; }
 mkdir -p target/bin && cp "$PROGRAM" target/bin/listing
 END
-chmod +x bin/rt
+chmod +x 'a copy/tools/build'
 unset LISTING RATTLE_HOME
-export PATH="$work/bin:$PATH" ASKED="$work/asked" PROGRAM=''
+export ASKED="$work/asked" PROGRAM=''
 list="$work/a folder/linked list"
 cd 'a folder' || exit 2
 

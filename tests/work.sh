@@ -30,6 +30,15 @@ quoted() { # WORD
     esac
 }
 
+# The first of what is below these folders, or of these files, that is newer than a file, if any. What rt keeps of a
+# crate, in its folder out/, is none of it, nor that this folder was made.
+newer_than() { # FILE SOURCES...
+    file=$1
+    shift
+    find "$@" -path 'crates/*/out' -prune -o ! '(' -type d -path 'crates/*' ! -path 'crates/*/*' ')' -newer "$file" -print 2>/dev/null |
+        head -n 1
+}
+
 # Makes the folder `work`, where the compiler and other scripts put their temporary
 # files too. It goes away when the script ends, also by a signal, of which the script
 # then dies: to its caller that is status 128 + the signal's number, and Ctrl-C ends
@@ -42,7 +51,7 @@ work_folder() {
         trap "end_by $signal" "$signal"
     done
     work=$(mktemp -d) || exit 2
-    chmod 711 "$work" || exit 2 # `rt check` of root runs a program as nobody, from there
+    chmod 711 "$work" || exit 2 # `rt ci` of root runs a program as nobody, from there
     export TMPDIR="$work"
 }
 
