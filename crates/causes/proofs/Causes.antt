@@ -19,7 +19,8 @@ use Rattle.rule.proofs.Rounds.{marked_suc, marked_zero, marks, meets_says, newly
 use Rattle.causes.specs.Cause.{bad_cause, bad_near, cause_of, cause_with, earlier, nth, out_near, round_of}
 use Rattle.causes.specs.Laws.{Marked, MarkedBefore, MarkedIn, TrueCause, TwoLowest, ThreeLowest, faulty, two, three}
 use Rattle.causes.specs.declared.Cause.{Cause}
-use Rattle.causes.specs.declared.Cause.TheVariants.{Faulty, Two, Three}
+use Rattle.causes.specs.declared.Cause.TheVariants.{Two, Three}
+use Rattle.causes.proofs.Marks.{marks_before}
 use Rattle.causes.proofs.Nth.{not_two, nth_same, three_lowest, two_lowest}
 
 -- the lowest that have P are the lowest that have Q, where P and Q say the same
@@ -133,7 +134,7 @@ module _ (n k : ℕ) (F : ℕ → Bool) where
 
   module _ (low : 2 ≤ k) (high : k ≤ 3) (x : ℕ) (M : Marked n k F x) where
     abbrev m : ℕ → Bool
-    m = marked n k F (earlier n k F x)
+    m = marks_before n k F x
 
     to : (i : ℕ) → bad_near F m x i ≡ true → (F (flip i x) ≡ true) ⊎ MarkedBefore n k F x (flip i x)
     to i t = ⊎_elim (λ (f : F (flip i x) ≡ true). inl f) (λ (b : m (flip i x) ≡ true). inr (before_marked x M (flip i x) b)) (or_true (F (flip i x)) (m (flip i x)) t)
@@ -149,9 +150,6 @@ module _ (n k : ℕ) (F : ℕ → Bool) where
     abbrev True : Cause → Type 0
     True = TrueCause n k (λ y. F y ≡ true) (MarkedBefore n k F x) x
 
-    by_faulty : 2 ≤ count n (out_near F x) → True (Faulty (nth n (out_near F x) 0) (nth n (out_near F x) 1))
-    by_faulty h = faulty (two_lowest n (out_near F x) h)
-
     by_two : count n (out_near F x) ≤ 1 → k ≡ 2 → True (Two (nth n (bad_near F m x) 0) (nth n (bad_near F m x) 1))
     by_two few e =
         two e (not_two n (out_near F x) few)
@@ -164,14 +162,12 @@ module _ (n k : ℕ) (F : ℕ → Bool) where
         (three_same n (λ i. bad_near F m x i ≡ true) (λ i. (F (flip i x) ≡ true) ⊎ MarkedBefore n k F x (flip i x)) _ _ _ to back
         (three_lowest n (bad_near F m x) (omega (arith, bad few))))
 
-    few_out : leb 2 (count n (out_near F x)) ≡ false → count n (out_near F x) ≤ 1
-    few_out f = omega (arith, leb-false 2 (count n (out_near F x)) f)
-
     pub cause : True (cause_of n k F x)
     unfolding cause_of cause_with bad_cause
     cause =
-        by_cases True (leb 2 (count n (out_near F x))) (λ t. by_faulty (leb-true 2 (count n (out_near F x)) t))
-        (λ f. by_cases True (eqb k 2) (λ t. by_two (few_out f) (eqb-true k 2 t)) (λ g. by_three (few_out f) (omega (arith, eqb-false k 2 g))))
+        by_cases True (leb 2 (count n (out_near F x))) (λ t. faulty (two_lowest n (out_near F x) (leb-true 2 (count n (out_near F x)) t)))
+        (λ f. let few : count n (out_near F x) ≤ 1 = omega (arith, leb-false 2 (count n (out_near F x)) f) in
+        by_cases True (eqb k 2) (λ t. by_two few (eqb-true k 2 t)) (λ g. by_three few (omega (arith, eqb-false k 2 g))))
 
 -- a cause looks at the neighbours alone
 pub cause_same : (n k : ℕ) (F F' m m' : ℕ → Bool) (x : ℕ) → ((i : ℕ) → i < n → F (flip i x) ≡ F' (flip i x))

@@ -1,3 +1,4 @@
 pub mod Nth
+pub mod Marks
 pub mod Causes
 pub mod Down

@@ -12,12 +12,11 @@ use Rattle.cube.specs.Cube.{apart, dist, flip}
 use Rattle.cube.proofs.Bools.{clash, is_false}
 use Rattle.cube.proofs.Count.{count_all, count_le}
 use Rattle.cube.proofs.Cube.{dist_count, dist_fall, dist_zero, flip_lt, neighbour}
-use Rattle.cube.proofs.Search.{count_named, some_hit}
+use Rattle.cube.proofs.Search.{some_hit}
 use Rattle.rule.specs.Closed.{Closed}
 use Rattle.rule.specs.Rule.{safe}
 use Rattle.rule.proofs.Largest.{safe_closed}
-use Rattle.enough.specs.Enough.{LeavesSafe, beside_zero}
-use Rattle.enough.proofs.Enough.{enough}
+use Rattle.enough.specs.Enough.{beside_zero}
 
 module _ (n : ℕ) (two : 2 ≤ n) where
   abbrev F : ℕ → Bool
@@ -46,7 +45,7 @@ module _ (n : ℕ) (two : 2 ≤ n) where
             (λ i l a. f (flip i x) (flip_lt n i x l h) (omega (arith, dist_fall n i x 0 h (pow_pos n) l a))),
       )
 
-  unsafe : (m x : ℕ) → x < 2 ^ n → dist x 0 ≡ m → H x ≡ false
+  pub unsafe : (m x : ℕ) → x < 2 ^ n → dist x 0 ≡ m → H x ≡ false
   unsafe zero x h e = is_false go
     where
       go : H x ≡ true → ⊥
@@ -62,13 +61,3 @@ module _ (n : ℕ) (two : 2 ≤ n) where
   unsafe (suc (suc zero)) x h e = is_false (λ t. omega (arith, C.few_out x h t, nearer 1 x h e F at_one))
   unsafe (suc (suc (suc m))) x h e =
       is_false (λ t. omega (arith, C.few_outside x h t, nearer (suc (suc m)) x h e (λ y. not (H y)) (λ y l d. ap not (unsafe (suc (suc m)) y l d))))
-
-  pub three : LeavesSafe n 3 F → ⊥
-  three (x, h, e) = clash e (unsafe (dist x 0) x h refl)
-
-  pub three_out : count (2 ^ n) F ≡ n
-  unfolding beside_zero
-  three_out = omega (arith, count_named (2 ^ n) n (λ i. flip i 0) (λ i l. flip_lt n i 0 l (pow_pos n)), no_fewer)
-    where
-      no_fewer : ¬ (count (2 ^ n) F < n)
-      no_fewer h = three ((enough n F).three h)

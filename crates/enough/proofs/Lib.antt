@@ -5,5 +5,6 @@ pub mod Far
 pub mod Half
 pub mod Enough
 pub mod Beside
+pub mod NoneBeside
 pub mod Stones
 pub mod NotEnough

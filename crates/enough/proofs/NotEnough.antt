@@ -1,7 +1,7 @@
 -- Each is proved where its nodes are.
 use Prim.Native.Nat.{ℕ}
 use Rattle.enough.specs.Enough.{NotEnough}
-use Rattle.enough.proofs.Beside.{three, three_out}
+use Rattle.enough.proofs.NoneBeside.{three, three_out}
 use Rattle.enough.proofs.Stones.{two, two_out}
 
 pub not_enough : (n : ℕ) → NotEnough n

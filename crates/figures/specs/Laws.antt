@@ -1,5 +1,5 @@
 -- What is true of the figures (RULES, The tally), in cubes of every dimension that the library takes. Proved in proofs/.
-use Rattle.std.specs.Prelude.{true, List, ◌≡◌, ℕ, zero, suc, ◌+◌, ◌-◌, ◌*◌, ◌^◌, ◌<◌, eqb, get_or}
+use Rattle.std.specs.Prelude.{List, ◌≡◌, ℕ, zero, suc, ◌+◌, ◌-◌, ◌*◌, ◌^◌, ◌<◌, eqb, get_or}
 use Rattle.cube.specs.Count.{count}
 use Rattle.cube.specs.Cube.{bit, dist}
 use Rattle.rule.specs.Cabinet.{faulty, plain}

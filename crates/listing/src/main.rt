@@ -2,7 +2,7 @@
 // and `printed`, whose contracts give their bytes; this program reads, goes from pair to pair, and writes each line as it was made.
 #![tactic(auto)]
 
-ghost use Rattle.std.specs.Prelude.{◌≤◌, length, replicate, ◌≡◌};
+ghost use Rattle.std.specs.Prelude.{◌≤◌, IfOk, length, replicate, ◌≡◌};
 ghost use Rattle.lines.specs.Lines.{room};
 ghost use Rattle.notice.specs.Notice.{dimension_of, notice_of};
 ghost use Rattle.printed.specs.Printed.{labels_in};
@@ -54,16 +54,31 @@ fn list(
     list_pairs(rt, head.n, &labels[..kept], bytes, out)
 }
 
-// One byte more than an input may have is read: that tells one that is too long.
+// Reads until the buffer is full or the input ends: how many bytes that are.
+fn read_full<R: Read>(reader: &mut R, bytes: &mut [u8]) -> io::Result<usize>
+    ensures { IfOk result (λ n. n ≤ length bytes.new) }
+{
+    let mut done = 0;
+    while done < bytes.len() {
+        let n = reader.read(&mut bytes[done..])?;
+        if n == 0 {
+            break;
+        }
+        done += n;
+    }
+    Ok(done)
+}
+
+// The buffer has room for one byte more than an input may have: so one that is too long shows.
 fn main(rt: HostRuntime) -> io::Result<()> {
-    let mut input = Vec::new(rt.alloc());
-    rt.reader().take(16385).read_to_end(&mut input)?;
+    let mut input = [0u8; 16385];
     let mut out = [0u8; 1024];
-    if 16384 < input.len() {
+    let length = read_full(&mut rt.stdin(), &mut input)?;
+    if 16384 < length {
         let end = lines::long_line(&mut out);
         return say(&rt, &out, end);
     }
     let mut faults = [0u8; 512];
     let mut labels = [0u8; 8192];
-    list(&rt, &input, &mut faults, &mut labels, &mut out)
+    list(&rt, &input[..length], &mut faults, &mut labels, &mut out)
 }

@@ -1,5 +1,4 @@
--- Where no node drains and the job closes none, nothing changed. Labelling is proofs/BeforeLabels.antt. Labels without a 4 let scan 0 take nothing, and one of
--- them is above 4 exactly where it is above 3.
+-- Where no node drains and the job closes none, nothing changed. Labelling is proofs/BeforeLabels.antt, and what is said of labels without a 4 proofs/NoFour.antt.
 use mathlib.Core.Bool.{Bool, true, false, not}
 use mathlib.Core.List.{List, [], ◌∷◌, ◌++◌}
 use mathlib.Core.Logic.{⊎_elim, ◌≢◌}
@@ -9,12 +8,12 @@ use native.Mathlib.Decide.{ℕ_discrete}
 use native.Mathlib.Omega.{arith}
 use lib.Dec.{eqb, leb, ltb}
 use lib.ListN.{get_or}
-use borrow.Author.Tests.{eqb-true, eqb-false, ne_eqb, le-leb, lt-leb, le-ltb, lt-ltb, ltb-true, ltb-false}
+use borrow.Author.Tests.{eqb-true, eqb-false, ne_eqb, le-leb, lt-leb, ltb-false}
 use Rattle.cube.specs.Count.{some}
 use Rattle.cube.specs.Cube.{dist, flip}
 use Rattle.cube.specs.Refusal.{Test, first, ◌⇒◌}
 use Rattle.cube.specs.Tables.{highest}
-use Rattle.cube.proofs.Bools.{either, is_false}
+use Rattle.cube.proofs.Bools.{either}
 use Rattle.cube.proofs.Refusal.{first_stops}
 use Rattle.cube.proofs.Search.{least_same, none_some, some_same}
 use Rattle.jobs.proofs.Halves.{is-job}
@@ -22,7 +21,6 @@ use Rattle.scans.specs.Scans.{first_scan, forward, lowest, no_scan, suits, takes
 use Rattle.hop.specs.Helpers.{place_refusal}
 use Rattle.hop.specs.Hop.{decide, hop, hop_refusal, hopped, node_tests}
 use Rattle.hop.proofs.Refusals.{placed}
-use Rattle.hop.proofs.Scanning.{suits_last}
 use Rattle.walk.specs.Walk.{last, refused, route, row_bytes, stops, walk_refusal, walked}
 use Rattle.walk.proofs.Local.{last_same, route_across, walk_same}
 use Rattle.walk.proofs.Refusals.{walk_misplaced}
@@ -41,14 +39,8 @@ use Rattle.theorems.specs.Before.{
   walk_tests_then,
   walked_then,
 }
+use Rattle.theorems.proofs.NoFour.{NoFour, above_same, none_first, not_four}
 use Rattle.theorems.proofs.BeforeLabels.{label_then, labels_then, no_four, twice_same}
-
--- ---- labels without a 4
-
-above_same : (y : ℕ) → y ≢ 4 → ltb highest y ≡ ltb 3 y
-above_same y d =
-    ⊎_elim (λ (t : ltb 3 y ≡ true). lt-ltb highest y (omega (arith, ltb-true 3 y t, d)) ∙ sym t)
-    (λ (t : ltb 3 y ≡ false). le-ltb highest y (omega (arith, ltb-false 3 y t)) ∙ sym t) (either (ltb 3 y))
 
 -- the tests that need no label
 place_same : (n j : ℕ) → j < 2 → (s d m : ℕ) (wrong : Bool)
@@ -56,7 +48,7 @@ place_same : (n j : ℕ) → j < 2 → (s d m : ℕ) (wrong : Bool)
 unfolding place_refusal first
 place_same n j job s d m wrong = rw (is-job j job, twice_same n m)
 
-module _ (n : ℕ) (lab : ℕ → ℕ) (none : (x : ℕ) → lab x ≢ 4) where
+module _ (n : ℕ) (lab : ℕ → ℕ) (none : NoFour lab) where
   -- scan 0 takes nothing, and the other lines have no lowest label but 0
   module _ (c d own : ℕ) where
     abbrev near : ℕ → ℕ
@@ -64,7 +56,7 @@ module _ (n : ℕ) (lab : ℕ → ℕ) (none : (x : ℕ) → lab x ≢ 4) where
 
     line : (s i : ℕ) → takes c d own near s i ≡ suits_then c d near (get_or (scans_then (dist c d) own) s (scan_of_then forward 0 false)) i
     unfolding takes suits
-    line zero i = is_false (λ t. none (flip i c) (suits_last n c d own near i t).1)
+    line zero i = none_first n lab none c d own i
     line (suc zero) i = rw (le-leb 0 (near i) (omega arith))
     line (suc (suc zero)) i = rw (le-leb 0 (near i) (omega arith))
     line (suc (suc (suc zero))) i = rw (le-leb 0 (near i) (omega arith))
@@ -93,7 +85,7 @@ module _ (n : ℕ) (lab : ℕ → ℕ) (none : (x : ℕ) → lab x ≢ 4) where
         twice_same n m,
         above_same (lab c) (none c),
         some_same n (λ i. ltb highest (lab (flip i c))) (λ i. ltb 3 (lab (flip i c))) (λ i _. above_same (lab (flip i c)) (none (flip i c))),
-        ne_eqb (lab c) 4 (none c),
+        not_four n lab none c,
       )
 
   hop-then : (j : ℕ) → j < 2 → (c d m : ℕ) → hopped n j c d (2 * m) lab ≡ hopped_then n c d m lab

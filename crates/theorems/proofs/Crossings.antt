@@ -19,7 +19,7 @@ use Rattle.hop.specs.declared.Decision.TheVariants.{Deliver, Hop, Halted}
 use Rattle.walk.specs.Walk.{stops}
 use Rattle.blocks.specs.Board.{hops_on, last_on, most_hops, numbered}
 use Rattle.blocks.specs.Course.{channel_at, phase, spot, turn}
-use Rattle.blocks.specs.Phase.{Channel, after, channel, channel_number, phase_of}
+use Rattle.blocks.specs.Phase.{Channel, after, channel_number, phase_of}
 use Rattle.blocks.proofs.Board.{same_walk}
 use Rattle.blocks.proofs.Calls.{delivers_at}
 use Rattle.blocks.proofs.Rising.{Step, channel_once, phase_rises}

@@ -30,6 +30,7 @@ use Rattle.theorems.proofs.Demand2.{out_label, receives, works}
 use Rattle.theorems.proofs.Places.{row_unused, row_used}
 use Rattle.theorems.proofs.Repeats.{walk_repeats}
 use Rattle.theorems.proofs.Advances.{end_of}
+use Rattle.theorems.proofs.Extra.{extra_even}
 use Rattle.theorems.proofs.Walks.{Delivers, Halts, Kept, Nears, WalkFacts, walk_facts}
 
 -- what is known of the label bytes of an accepted table
@@ -150,9 +151,8 @@ module _ (K : Cabinet) (j : ℕ) (T : Table K j) (s d : ℕ) (hs : Works K s) (h
   at_most : SomeSafe n lab → w.hops ≤ dist s d + 2 * lab s
   at_most x = let D = facts.some_safe x in omega (arith, D.exact, D.few)
 
-  even : w.ending ≡ ending.Delivered → Ended → (e : ℕ) × (e ≤ lab s) × (w.hops ≡ dist s d + 2 * e)
-  even e (inl D) = (D.extra, omega (arith, D.few), omega (arith, D.exact))
-  even e (inr H) = let q = (stuck H).ending in let z : ◌≡◌ {A = ℕ} 0 1 = cc in absurd (omega arith)
+  not_stuck : w.ending ≡ ending.Delivered → Halts n lab d s → ⊥
+  not_stuck e H = let q = (stuck H).ending in let z : ◌≡◌ {A = ℕ} 0 1 = cc in omega arith
 
   never_refused : (k : ℕ) → w.ending ≡ ending.Refused k → Ended → ⊥
   never_refused k e (inl D) = let q = (arrives D).ending in let z : ◌≡◌ {A = ℕ} 0 1 = cc in omega arith
@@ -187,7 +187,7 @@ module _ (K : Cabinet) (j : ℕ) (T : Table K j) (s d : ℕ) (hs : Works K s) (h
         strong = λ x e. omega (arith, at_most x);
         none_safe = λ none. ⊎_elim (λ (D : Delivers n lab d s 0). inl (arrives D, omega (arith, D.exact, D.few)))
             (λ (H : Halts n lab d s). inr (stuck H)) (facts.none_safe none);
-        even = λ e. even e facts.how;
+        even = λ e. ⊎_elim (extra_even n lab d s w refl) (λ H. absurd (not_stuck e H)) facts.how;
         never_refused = λ k e. never_refused k e facts.how;
         once = subst NoneTwice answer (walk_repeats n j s d (label_bytes n) row_bytes lab accepted).once;
         falls = falls;

@@ -14,6 +14,7 @@ use Rattle.scans.proofs.Progress.{rank_ge, rank_le, scans_progress}
 use Rattle.hop.specs.declared.Decision.TheVariants.{Deliver, Hop, Halted}
 use Rattle.walk.specs.Walk.{spot, turn, hops, last, route}
 use Rattle.theorems.specs.Words.{SomeSafe}
+use Rattle.theorems.proofs.Safe.{FromSafe, rank_safe}
 use Rattle.theorems.proofs.Advances.{On, end, end_of, made, not_there, on}
 
 -- the nodes of the walk work, but for the destination, and each hop is its decision's
@@ -53,7 +54,7 @@ pub record WalkFacts (n : ℕ) (lab : ℕ → ℕ) (d s : ℕ) : Type 0 where
   -- no node is safe: delivered in exactly the distance, or halted
   pub none_safe : (SomeSafe n lab → ⊥) → Delivers n lab d s 0 ⊎ Halts n lab d s
   -- either end is safe, or no node is: each hop is one nearer
-  pub nears : (lab s ≡ 0) ⊎ (lab d ≡ 0) ⊎ (SomeSafe n lab → ⊥) → Nears n lab d s
+  pub nears : FromSafe lab s ⊎ (lab d ≡ 0) ⊎ (SomeSafe n lab → ⊥) → Nears n lab d s
 
 dist_le : (n s d : ℕ) → s < 2 ^ n → d < 2 ^ n → dist s d ≤ n
 dist_le n s d hs hd = omega (arith, dist_count n s d hs hd, count_bound n (λ i. apart i s d))
@@ -126,9 +127,9 @@ module _ (n : ℕ) (lab : ℕ → ℕ) (G : Good n lab) (d : ℕ) (hd : d < 2 ^ 
       → rank lab d (spot (route n lab d) s (k + 1)) < rank lab d (spot (route n lab d) s k)
   rank_falls = falls (rank lab d) (λ _. Dark) progress.by_rank near_rank
 
-  from_safe_nears : lab s ≡ 0 → Nears n lab d s
+  from_safe_nears : FromSafe lab s → Nears n lab d s
   from_safe_nears e =
-      nears (rank lab d) (λ _. Dark) progress.by_rank near_rank (rank_ge lab d) (omega (arith, rank_le lab d s, e))
+      nears (rank lab d) (λ _. Dark) progress.by_rank near_rank (rank_ge lab d) (rank_safe lab d s e)
 
   module _ (e : lab d ≡ 0) where
     to_safe : Delivers n lab d s 0

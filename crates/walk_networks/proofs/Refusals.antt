@@ -4,7 +4,7 @@ use mathlib.Core.Path.{◌≡◌, refl, sym, ap, ◌∙◌}
 use mathlib.Core.Bool.{Bool, true, false, not}
 use mathlib.Core.Logic.{◌⊎◌, inl, inr}
 use mathlib.Core.List.{List, [], ◌∷◌, ◌++◌}
-use Prim.Native.Nat.{ℕ, ◌≤◌}
+use Prim.Native.Nat.{ℕ, ◌^◌, ◌≤◌, ◌<◌}
 use native.Mathlib.Omega.{arith}
 use lib.ListN.{drop, get_or, length}
 use borrow.Author.Tests.{ne_eqb}
@@ -17,13 +17,15 @@ use Rattle.hop.specs.declared.Decision.{Decision}
 use Rattle.hop.specs.declared.Decision.TheVariants.{Deliver, Hop, Halted}
 use Rattle.walk.specs.Helpers.{table_refusal}
 use Rattle.walk.specs.Walk.{stops, table_tests}
-use Rattle.blocks.specs.Board.{hop_list, hops_on, last_on, number_at}
+use Rattle.blocks.specs.Board.{hop_list, hops_on, last_on, most_hops, number_at}
+use Rattle.blocks.proofs.Board.{walks}
 use Rattle.hop_networks.specs.Helpers.{board_refusal, list_refusal, list_tests}
 use Rattle.hop_networks.specs.Hopping.{is_board}
 use Rattle.hop_networks.proofs.Refusals.{board_passes, board_stops, list_passes, list_stops}
 use Rattle.walk_networks.specs.Crossing.{cross_refusal, crossing, ended_by, hops_after, hops_of, too_short}
 use Rattle.walk_networks.specs.declared.Crossed.{Crossed}
 use Rattle.walk_networks.specs.declared.Crossed.TheVariants as crossed
+use Rattle.walk_networks.proofs.Steps.{most_few}
 
 -- the hop count of a walk that ends, and that one that does not end is refused
 pub hops-of : (k : ℕ) (x : Decision) → stops x ≡ true → hops_of (ended_by k x) ≡ k
@@ -43,6 +45,14 @@ unfolding ended_by
 hops_within k Deliver = omega arith
 hops_within k (Hop i) = omega arith
 hops_within k Halted = omega arith
+
+-- so of a walk that is found no more hops are to be written than a walk may have, and than there are places for
+pub made_few : (n N : ℕ) (lab : ℕ → ℕ) (d s : ℕ) (r : Crossed) (count : ℕ) → (1 ≤ n) × (n ≤ 12) → (0 < N) × (N ≤ 5) → s < 2 ^ n
+    → r ≡ ended_by (hops_on n N lab d s) (last_on n N lab d s) → count ≡ hops_of r → (count ≤ 120) × (count ≤ most_hops n N)
+made_few n N lab d s r count dimension networks hs e ec =
+    let w = walks n lab d s hs N networks.0 in
+    let few : count ≤ most_hops n N = omega (arith, ec, ap hops_of e, hops_within (hops_on n N lab d s) (last_on n N lab d s), w.within) in
+    (omega (arith, few, most_few n N dimension.1 networks.1), few)
 
 module _ (n N j s d m : ℕ) (lab : ℕ → ℕ) (list : List ℕ) where
   abbrev refusal : ℕ

@@ -1,8 +1,8 @@
 -- `walk_networks`: the board first, then what needs no label, then what the labels of the job's half refuse; then the hops are found, and written unless the
 -- walk is refused.
-use mathlib.Core.Path.{◌≡◌, refl, sym, ap, ◌∙◌}
+use mathlib.Core.Path.{◌≡◌, refl, sym, ◌∙◌}
 use mathlib.Core.Bool.{not}
-use Prim.Native.Nat.{ℕ, ◌^◌, ◌<◌, ◌≤◌}
+use Prim.Native.Nat.{◌^◌, ◌<◌, ◌≤◌}
 use native.Mathlib.Omega.{arith}
 use borrow.Author.Tests.{ltb-false, not-false}
 use lib.ListN.{length}
@@ -13,13 +13,11 @@ use Rattle.hop.specs.Helpers.{Asked, Placed}
 use Rattle.hop.proofs.Refusals.{half_placed}
 use Rattle.walk.specs.Helpers.{table_refusal}
 use Rattle.blocks.specs.Board.{hops_on, last_on, most_hops}
-use Rattle.blocks.proofs.Board.{walks}
 use Rattle.hop_networks.specs.Helpers.{board_refusal, list_refusal}
 use Rattle.hop_networks.specs.Hopping.{is_board}
 use Rattle.hop_networks.proofs.Refusals.{board_good, board_is, list_good}
-use Rattle.walk_networks.specs.Crossing.{ended_by, hops_of, too_short}
-use Rattle.walk_networks.specs.declared.Crossed.{Crossed}
-use Rattle.walk_networks.proofs.Refusals.{hops_within, unboarded, unlabelled, unlisted, walked}
+use Rattle.walk_networks.specs.Crossing.{ended_by, too_short}
+use Rattle.walk_networks.proofs.Refusals.{made_few, unboarded, unlabelled, unlisted, walked}
 use Rattle.walk_networks.proofs.Steps.{most_few}
 use Rattle.walk_networks.proofs.walk_networks.Goals as goal
 use Rattle.walk_networks.proofs.walk_networks.Goals.{After-board_refusal-by_board, After-find-found, After-half-table, After-list_refusal-by_place, After-table_refusal-by_labels, Else-by_board-ne0, Else-by_place-ne0}
@@ -31,8 +29,11 @@ board-refuses c = rw c.is_board.ensures at c.board_refusal-by_board.ensures
 board : (c : Else-by_board-ne0) → let a = c.args in board_refusal a.n (not (is_board a.networks)) ≡ 0
 board c = sym (rw c.is_board.ensures at c.board_refusal-by_board.ensures) ∙ c.if-by_board-ne0.false
 
+dimension : (c : Else-by_board-ne0) → (1 ≤ c.args.n) × (c.args.n ≤ 12)
+dimension c = dimension_is _ (board_good _ _ (board c)).0
+
 small : (c : Else-by_board-ne0) → c.args.n ≤ 12
-small c = (dimension_is _ (board_good _ _ (board c)).0).1
+small c = (dimension c).1
 
 networks-few : (c : Else-by_board-ne0) → let a = c.args in (0 < a.networks) × (a.networks ≤ 5)
 networks-few c = board_is _ (not-false _ (board_good _ _ (board c)).1)
@@ -68,13 +69,6 @@ found : (c : After-find-found) → let a = c.args in
     let lab = label_in (half a.job (2 ^ a.n) a.labels.now) in
     c.find-found.result ≡ ended_by (hops_on a.n a.networks lab a.d a.s) (last_on a.n a.networks lab a.d a.s)
 found c = rw c.half-table.ensures.bytes at c.find-found.ensures.answer
-
--- and no walk has more hops than a walk may have
-count_few : (n N : ℕ) (lab : ℕ → ℕ) (d s : ℕ) (r : Crossed) (count : ℕ) → s < 2 ^ n → 0 < N → r ≡ ended_by (hops_on n N lab d s) (last_on n N lab d s)
-    → count ≡ hops_of r → count ≤ most_hops n N
-count_few n N lab d s r count hs some e ec =
-    let w = walks n lab d s hs N some in
-    omega (arith, ec, ap hops_of e, hops_within (hops_on n N lab d s) (last_on n N lab d s), w.within)
 
 pub returns-then-by_board-ne0 : goal.returns-then-by_board-ne0
 returns-then-by_board-ne0 c =
@@ -119,10 +113,10 @@ find-found-requires c =
 
 pub write-requires : goal.write-requires
 write-requires c =
-    let b = networks-few (goal.at.write-requires c).Else-by_board-ne0 in
-    let p = asked (goal.at.write-requires c).Else-by_place-ne0 (small (goal.at.write-requires c).Else-by_board-ne0) in
-    let few = count_few _ _ _ _ _ _ _ p.0.first b.0 (found (goal.at.write-requires c).After-find-found) c.made.ensures in
-    (omega (arith, few, most (goal.at.write-requires c).Else-by_board-ne0), omega (arith, few, p.1))
+    let b = (goal.at.write-requires c).Else-by_board-ne0 in
+    let p = asked (goal.at.write-requires c).Else-by_place-ne0 (small b) in
+    let few = made_few _ _ _ _ _ _ _ (dimension b) (networks-few b) p.0.first (found (goal.at.write-requires c).After-find-found) c.made.ensures in
+    (few.0, omega (arith, few.1, p.1))
 
 pub returns : goal.returns
 returns c =
