@@ -64,6 +64,7 @@ use Rattle.hcube.proofs.Small.{row_fits, written}
 use Rattle.promises.specs.InC.{InC, node_number}
 use Rattle.promises.proofs.Demands.{c_demands, rattle_demands}
 use Rattle.promises.proofs.Library.{c_faithful}
+use Rattle.promises.proofs.RowPlaces.{places, within_hops}
 use Rattle.promises.proofs.Numbers.{crossed-in-number, hop-in-number}
 
 -- ---- the number of the library's own answer
@@ -177,12 +178,12 @@ module _ {n j s d r : ℕ} {buffer before after : List ℕ} (m : May hcube.walk 
     node : (k : ℕ) → k < 17 → node_at after k ≡ place w k
     node k l = sym (get_d_tab 17 (node_at after) k l) ∙ ap (λ (u : Walked). place u k) (sym ended)
 
-    row_once : (k i : ℕ) → k < i → i < value_part r + 1 → node_at after k ≢ node_at after i
+    row_once : (k i : ℕ) → k < i → i < places r → node_at after k ≢ node_at after i
     row_once k i l within e =
         let count = ap (λ (u : Walked). u.hops) ended in
         let few = hops_few n j s d (length buffer) (length before) (label_for n j buffer) in
         c_demands.walk_once (r, before, after, m, refl, sym taken) (ap (λ (u : Walked). W.refusal_of u.ending) ended ∙ none_refused (kind_part r)) k i l
-        (omega arith) (sym (node k (omega arith)) ∙ e ∙ node i (omega arith))
+        (within_hops r w.hops i count within) (sym (node k (omega arith)) ∙ e ∙ node i (omega arith))
 
     row_nodes : {v : Walked} → May walk.walk (n, j, s, d, buffer) v tt → (k : ℕ) → k < 17 → node_at after k ≡ place v k
     row_nodes v k l = node k l ∙ ap (λ (u : Walked). place u k) (same ∙ sym (told walk.walk_says v).0)

@@ -32,6 +32,7 @@ use Rattle.promises.specs.Jobs.{Jobs, Meanwhile, SameTo, another, another_why, n
 use Rattle.promises.specs.Library.{Library, rattle, c}
 use Rattle.promises.proofs.Alike.{hop_alike, label_alike, walk_alike, why_hop_alike, why_node_alike}
 use Rattle.promises.proofs.Answers.{c_answers, rattle_answers}
+use Rattle.promises.proofs.BothJobs.{BothHold, both_hold}
 use Rattle.promises.proofs.Demands.{c_demands, rattle_demands}
 use Rattle.promises.proofs.Given.{job_below}
 use Rattle.promises.proofs.Left.{kept, left_other, left_same, other_same, own_same, same_after, written}
@@ -169,10 +170,10 @@ module _ (lib : Library) (F : Faithful lib) (A : Answers lib) (D : Demands lib) 
       rw (← same.own, ← walk_own v₀.1 v same) (D.walks m hs hd v₀.1)
 
   both : {K₀ K₁ : Cabinet} {e f : ℕ} {before l after : List ℕ} → K₀.n ≡ K₁.n → lib.labels K₀ 0 before (Exchanges e) l
-      → lib.labels K₁ 1 l (Exchanges f) after → (half 0 (2 ^ K₀.n) after ≡ labels_of K₀) × (half 1 (2 ^ K₁.n) after ≡ labels_of K₁)
-  both {l = l} {after = after} e m₀ m₁ =
+      → lib.labels K₁ 1 l (Exchanges f) after → BothHold K₀ K₁ after
+  both {K₀} {K₁} {l = l} {after = after} e m₀ m₁ =
       let s = subst (λ (k : ℕ). SameTo k 0 l after) (sym e) (unmoved_by {j = 0} (omega arith) (λ q. omega arith) m₁) in
-      (sym s.own ∙ D.labels_written m₀, D.labels_written m₁)
+      both_hold K₀ K₁ after (sym s.own ∙ D.labels_written m₀) (D.labels_written m₁)
 
   either_order : {K₀ K₁ : Cabinet} {before l l' after after' : List ℕ} {x x' y y' : Labelled} → K₀.n ≡ K₁.n
       → lib.labels K₀ 0 before x l → lib.labels K₁ 1 l y after → lib.labels K₁ 1 before y' l' → lib.labels K₀ 0 l' x' after'

@@ -4,6 +4,7 @@ pub mod Library
 pub mod Sizes
 pub mod Eight
 pub mod LabelRefusals
+pub mod BytesGiven
 pub mod WriteRefusals
 pub mod RepairRefusals
 pub mod Refusals
@@ -18,6 +19,7 @@ pub mod Writes
 pub mod Lists
 pub mod Repairs
 pub mod Numbers
+pub mod RowPlaces
 pub mod InC
 pub mod InRattle
 pub mod Lent
@@ -31,6 +33,7 @@ pub mod Seen
 pub mod Settled
 pub mod Left
 pub mod Alike
+pub mod BothJobs
 pub mod Jobs
 pub mod Worked
 pub mod Promises

@@ -19,33 +19,14 @@ use Rattle.list_reader.specs.Reading.{list_refusal}
 use Rattle.list_writer.specs.Lists.{wrote_list}
 use Rattle.promises.specs.Refusals.{BytesGiven, ReadListGiven, ReadListWhen, WriteGiven, WriteListGiven, WriteWhen, list_1, list_12, list_14, list_2}
 use Rattle.promises.specs.Refusals.{none, write_1, write_13, write_2, write_3}
+use Rattle.promises.proofs.BytesGiven.{given}
 use Rattle.promises.proofs.Given.{not_says, one_test, test_then, unused_says, wrong_dimension, wrong_table}
 
 -- ---- writing the bytes w
 
 module _ (n : ℕ) (faults w : List ℕ) (room : ℕ) where
-  given : BytesGiven n faults w room (T.room_refusal n faults w room)
-  unfolding T.room_refusal first
-  given =
-      one_test _ (λ e. write_1 ((wrong_dimension n).0 e)) said_1
-      (one_test _ (λ e. write_2 ((wrong_table n (length faults)).0 e)) said_2
-      (one_test _ (λ e. write_3 ((unused_says n faults).0 e)) said_3
-      (one_test _ (λ e. write_13 (ltb-true room (length w) e)) said_13 none)))
-    where
-      said_1 : WriteWhen n faults w room 1 → not (is_dimension n) ≡ true
-      said_1 (write_1 d) = (wrong_dimension n).1 d
-
-      said_2 : WriteWhen n faults w room 2 → not (eqb (length faults) (table_len n)) ≡ true
-      said_2 (write_2 l) = (wrong_table n (length faults)).1 l
-
-      said_3 : WriteWhen n faults w room 3 → unused_set n faults ≡ true
-      said_3 (write_3 u) = (unused_says n faults).1 u
-
-      said_13 : WriteWhen n faults w room 13 → ltb room (length w) ≡ true
-      said_13 (write_13 l) = lt-ltb room (length w) l
-
   bytes_given : BytesGiven n faults w room (T.refusal_of (T.wrote_bytes n faults w room))
-  bytes_given = rw (refusal_is n faults w room) given
+  bytes_given = rw (refusal_is n faults w room) (given n faults w room)
 
 pub write_given : (n : ℕ) (faults : List ℕ) (room : ℕ) → WriteGiven n faults room (T.refusal_of (T.wrote n faults room))
 write_given n faults room = bytes_given n faults (notice_bytes n faults) room
