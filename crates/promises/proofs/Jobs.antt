@@ -13,7 +13,7 @@ use Rattle.jobs.specs.Jobs.{half, label_for, with_half}
 use Rattle.jobs.proofs.Laws.{halves_alike}
 use Rattle.rule.specs.Cabinet.{Cabinet, exchanges_of, faulty, labels_of, out, out_byte}
 use Rattle.rule.specs.Rule.{exchanges, label}
-use Rattle.labels.specs.Labelling.{label_refusal, labelled, labels_after}
+use Rattle.labels.specs.Labelling.{labelled, labels_after}
 use Rattle.labels.specs.declared.Labelled.{Labelled}
 use Rattle.labels.specs.declared.Labelled.TheVariants.{Exchanges}
 use Rattle.labels.proofs.Refusal.{buffer_sized, fitting, length_kept, of_exchanges}

@@ -1,6 +1,6 @@
 -- 16 in words: a hop needs a network that the board lacks; and of a walk, that each decision is a hop in a network of the board until one needs another.
 use mathlib.Core.Bool.{true, false, not, ◌||◌}
-use mathlib.Core.Logic.{◌⊎◌, ⊎_elim, ◌↔◌}
+use mathlib.Core.Logic.{⊎_elim, ◌↔◌}
 use mathlib.Core.Path.{◌≡◌, refl, sym, ap, ◌∙◌}
 use Prim.Native.Nat.{ℕ, zero, suc, ◌*◌, ◌^◌, ◌≤◌, ◌<◌}
 use native.Mathlib.Numerals.{add-one}

@@ -15,7 +15,6 @@ use Rattle.scans.specs.Scans as scans
 use Rattle.scans.specs.Scans.{suits, takes}
 use Rattle.jobs.specs.Jobs.{half, is_job, label_bytes, label_for}
 use Rattle.hop.specs.declared.Decision.TheVariants.{Hop}
-use Rattle.hop.specs.declared.Hopped.{Hopped}
 use Rattle.hop.specs.declared.Hopped.TheVariants as hopped
 use Rattle.blocks.specs.Blocks.{call, decide_in, eager, first_block, fits, hop_in, lowest, may_fourth, may_sixth, pick}
 use Rattle.blocks.specs.Board.{beyond, numbered}

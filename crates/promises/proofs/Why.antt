@@ -2,17 +2,15 @@
 -- it is answered too: that it does not work, or that its round is smaller; and so whoever follows causes from answer to answer comes down.
 use mathlib.Core.List.{List}
 use mathlib.Core.Logic.{◌⊎◌, inl, inr, ⊎_elim, ◌≢◌}
-use mathlib.Core.Bool.{Bool, true, false, not, ◌||◌}
+use mathlib.Core.Bool.{true, false, not}
 use mathlib.Core.Path.{◌≡◌, refl, sym, ap, subst, ◌∙◌}
 use Prim.Native.Nat.{ℕ, zero, suc, ◌^◌, ◌≤◌, ◌<◌}
 use native.Mathlib.Omega.{arith}
-use lib.Dec.{eqb}
 use lib.ListN.{length}
-use borrow.Author.Tests.{eq-eqb, eqb-false, eqb-true, ne_eqb}
+use borrow.Author.Tests.{ne_eqb}
 use Rattle.cube.specs.Count.{count}
 use Rattle.cube.specs.Cube.{flip}
-use Rattle.cube.specs.Tables.{label_in}
-use Rattle.cube.proofs.Bools.{by_cases, clash, either, or_right}
+use Rattle.cube.proofs.Bools.{by_cases, either}
 use Rattle.cube.proofs.Cube.{flip_lt}
 use Rattle.jobs.specs.Jobs.{half, label_for}
 use Rattle.rule.specs.Cabinet.{Cabinet, labels_of, out, out_byte}
@@ -22,14 +20,11 @@ use Rattle.causes.specs.Cause.{cause_of, round_of}
 use Rattle.causes.specs.Laws.{Marked, MarkedBefore, Names}
 use Rattle.causes.specs.declared.Cause.{Cause}
 use Rattle.causes.proofs.Down.{cause_laws}
-use Rattle.labels.specs.Labelling.{label_refusal, labelled, labels_after}
-use Rattle.labels.specs.declared.Labelled.{Labelled}
-use Rattle.labels.specs.declared.Labelled.TheVariants as labelled
+use Rattle.labels.specs.Labelling.{label_refusal, labels_after}
 use Rattle.labels.proofs.Refusal.{fitting, labels_written, of_refused}
 use Rattle.hop.specs.Hop.{hop_refusal}
-use Rattle.hop.specs.declared.Hopped.{Hopped}
 use Rattle.why.specs.HopReasons as X
-use Rattle.why.specs.Laws.{HopExplained, NodeExplained, is-unsafe}
+use Rattle.why.specs.Laws.{HopExplained, NodeExplained}
 use Rattle.why.specs.NodeReasons as Y
 use Rattle.why.specs.declared.HopReason.{HopReason}
 use Rattle.why.specs.declared.NodeReason.{NodeReason}

@@ -3,11 +3,11 @@ use mathlib.Core.Path.{◌≡◌, sym, ap, ◌∙◌}
 use mathlib.Core.Bool.{true, not}
 use mathlib.Core.List.{List}
 use Prim.Native.Nat.{ℕ, ◌^◌}
-use lib.Dec.{eqb, ltb}
+use lib.Dec.{eqb}
 use lib.ListN.{length}
-use borrow.Author.Tests.{lt-ltb, ltb-true, not-false}
+use borrow.Author.Tests.{not-false}
 use Rattle.cube.specs.Refusal.{first}
-use Rattle.cube.specs.Tables.{is_dimension, table_len, unused_set}
+use Rattle.cube.specs.Tables.{is_dimension, table_len}
 use Rattle.ranges.specs.Grammar.{is_list, named, reaches}
 use Rattle.ranges.specs.Laws.{Entries, Entry, holds}
 use Rattle.ranges.proofs.Laws.{ranges_laws}
@@ -17,10 +17,10 @@ use Rattle.writer.specs.Writing as T
 use Rattle.writer.proofs.Outcomes.{refusal_is}
 use Rattle.list_reader.specs.Reading.{list_refusal}
 use Rattle.list_writer.specs.Lists.{wrote_list}
-use Rattle.promises.specs.Refusals.{BytesGiven, ReadListGiven, ReadListWhen, WriteGiven, WriteListGiven, WriteWhen, list_1, list_12, list_14, list_2}
-use Rattle.promises.specs.Refusals.{none, write_1, write_13, write_2, write_3}
+use Rattle.promises.specs.Refusals.{BytesGiven, ReadListGiven, ReadListWhen, WriteGiven, WriteListGiven, list_1, list_12, list_14, list_2}
+use Rattle.promises.specs.Refusals.{none}
 use Rattle.promises.proofs.BytesGiven.{given}
-use Rattle.promises.proofs.Given.{not_says, one_test, test_then, unused_says, wrong_dimension, wrong_table}
+use Rattle.promises.proofs.Given.{not_says, one_test, test_then, wrong_dimension, wrong_table}
 
 -- ---- writing the bytes w
 

@@ -1,5 +1,5 @@
 -- `hcube_notice_dimension` packs the answer of `dimension`, whose parts are small.
-use mathlib.Core.Path.{sym, ◌∙◌}
+use mathlib.Core.Path.{sym}
 use native.Mathlib.Omega.{arith}
 use Rattle.hcube.proofs.Small.{dimension_small}
 use Rattle.hcube.proofs.hcube_notice_dimension.Goals as goal

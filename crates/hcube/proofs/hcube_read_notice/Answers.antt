@@ -1,5 +1,5 @@
 -- `hcube_read_notice` packs the answer of `read`, whose parts are small.
-use mathlib.Core.Path.{◌≡◌, sym, ◌∙◌}
+use mathlib.Core.Path.{◌≡◌, sym}
 use Prim.Native.Nat.{ℕ}
 use native.Mathlib.Omega.{arith}
 use Rattle.notice.proofs.Agree.{parts}

@@ -1,7 +1,5 @@
-use Prim.Native.Nat.{◌-◌}
 use native.Mathlib.Omega.{arith}
 use Rattle.cube.proofs.Filling.{fill_start, fill_write, fill_end}
-use Rattle.hcube.specs.Answers.{row_byte}
 use Rattle.hcube.proofs.put_row.Goals as goal
 
 pub loop-k-init : goal.loop-k-init
