@@ -1,5 +1,5 @@
-// What C calls: plain numbers and byte slices in, one number out. include/hcube.h is the C side of it. C's numbers are widened and never
-// narrowed, so none is mistaken for a smaller one.
+// What C calls, by the archive that hcube_c is: plain numbers and byte slices in, one number out. include/hcube.h is the C side of it. C's
+// numbers are widened and never narrowed, so none is mistaken for a smaller one.
 #![tactic(auto)]
 
 ghost use Rattle.std.specs.Prelude.{◌<◌, ◌≤◌, length, ◌≡◌};

@@ -138,7 +138,7 @@ use Rattle.hcube.proofs.hcube_repair.Reads as hcube-repair-reads
 use Rattle.promises.specs.TiedNetworks.{NetworksTied}
 
 module _ {T : Ended} {A X B : Type 0} (f : Function T A X B) (written : Written T) where
-  -- a method that holds a borrow, of which the check makes no claims: these are its clauses, and the claim is what whoever has its `ensures` learns
+  -- a method that holds a borrow: these are its clauses, and the claim is what whoever has its `ensures` learns
   pub record TiedMethod : Type 2 where
     pub clauses : (w : World) → f.clauses w ≡ written w
     pub post :
