@@ -7,6 +7,7 @@ pub mod Front
 pub mod Filling
 pub mod Tables
 pub mod Refusal
+pub mod Refused
 pub mod Laws
 pub mod Contracts
 pub mod Functions

@@ -1,10 +1,12 @@
 // The cube: nodes as numbers, the neighbour across a dimension, the Hamming distance, the bits of a fault table, and the nodes of a label.
-// Nothing here refuses: the crates above test what they are handed before they ask.
+// The crates above refuse, by the refusals of refusals.rt; nothing else here does: they test what they are handed before they ask.
 #![tactic(auto)]
 
 ghost use Rattle.std.specs.Prelude.{◌/◌, ◌^◌, ◌<◌, length, ◌≡◌};
 ghost use Rattle.cube.specs.Cube.{dist, flip};
 ghost use Rattle.cube.specs.Tables.{is_dimension, label_count, node_bit, table_len, unused_set};
+
+pub mod refusals;
 
 pub const HIGHEST: u8 = 4; // the highest label
 
