@@ -1,5 +1,5 @@
 // The cube: nodes as numbers, the neighbour across a dimension, the Hamming distance, the bits of a fault table, and the nodes of a label.
-// The crates above refuse, by the refusals of refusals.rt; nothing else here does: they test what they are handed before they ask.
+// Nothing here refuses: the crates above test what they are handed before they ask, and give the refusals of refusals.rt.
 #![tactic(auto)]
 
 ghost use Rattle.std.specs.Prelude.{◌/◌, ◌^◌, ◌<◌, length, ◌≡◌};
