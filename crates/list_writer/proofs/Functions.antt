@@ -6,7 +6,7 @@ use Prim.Native.Nat.{ℕ}
 use lib.ListN.{length}
 use Rattle.cube.specs.Allowed.{AsksNothing, Function}
 use Rattle.cube.proofs.Contracts.{Says}
-use Rattle.writer.specs.declared.Wrote.{Wrote}
+use Rattle.writer.specs.Writing.{Wrote}
 use Rattle.list_writer.specs.Lists.{list_after, wrote_list}
 use Rattle.list_writer.specs.contracts.write as write-claims
 use Rattle.list_writer.proofs.write.Reads as write-claims-reads

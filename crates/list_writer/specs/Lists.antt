@@ -3,8 +3,7 @@
 use Rattle.std.specs.Prelude.{Bool, cond, List, [], ◌∷◌, ℕ, zero, suc, ◌+◌, ◌/◌, ◌%◌, eqb, ltb}
 use Rattle.ranges.specs.Grammar.{comma}
 use Rattle.ranges.specs.Written.{list_text}
-use Rattle.writer.specs.Writing.{after_bytes, wrote_bytes}
-use Rattle.writer.specs.declared.Wrote.{Wrote}
+use Rattle.writer.specs.Writing.{Wrote, after_bytes, wrote_bytes}
 
 -- "writing 1, 2, 3, then 13 exactly if the text is longer than the buffer"
 abbrev pub wrote_list : (n : ℕ) (faults : List ℕ) (room : ℕ) → Wrote

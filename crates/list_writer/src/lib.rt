@@ -9,8 +9,9 @@ ghost use Rattle.list_writer.specs.Lists.{digit_at, gap, list_after, run_end, wr
 ghost use Rattle.ranges.specs.Written.{decimal, entry_text, text_of};
 ghost use Rattle.spelling.specs.Spelled.{having};
 
+use cube::refusals::Refusal;
 use cube::{node_bit, nodes};
-use writer::{Wrote, table_refusal};
+use writer::table_refusal;
 
 // How many digits a node has.
 fn width(v: usize) -> usize
@@ -157,20 +158,17 @@ fn put_list(faults: &[u8], size: usize, out: &mut [u8])
     }
 }
 
-// Writes the text of a fault table of an n-cube to the front of the buffer, or refuses and leaves the buffer as it was.
-pub fn write(n: usize, faults: &[u8], out: &mut [u8]) -> Wrote
+// Writes the text of a fault table of an n-cube to the front of the buffer and answers its length, or refuses and leaves the buffer as it was.
+pub fn write(n: usize, faults: &[u8], out: &mut [u8]) -> Result<usize, Refusal>
     ensures answer { result ≡ wrote_list n faults.now (length out.old) }
     ensures buffer { out.new ≡ list_after n faults.now out.old }
 {
-    let refusal = table_refusal(n, faults);
-    if refusal != 0 {
-        return Wrote::Refused(refusal);
-    }
+    table_refusal(n, faults)?;
     let size = nodes(n);
     let length = measure(faults, size);
     if out.len() < length {
-        return Wrote::Refused(13);
+        return Err(Refusal::Room);
     }
     put_list(faults, size, out);
-    Wrote::Length(length)
+    Ok(length)
 }

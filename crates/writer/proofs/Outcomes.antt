@@ -8,29 +8,28 @@ use native.Mathlib.Omega.{arith}
 use lib.Dec.{eqb, ltb}
 use lib.ListN.{length}
 use borrow.Author.Tests.{eqb-false, eqb-true, ltb-false}
+use Rattle.std.specs.Prelude.{Ok, Err}
+use Rattle.cube.specs.declared.refusals.Refusal.{Refusal}
 use Rattle.cube.specs.Refusal.{first, ◌⇒◌}
-use Rattle.cube.proofs.Bools.{by_cases, either}
+use Rattle.cube.specs.Refused.{number}
+use Rattle.cube.proofs.Bools.{either}
 use Rattle.cube.proofs.Refusal.{first_le, first_none}
+use Rattle.cube.proofs.Refused.{number_range, refused_is}
 use Rattle.cube.proofs.Tables.{nodes_few}
 use Rattle.spelling.specs.Laws.{IsTable}
 use Rattle.spelling.specs.Spelled.{notice_bytes}
 use Rattle.spelling.proofs.Laws.{spelling_laws}
-use Rattle.writer.specs.Writing.{on_wrote, length_of, refusal_of, fault_tests, room_refusal, wrote_bytes}
-use Rattle.writer.specs.declared.Wrote.{Wrote}
-use Rattle.writer.specs.declared.Wrote.TheVariants.{Length, Refused}
+use Rattle.writer.specs.Writing.{length_of, refusal_of, fault_tests, room_refusal, wrote_bytes}
 use Rattle.writer.proofs.Refusal.{has_room, table_first, table_is, table_taken, wrote_length}
 
 module _ (n : ℕ) (faults w : List ℕ) (room : ℕ) where
-  pub refusal_is : refusal_of (wrote_bytes n faults w room) ≡ room_refusal n faults w room
-  unfolding wrote_bytes
-  refusal_is =
-      by_cases (λ (x : Wrote). refusal_of x ≡ room_refusal n faults w room) (eqb (room_refusal n faults w room) 0)
-      (λ e. sym (eqb-true (room_refusal n faults w room) 0 e))
-      (λ e. refl)
-
   refusal_few : room_refusal n faults w room ≤ 13
   unfolding room_refusal
   refusal_few = first_le 13 (fault_tests n faults ++ ltb room (length w) ⇒ 13 ∷ []) refl
+
+  pub refusal_is : refusal_of (wrote_bytes n faults w room) ≡ room_refusal n faults w room
+  unfolding wrote_bytes
+  refusal_is = refused_is _ (length w) (omega (arith, refusal_few))
 
   -- nothing is refused
   pub taken : room_refusal n faults w room ≡ 0 → IsTable n faults × (length w ≤ room)
@@ -50,7 +49,7 @@ module _ (n : ℕ) (faults w : List ℕ) (room : ℕ) where
       omega (arith, e, table_first n faults w room (eqb-false _ 0 z), first_le 3 (fault_tests n faults) refl))
       (either (eqb (first (fault_tests n faults)) 0))
 
-  module _ {len : ℕ} (e : wrote_bytes n faults w room ≡ Length len) where
+  module _ {len : ℕ} (e : wrote_bytes n faults w room ≡ Ok len) where
     pub none_given : room_refusal n faults w room ≡ 0
     none_given = sym refusal_is ∙ ap refusal_of e
 
@@ -60,17 +59,15 @@ module _ (n : ℕ) (faults w : List ℕ) (room : ℕ) where
     pub length_few : {top : ℕ} → (IsTable n faults → length w ≤ top) → len ≤ top
     length_few h = omega (arith, length_is, h (taken none_given).0)
 
-  module _ {k : ℕ} (e : wrote_bytes n faults w room ≡ Refused k) where
-    pub given_is : room_refusal n faults w room ≡ k
+  module _ {r : Refusal} (e : wrote_bytes n faults w room ≡ Err r) where
+    pub given_is : room_refusal n faults w room ≡ number r
     given_is = sym refusal_is ∙ ap refusal_of e
 
-    pub given_few : k ≤ 13
+    pub given_few : number r ≤ 13
     given_few = omega (arith, given_is, refusal_few)
 
-    pub given_some : k ≢ 0
-    given_some z =
-        let one : ◌≡◌ {A = ℕ} 1 0 = ap (λ (x : Wrote). on_wrote x (λ _. 1) (λ _. 0)) (sym e ∙ sym (wrote_length n faults w room (given_is ∙ z))) in
-        omega arith
+    pub given_some : number r ≢ 0
+    given_some z = omega (arith, (number_range r).0)
 
 -- a notice has at most 4,099 bytes
 pub notice_few : (n : ℕ) (faults : List ℕ) → IsTable n faults → length (notice_bytes n faults) ≤ 4099

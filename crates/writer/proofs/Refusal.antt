@@ -2,19 +2,28 @@
 use mathlib.Core.Bool.{cond}
 use mathlib.Core.List.{List, [], ◌∷◌}
 use mathlib.Core.Logic.{◌≢◌}
-use mathlib.Core.Path.{◌≡◌, refl, sym, ◌∙◌}
-use Prim.Native.Nat.{ℕ, ◌≤◌, ◌<◌}
+use mathlib.Core.Path.{◌≡◌, refl, sym, ap, ◌∙◌}
+use Prim.Native.Nat.{ℕ, zero, suc, ◌≤◌, ◌<◌}
 use lib.Dec.{ltb}
 use lib.ListN.{length}
-use borrow.Author.Tests.{eqb-true, eq-eqb, le-leb, le-ltb, lt-ltb, ne_eqb, not-false}
+use borrow.Author.Tests.{eqb-true, eq-eqb, le-leb, le-ltb, lt-ltb, not-false}
 use Rattle.cube.specs.Over.{over}
+use Rattle.cube.specs.declared.refusals.Refusal.{Refusal}
 use Rattle.cube.specs.Refusal.{first, ◌⇒◌}
+use Rattle.cube.specs.Refused.{answered, refusal}
 use Rattle.cube.specs.Tables.{is_dimension, table_len}
 use Rattle.cube.proofs.Refusal.{None, first_none, first_passes, first_stops}
+use Rattle.cube.proofs.Refused.{accepted, accepts, passed_on, refusing}
 use Rattle.cube.proofs.Tables.{dimension_is}
 use Rattle.spelling.specs.Laws.{IsTable}
 use Rattle.writer.specs.Writing.{after_bytes, fault_tests, room_refusal, wrote_bytes}
-use Rattle.writer.specs.declared.Wrote.TheVariants.{Length, Refused}
+use Rattle.std.specs.Prelude.{Result, Ok, Err}
+use Rattle.std.specs.Result.{IsErr, IsErrAnd}
+use Rattle.std.proofs.lemmas.Result.{err_from_is_err_and}
+
+-- an answer that `?` passes on
+pub passes : {A : Type 0} {x : Refusal} (r : Result A Refusal) → IsErr r × IsErrAnd r (λ y. y ≡ x) → r ≡ Err x
+passes r p = let q = err_from_is_err_and r p.1 in q.1 ∙ ap Err q.2
 
 -- ---- a table that is not refused
 
@@ -25,6 +34,10 @@ module _ (n : ℕ) (faults : List ℕ) where
 
   pub table_taken : first (fault_tests n faults) ≡ 0 → IsTable n faults
   table_taken e = table_is (first_none 3 (fault_tests n faults) refl e)
+
+  -- whatever would be answered
+  pub table_accepted : {A : Type 0} (x y : A) → answered (first (fault_tests n faults)) x ≡ Ok y → IsTable n faults
+  table_accepted x y e = table_taken (accepted _ x y e).0
 
   pub is_taken : IsTable n faults → first (fault_tests n faults) ≡ 0
   unfolding first is_dimension
@@ -51,13 +64,19 @@ module _ (n : ℕ) (faults w : List ℕ) (room : ℕ) where
   has_room t h = room_then t ∙ rw (le-ltb room (length w) h)
 
   -- the answer, by the number
-  pub wrote_refused : {k : ℕ} → room_refusal n faults w room ≡ k → k ≢ 0 → Refused k ≡ wrote_bytes n faults w room
+  pub wrote_refused : {k : ℕ} → room_refusal n faults w room ≡ k → k ≢ 0 → Err (refusal k) ≡ wrote_bytes n faults w room
   unfolding wrote_bytes
-  wrote_refused {k} e h = rw (e, ne_eqb k 0 h)
+  wrote_refused {k = zero} e h = absurd (h refl)
+  wrote_refused {k = suc k} e h = rw e
 
-  pub wrote_length : room_refusal n faults w room ≡ 0 → Length (length w) ≡ wrote_bytes n faults w room
+  pub wrote_length : room_refusal n faults w room ≡ 0 → Ok (length w) ≡ wrote_bytes n faults w room
   unfolding wrote_bytes
-  wrote_length e = rw e
+  wrote_length e = sym (accepts _ (length w) e)
+
+  -- a table that is refused
+  pub wrote_passed : {r : Refusal} → answered {A = Unit} (first (fault_tests n faults)) tt ≡ Err r → Err r ≡ wrote_bytes n faults w room
+  unfolding wrote_bytes
+  wrote_passed {r} e = rw (table_first (refusing _ _ _ e)) (sym (passed_on _ _ (length w) r e))
 
 -- and the buffer
 module _ (n : ℕ) (faults w out : List ℕ) where
@@ -68,3 +87,7 @@ module _ (n : ℕ) (faults w out : List ℕ) where
   pub buffer_written : room_refusal n faults w (length out) ≡ 0 → over w out ≡ after_bytes n faults w out
   unfolding after_bytes
   buffer_written e = rw (sym (wrote_length n faults w (length out) e))
+
+  pub buffer_passed : {r : Refusal} → answered {A = Unit} (first (fault_tests n faults)) tt ≡ Err r → out ≡ after_bytes n faults w out
+  unfolding after_bytes
+  buffer_passed e = rw (sym (wrote_passed n faults w (length out) e))

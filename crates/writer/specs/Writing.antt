@@ -1,12 +1,12 @@
 -- Writing what stands for a fault table to the front of a lent buffer (RULES, Tables and the notice; List text): the refusals, the answer, and what the buffer
 -- holds then, for whatever bytes w are to be written; and the notice, whose bytes are `notice_bytes`.
-use Rattle.std.specs.Prelude.{cond, not, List, [], ◌∷◌, ◌++◌, ℕ, eqb, ltb, length}
+use Rattle.std.specs.Prelude.{not, List, [], ◌∷◌, ◌++◌, ℕ, eqb, ltb, length, Result, Ok, Err}
+use Rattle.cube.specs.declared.refusals.Refusal.{Refusal}
 use Rattle.cube.specs.Over.{over}
 use Rattle.cube.specs.Refusal.{Test, first, ◌⇒◌}
+use Rattle.cube.specs.Refused.{answered, number, refused}
 use Rattle.cube.specs.Tables.{is_dimension, table_len, unused_set}
 use Rattle.spelling.specs.Spelled.{notice_bytes}
-use Rattle.writer.specs.declared.Wrote.{Wrote}
-use Rattle.writer.specs.declared.Wrote.TheVariants.{Length, Refused}
 
 -- "1, 2, 3 as in labelling",
 abbrev pub fault_tests : (n : ℕ) (faults : List ℕ) → List Test
@@ -17,12 +17,15 @@ unfoldable pub room_refusal : (n : ℕ) (faults w : List ℕ) (room : ℕ) → �
 room_refusal n faults w room = first (fault_tests n faults ++ ltb room (length w) ⇒ 13 ∷ [])
 
 -- what is answered: the length of what was written, or the refusal
+abbrev pub Wrote : Type 0
+Wrote = Result ℕ Refusal
+
 unfoldable pub wrote_bytes : (n : ℕ) (faults w : List ℕ) (room : ℕ) → Wrote
-wrote_bytes n faults w room = cond (eqb (room_refusal n faults w room) 0) (Length (length w)) (Refused (room_refusal n faults w room))
+wrote_bytes n faults w room = answered (room_refusal n faults w room) (length w)
 
 abbrev pub on_wrote : {A : Type 0} → Wrote → (refused good : ℕ → A) → A
-on_wrote (Length len) refused good = good len
-on_wrote (Refused k) refused good = refused k
+on_wrote (Ok len) refused good = good len
+on_wrote (Err r) refused good = refused (number r)
 
 -- the buffer afterwards: refused, it keeps every byte; accepted, it is w, and "bytes of the buffer behind" it "keep their content"
 unfoldable pub after_bytes : (n : ℕ) (faults w out : List ℕ) → List ℕ
@@ -30,7 +33,7 @@ after_bytes n faults w out = on_wrote (wrote_bytes n faults w (length out)) (λ 
 
 -- the numbers for the answer (RULES, To C)
 abbrev pub refusal_of : Wrote → ℕ
-refusal_of x = on_wrote x (λ k. k) (λ len. 0)
+refusal_of x = refused x
 
 abbrev pub length_of : Wrote → ℕ
 length_of x = on_wrote x (λ k. 0) (λ len. len)

@@ -5,19 +5,14 @@
 ghost use Rattle.std.specs.Prelude.{◌+◌, ◌*◌, ◌<◌, ◌≤◌, length, ◌≡◌};
 ghost use Rattle.cube.specs.Over.{over, over_at};
 ghost use Rattle.cube.specs.Refusal.{first};
+ghost use Rattle.cube.specs.Refused.{answered};
 ghost use Rattle.cube.specs.Tables.{node_bit, table_len};
 ghost use Rattle.groups.specs.Number.{groups_of};
 ghost use Rattle.spelling.specs.Spelled.{address_bytes, faulty_nodes, having, notice_bytes};
 ghost use Rattle.writer.specs.Writing.{buffer_after, fault_tests, wrote};
 
+use cube::refusals::Refusal;
 use cube::{is_dimension, node_bit, nodes, table_len, unused_set};
-
-// The length of a notice that was written, or the refusal.
-#[derive(Drop)]
-pub enum Wrote {
-    Length(usize),
-    Refused(u32),
-}
 
 // How many nodes are faulty, and how many bytes their addresses take.
 #[derive(Drop)]
@@ -26,20 +21,20 @@ struct Measured {
     bytes: usize,
 }
 
-// The refusal of a fault table of an n-cube, and 0 where there is none.
-pub fn table_refusal(n: usize, faults: &[u8]) -> u32
-    ensures { result ≡ first (fault_tests n faults.now) }
+// Whether a fault table is one of an n-cube, or the refusal.
+pub fn table_refusal(n: usize, faults: &[u8]) -> Result<(), Refusal>
+    ensures { result ≡ answered (first (fault_tests n faults.now)) tt }
 {
     if !is_dimension(n) {
-        return 1;
+        return Err(Refusal::Dimension);
     }
     if faults.len() != table_len(n) {
-        return 2;
+        return Err(Refusal::Length);
     }
     if unused_set(n, faults) {
-        return 3;
+        return Err(Refusal::Unused);
     }
-    0
+    Ok(())
 }
 
 // How many bytes a number takes.
@@ -120,21 +115,18 @@ fn put_notice(n: usize, faults: &[u8], count: usize, out: &mut [u8])
     put_addresses(faults, size, out, start);
 }
 
-// Writes the notice of a fault table of an n-cube to the front of the buffer, or refuses and leaves the buffer as it was.
-pub fn write(n: usize, faults: &[u8], out: &mut [u8]) -> Wrote
+// Writes the notice of a fault table of an n-cube to the front of the buffer and answers its length, or refuses and leaves the buffer as it was.
+pub fn write(n: usize, faults: &[u8], out: &mut [u8]) -> Result<usize, Refusal>
     ensures answer { result ≡ wrote n faults.now (length out.old) }
     ensures buffer { out.new ≡ buffer_after n faults.now out.old }
 {
-    let refusal = table_refusal(n, faults);
-    if refusal != 0 {
-        return Wrote::Refused(refusal);
-    }
+    table_refusal(n, faults)?;
     let found = measure(faults, nodes(n));
     let head = groups_len(n) + groups_len(found.count);
     let length = head + found.bytes;
     if out.len() < length {
-        return Wrote::Refused(13);
+        return Err(Refusal::Room);
     }
     put_notice(n, faults, found.count, out);
-    Wrote::Length(length)
+    Ok(length)
 }

@@ -9,14 +9,14 @@ use Rattle.cube.specs.Tables.{node_bit}
 use Rattle.ranges.specs.Written.{list_text, text_of}
 use Rattle.spelling.specs.Laws.{IsTable}
 use Rattle.spelling.specs.Spelled.{having}
-use Rattle.writer.specs.declared.Wrote.TheVariants.{Length}
+use Rattle.std.specs.Prelude.{Ok}
 use Rattle.writer.proofs.Parts.{nodes_fit}
-use Rattle.writer.proofs.Refusal.{buffer_kept, buffer_written, has_room, no_room, table_first, table_taken, wrote_length, wrote_refused}
+use Rattle.writer.proofs.Refusal.{buffer_kept, buffer_passed, buffer_written, has_room, no_room, passes, table_accepted, wrote_length, wrote_passed, wrote_refused}
 use Rattle.list_writer.proofs.write.Goals as goal
-use Rattle.list_writer.proofs.write.Goals.{After-measure-length, After-nodes-size, Else-out-length, Else-refusal-ne0}
+use Rattle.list_writer.proofs.write.Goals.{After-measure-length, After-nodes-size, Else-out-length, In_ok-table_refusal}
 
-table : (c : Else-refusal-ne0) → IsTable c.args.n c.args.faults.now
-table c = table_taken _ _ (sym c.table_refusal-refusal.ensures ∙ c.if-refusal-ne0.false)
+table : (c : In_ok-table_refusal) → IsTable c.args.n c.args.faults.now
+table c = table_accepted _ _ _ _ (sym c.table_refusal.ensures ∙ c.in_ok-table_refusal.was)
 
 -- what is measured and put is the table's text
 text-is : (n size : ℕ) (faults : List ℕ) → size ≡ 2 ^ n → text_of (having size 0 (node_bit faults)) ≡ list_text n faults
@@ -30,22 +30,21 @@ length_is c = c.measure-length.ensures ∙ ap length (text-is _ _ _ c.nodes-size
 room : (c : Else-out-length) → length (list_text c.args.n c.args.faults.now) ≤ length c.args.out.now
 room c = omega (arith, c.measure-length.ensures, ap length (text-is _ _ c.args.faults.now c.nodes-size.ensures), c.if-out-length.false)
 
-pub returns-then-refusal-ne0 : goal.returns-then-refusal-ne0
-returns-then-refusal-ne0 c =
+pub returns-in_err-table_refusal : goal.returns-in_err-table_refusal
+returns-in_err-table_refusal c =
     let a = c.args in
     let w = list_text a.n a.faults.now in
-    let e = c.table_refusal-refusal.ensures in
-    let k = table_first a.n a.faults.now w (length a.out.now) (λ z. c.if-refusal-ne0.true (e ∙ z)) ∙ sym e in
+    let e = sym c.table_refusal.ensures ∙ c.in_err-table_refusal.was in
     record {
-      answer = wrote_refused a.n a.faults.now w (length a.out.now) k c.if-refusal-ne0.true;
-      buffer = buffer_kept a.n a.faults.now w a.out.now k c.if-refusal-ne0.true;
+      answer = passes _ c.from_residual.ensures ∙ wrote_passed a.n a.faults.now w (length a.out.now) e;
+      buffer = buffer_passed a.n a.faults.now w a.out.now e;
     }
 
 pub nodes-size-requires : goal.nodes-size-requires
-nodes-size-requires c = omega (arith, (table (goal.at.nodes-size-requires c).Else-refusal-ne0).dimension.1)
+nodes-size-requires c = omega (arith, (table (goal.at.nodes-size-requires c).In_ok-table_refusal).dimension.1)
 
 fit : (c : After-nodes-size) → (c.nodes-size.result ≤ 4096) × (c.nodes-size.result ≤ 8 * length c.args.faults.now)
-fit c = let t = table_taken _ _ (sym c.table_refusal-refusal.ensures ∙ c.if-refusal-ne0.false) in nodes_fit t.dimension.1 t.sized c.nodes-size.ensures
+fit c = let t = table_accepted _ _ _ _ (sym c.table_refusal.ensures ∙ c.in_ok-table_refusal.was) in nodes_fit t.dimension.1 t.sized c.nodes-size.ensures
 
 pub measure-length-requires : goal.measure-length-requires
 measure-length-requires c = fit (goal.at.measure-length-requires c).After-nodes-size
@@ -55,7 +54,7 @@ returns-then-out-length c =
     let p = goal.at.returns-then-out-length c in
     let a = c.args in
     let w = list_text a.n a.faults.now in
-    let t = table p.Else-refusal-ne0 in
+    let t = table p.In_ok-table_refusal in
     let k = no_room a.n a.faults.now w (length a.out.now) t (omega (arith, length_is p.After-measure-length, c.if-out-length.true)) in
     record {
       answer = wrote_refused a.n a.faults.now w (length a.out.now) k (λ z. omega arith);
@@ -75,9 +74,9 @@ returns c =
     let a = c.args in
     let w = list_text a.n a.faults.now in
     let p = goal.at.returns c in
-    let k = has_room a.n a.faults.now w (length a.out.now) (table p.Else-refusal-ne0) (room p.Else-out-length) in
+    let k = has_room a.n a.faults.now w (length a.out.now) (table p.In_ok-table_refusal) (room p.Else-out-length) in
     record {
-      answer = ap Length (length_is p.After-measure-length) ∙ wrote_length a.n a.faults.now w (length a.out.now) k;
+      answer = ap Ok (length_is p.After-measure-length) ∙ wrote_length a.n a.faults.now w (length a.out.now) k;
       buffer =
           c.put_list.ensures
           ∙ ap (λ (l : List ℕ). over l a.out.now) (text-is _ _ a.faults.now c.nodes-size.ensures)
