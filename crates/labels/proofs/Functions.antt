@@ -4,18 +4,20 @@ use mathlib.Core.List.{List}
 use mathlib.Core.Path.{refl}
 use Prim.Native.Nat.{ℕ}
 use lib.ListN.{length}
+use Rattle.std.specs.Prelude.{Result}
+use Rattle.cube.specs.declared.refusals.Refusal.{Refusal}
 use Rattle.cube.specs.Allowed.{AsksNothing, Function, Nothing}
+use Rattle.cube.specs.Refused.{answered}
 use Rattle.cube.proofs.Contracts.{Says}
 use Rattle.rule.specs.Cabinet.{cabinet}
 use Rattle.labels.specs.Labelling.{label_refusal, labelled, labels_after}
-use Rattle.labels.specs.declared.Labelled.{Labelled}
 use Rattle.labels.specs.contracts.label as label-claims
 use Rattle.labels.proofs.label.Reads as label-claims-reads
 use Rattle.labels.specs.contracts.label_refusal
 use Rattle.labels.proofs.label_refusal.Reads as label_refusal-reads
 
 -- handed the dimension, the rule's number, the job, the fault table, the table of draining nodes, that of the nodes that the job closes, and the label buffer
-abbrev pub label : Function label-claims.ended (ℕ × ℕ × ℕ × List ℕ × List ℕ × List ℕ × List ℕ) Labelled (List ℕ)
+abbrev pub label : Function label-claims.ended (ℕ × ℕ × ℕ × List ℕ × List ℕ × List ℕ × List ℕ) (Result ℕ Refusal) (List ℕ)
 label =
     record {
       clauses = λ w. label-claims.clauses w.𝓛 w.𝓜.mem w.𝓡.returns;
@@ -37,7 +39,7 @@ label_says = record { says = λ κs a r e p. (p.0, p.1) }
 
 -- ---- what is lent to the crate why
 
-abbrev pub label-refusal : Function label_refusal.ended (ℕ × ℕ × ℕ × List ℕ × List ℕ × List ℕ × ℕ) ℕ Nothing
+abbrev pub label-refusal : Function label_refusal.ended (ℕ × ℕ × ℕ × List ℕ × List ℕ × List ℕ × ℕ) (Result (Unit {0}) Refusal) Nothing
 label-refusal =
     record {
       clauses = λ w. label_refusal.clauses w.𝓛 w.𝓜.mem w.𝓡.returns;
@@ -52,5 +54,5 @@ label-refusal =
 pub label_refusal_asks : AsksNothing label-refusal
 label_refusal_asks = record { asked = λ κs a. tt; empty = λ w κs a. (tt, refl) }
 
-pub label_refusal_says : Says label-refusal (λ i. label_refusal (cabinet i.0 i.1 i.3 i.4 i.5) i.2 i.6) (λ i. tt)
+pub label_refusal_says : Says label-refusal (λ i. answered (label_refusal (cabinet i.0 i.1 i.3 i.4 i.5) i.2 i.6) tt) (λ i. tt)
 label_refusal_says = record { says = λ κs a r e p. (p, refl) }

@@ -1,18 +1,22 @@
 -- What labelling needs of a cabinet and a label buffer that are accepted: 0 is given only where every test passes. The answer and the label buffer afterwards
 -- go by the refusal number, and of the buffer the job's half alone is written.
 use mathlib.Core.Path.{◌≡◌, refl, sym, ap, ◌∙◌}
-use mathlib.Core.Logic.{◌⊎◌, inl, inr, ◌≢◌}
+use mathlib.Core.Logic.{◌≢◌}
 use mathlib.Core.Bool.{true, false}
 use mathlib.Core.List.{List}
 use Prim.Native.Nat.{ℕ, ◌*◌, ◌^◌, ◌≤◌, ◌<◌}
 use native.Mathlib.Omega.{arith}
 use lib.Dec.{eqb}
 use lib.ListN.{length}
-use borrow.Author.Tests.{eqb-true, eqb-false, eq-eqb, le-leb, ne_eqb, not-false}
+use borrow.Author.Tests.{eqb-true, eq-eqb, le-leb, ne_eqb, not-false}
+use Rattle.std.specs.Prelude.{Ok, Err}
+use Rattle.cube.specs.declared.refusals.Refusal.{Refusal}
 use Rattle.cube.specs.Refusal.{first}
+use Rattle.cube.specs.Refused.{answered, number}
 use Rattle.cube.specs.Tables.{is_dimension, table_len, unused_set}
-use Rattle.cube.proofs.Bools.{by_cases, either}
+use Rattle.cube.proofs.Bools.{by_cases}
 use Rattle.cube.proofs.Refusal.{first_le, first_none}
+use Rattle.cube.proofs.Refused.{accepted, accepts, number_range, passed_on, refuses, refusing}
 use Rattle.cube.proofs.Tables.{dimension_is}
 use Rattle.jobs.specs.Jobs.{Halved, half, label_bytes, with_half}
 use Rattle.jobs.proofs.Halves.{is-job, job_is}
@@ -20,7 +24,6 @@ use Rattle.jobs.proofs.Laws.{with_long, with_others, with_there}
 use Rattle.rule.specs.Cabinet.{Cabinet, exchanges_of, labels_of}
 use Rattle.rule.proofs.Cabinet.{is-rule, labels_length, rule_is}
 use Rattle.labels.specs.Labelling.{label_refusal, label_tests, labelled, labels_after}
-use Rattle.labels.specs.declared.Labelled.TheVariants.{Exchanges, Refused}
 
 pub record Fitting (K : Cabinet) (j m : ℕ) : Type 0 where
   pub dimension : is_dimension K.n ≡ true
@@ -78,37 +81,37 @@ module _ (K : Cabinet) (j m : ℕ) where
 -- ---- the answer and the buffer, from what the code has, and what an answer says
 
 module _ (K : Cabinet) (j : ℕ) (before : List ℕ) where
-  pub says_refused : (k : ℕ) → k ≡ label_refusal K j (length before) → (k ≡ 0 → ⊥)
-      → (Refused k ≡ labelled K j (length before)) × (before ≡ labels_after K j before)
-  unfolding labelled labels_after
-  says_refused k e h = let z = ne_eqb (label_refusal K j (length before)) 0 (λ q. h (e ∙ q)) in (rw z (ap Refused e), rw z)
+  -- refused, nothing is written
+  pub kept : (label_refusal K j (length before) ≡ 0 → ⊥) → before ≡ labels_after K j before
+  unfolding labels_after
+  kept d = rw (ne_eqb (label_refusal K j (length before)) 0 d)
+
+  pub says_refused : (r : Refusal) → answered {A = Unit {0}} (label_refusal K j (length before)) tt ≡ Err r
+      → (Err r ≡ labelled K j (length before)) × (before ≡ labels_after K j before)
+  unfolding labelled
+  says_refused r e = (
+    sym (passed_on (label_refusal K j (length before)) tt (exchanges_of K) r e),
+    kept (refusing (label_refusal K j (length before)) tt r e),
+  )
 
   -- the half is what was written, and the rest what stood there
-  pub says_exchanges : (table after : List ℕ) (k r : ℕ) → k ≡ label_refusal K j (length before) → k ≡ 0 → r ≡ exchanges_of K → table ≡ labels_of K
-      → after ≡ with_half j (2 ^ K.n) table before → (Exchanges r ≡ labelled K j (length before)) × (after ≡ labels_after K j before)
+  pub says_exchanges : (table after : List ℕ) (r : ℕ) → label_refusal K j (length before) ≡ 0 → r ≡ exchanges_of K → table ≡ labels_of K
+      → after ≡ with_half j (2 ^ K.n) table before → (Ok r ≡ labelled K j (length before)) × (after ≡ labels_after K j before)
   unfolding labelled labels_after
-  says_exchanges table after k r e h er et ea =
-      let z = eq-eqb (label_refusal K j (length before)) 0 (sym e ∙ h) in
-      (rw z (ap Exchanges er), rw z (ea ∙ ap (λ (t : List ℕ). with_half j (2 ^ K.n) t before) et))
+  says_exchanges table after r e er et ea = (
+    ap Ok er ∙ sym (accepts (label_refusal K j (length before)) (exchanges_of K) e),
+    rw (eq-eqb (label_refusal K j (length before)) 0 e) (ea ∙ ap (λ (t : List ℕ). with_half j (2 ^ K.n) t before) et),
+  )
 
 module _ (K : Cabinet) (j m : ℕ) where
-  pub of_refused : (k : ℕ) → labelled K j m ≡ Refused k → (k ≡ label_refusal K j m) × (k ≡ 0 → ⊥)
+  pub of_refused : (r : Refusal) → labelled K j m ≡ Err r → (number r ≡ label_refusal K j m) × (number r ≡ 0 → ⊥)
   unfolding labelled
-  of_refused k e = go (either (eqb (label_refusal K j m) 0)) e
-    where
-      go : (eqb (label_refusal K j m) 0 ≡ true) ⊎ (eqb (label_refusal K j m) 0 ≡ false) → labelled K j m ≡ Refused k
-          → (k ≡ label_refusal K j m) × (k ≡ 0 → ⊥)
-      go (inl a) h = let q : Exchanges (exchanges_of K) ≡ Refused k = rw a at h in let z : ◌≡◌ {A = ℕ} 0 1 = cc in absurd (omega arith)
-      go (inr a) h =
-          let q : Refused (label_refusal K j m) ≡ Refused k = rw a at h in
-          let p : label_refusal K j m ≡ k = cc in
-          (sym p, λ z. eqb-false (label_refusal K j m) 0 a (p ∙ z))
+  of_refused r e =
+      (sym (refuses (label_refusal K j m) (exchanges_of K) r (refusal_le K j m) e), λ z. omega (arith, (number_range r).0, z))
 
-  pub of_exchanges : (r : ℕ) → labelled K j m ≡ Exchanges r → (label_refusal K j m ≡ 0) × (exchanges_of K ≡ r)
+  pub of_exchanges : (r : ℕ) → labelled K j m ≡ Ok r → (label_refusal K j m ≡ 0) × (exchanges_of K ≡ r)
   unfolding labelled
-  of_exchanges r =
-      by_cases (λ a. a ≡ Exchanges r → (label_refusal K j m ≡ 0) × (exchanges_of K ≡ r)) (eqb (label_refusal K j m) 0)
-      (λ z e. (eqb-true (label_refusal K j m) 0 z, cc)) (λ _ e. let q : ◌≡◌ {A = ℕ} 0 1 = cc in absurd (omega arith))
+  of_exchanges r e = accepted (label_refusal K j m) (exchanges_of K) r e
 
 -- ---- what labelling leaves, by halves
 

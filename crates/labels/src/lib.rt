@@ -4,20 +4,16 @@
 #![tactic(auto)]
 
 ghost use Rattle.std.specs.Prelude.{◌≤◌, length, ◌≡◌};
+ghost use Rattle.cube.specs.Refused.{answered};
 ghost use Rattle.cube.specs.Tables.{table_len};
 ghost use Rattle.labels.specs.Labelling.{label_refusal, labelled, labels_after};
 ghost use Rattle.passes.specs.Passes.{Sized};
 ghost use Rattle.rule.specs.Cabinet.{cabinet, exchanges_of, is_rule, labels_of};
 
+use cube::refusals::Refusal;
 use cube::{is_dimension, nodes, table_len, unused_set};
 use jobs::{is_job, label_bytes};
 use passes::{finish, settle, start, sweep};
-
-#[derive(Drop)]
-pub enum Labelled {
-    Exchanges(usize),
-    Refused(u32),
-}
 
 // Whether k is the number of a rule: so many neighbours that do not work or are marked make a node unsafe. 2 is the rule of Lee and Hayes, 3 that of
 // Chiu and Wu.
@@ -27,7 +23,7 @@ fn is_rule(k: usize) -> bool
     (2 <= k) & (k <= 3)
 }
 
-// The refusals of labelling, 0 for none: of a cabinet, a job, and a label buffer of m bytes.
+// Whether labelling is refused, and why: of a cabinet, a job, and a label buffer of m bytes.
 pub fn label_refusal(
     n: usize,
     rule: usize,
@@ -36,40 +32,26 @@ pub fn label_refusal(
     draining: &[u8],
     closed: &[u8],
     m: usize,
-) -> u32
-    ensures { result ≡ label_refusal (cabinet n rule faults.now draining.now closed.now) job m }
+) -> Result<(), Refusal>
+    ensures { result ≡ answered (label_refusal (cabinet n rule faults.now draining.now closed.now) job m) tt }
 {
     if !is_dimension(n) {
-        return 1;
+        return Err(Refusal::Dimension);
     }
     if !is_rule(rule) {
-        return 18;
+        return Err(Refusal::Rule);
     }
     if !is_job(job) {
-        return 19;
+        return Err(Refusal::Job);
     }
-    if faults.len() != table_len(n) {
-        return 2;
+    let len = table_len(n);
+    if faults.len() != len || draining.len() != len || closed.len() != len || m != label_bytes(n) {
+        return Err(Refusal::Length);
     }
-    if draining.len() != table_len(n) {
-        return 2;
+    if unused_set(n, faults) || unused_set(n, draining) || unused_set(n, closed) {
+        return Err(Refusal::Unused);
     }
-    if closed.len() != table_len(n) {
-        return 2;
-    }
-    if m != label_bytes(n) {
-        return 2;
-    }
-    if unused_set(n, faults) {
-        return 3;
-    }
-    if unused_set(n, draining) {
-        return 3;
-    }
-    if unused_set(n, closed) {
-        return 3;
-    }
-    0
+    Ok(())
 }
 
 // Labels every node of an accepted cabinet in the half of its job, and answers the number of exchanges: each sweep is one, and the last is the first that
@@ -114,17 +96,14 @@ pub fn label(
     draining: &[u8],
     closed: &[u8],
     labels: &mut [u8],
-) -> Labelled
+) -> Result<usize, Refusal>
     ensures answer { result ≡ labelled (cabinet n rule faults.now draining.now closed.now) job (length labels.old) }
     ensures labels { labels.new ≡ labels_after (cabinet n rule faults.now draining.now closed.now) job labels.old }
 {
-    let refusal = label_refusal(n, rule, job, faults, draining, closed, labels.len());
-    if refusal != 0 {
-        return Labelled::Refused(refusal);
-    }
+    label_refusal(n, rule, job, faults, draining, closed, labels.len())?;
     let size = nodes(n);
     let from = job * size;
     let to = from + size;
     let exchanges = label_nodes(n, rule, faults, draining, closed, &mut labels[from..to]);
-    Labelled::Exchanges(exchanges)
+    Ok(exchanges)
 }

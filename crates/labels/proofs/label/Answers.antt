@@ -1,54 +1,61 @@
--- `label`: the refusal number decides between the two answers, and 0 gives all that `label_nodes` requires of the tables and of the job's half.
-use mathlib.Core.Path.{sym, ap, ◌∙◌}
+-- `label`: the refusals decide between the two answers, and none gives all that `label_nodes` requires of the tables and of the job's half.
+use mathlib.Core.Path.{◌≡◌, sym, ap, ◌∙◌}
 use native.Mathlib.Omega.{arith}
 use lib.ListN.{length}
+use Rattle.std.proofs.lemmas.Result.{err_from_is_err_and}
+use Rattle.cube.proofs.Refused.{accepted}
 use Rattle.jobs.proofs.Halves.{ends_short, ends_within, part_is_half, part_with_half}
 use Rattle.jobs.proofs.Laws.{halved_long}
 use Rattle.rule.specs.Cabinet.{cabinet}
+use Rattle.labels.specs.Labelling.{label_refusal}
 use Rattle.labels.proofs.Refusal.{Fitting, fitting, says_refused, says_exchanges}
 use Rattle.labels.proofs.label.Goals as goal
-use Rattle.labels.proofs.label.Goals.{Else-refusal-ne0}
+use Rattle.labels.proofs.label.Goals.{In_ok-label_refusal}
 
--- past the test everything fits
-fit : (c : Else-refusal-ne0) → let a = c.args in
+-- past the test nothing is refused, and everything fits
+none : (c : In_ok-label_refusal) → let a = c.args in
+    label_refusal (cabinet a.n a.rule a.faults.now a.draining.now a.closed.now) a.job (length a.labels.now) ≡ 0
+none c = (accepted _ _ _ (sym c.label_refusal.ensures ∙ c.in_ok-label_refusal.was)).0
+
+fit : (c : In_ok-label_refusal) → let a = c.args in
     Fitting (cabinet a.n a.rule a.faults.now a.draining.now a.closed.now) a.job (length a.labels.now)
-fit c = fitting (cabinet _ _ _ _ _) _ _ (sym c.label_refusal-refusal.ensures ∙ c.if-refusal-ne0.false)
+fit c = fitting (cabinet _ _ _ _ _) _ _ (none c)
 
-pub returns-then-refusal-ne0-clause-answer : goal.returns-then-refusal-ne0-clause-answer
-returns-then-refusal-ne0-clause-answer c =
-    (says_refused (cabinet _ _ _ _ _) _ c.args.labels.now _ c.label_refusal-refusal.ensures c.if-refusal-ne0.true).0
+pub returns-in_err-label_refusal-clause-answer : goal.returns-in_err-label_refusal-clause-answer
+returns-in_err-label_refusal-clause-answer c =
+    let p = err_from_is_err_and c.from_residual.result c.from_residual.ensures.1 in
+    rw (p.1, p.2) (says_refused (cabinet _ _ _ _ _) _ c.args.labels.now _ (sym c.label_refusal.ensures ∙ c.in_err-label_refusal.was)).0
 
-pub returns-then-refusal-ne0-clause-labels : goal.returns-then-refusal-ne0-clause-labels
-returns-then-refusal-ne0-clause-labels c =
-    (says_refused (cabinet _ _ _ _ _) _ _ _ c.label_refusal-refusal.ensures c.if-refusal-ne0.true).1
+pub returns-in_err-label_refusal-clause-labels : goal.returns-in_err-label_refusal-clause-labels
+returns-in_err-label_refusal-clause-labels c = (says_refused (cabinet _ _ _ _ _) _ _ _ (sym c.label_refusal.ensures ∙ c.in_err-label_refusal.was)).1
 
 pub nodes-size-requires : goal.nodes-size-requires
-nodes-size-requires c = omega (arith, (fit (goal.at.nodes-size-requires c).Else-refusal-ne0).halved.small)
+nodes-size-requires c = omega (arith, (fit (goal.at.nodes-size-requires c).In_ok-label_refusal).halved.small)
 
 pub overflow_mul-from : goal.overflow_mul-from
-overflow_mul-from c = omega (arith, ends_short _ _ _ _ (fit (goal.at.overflow_mul-from c).Else-refusal-ne0).halved c.nodes-size.ensures)
+overflow_mul-from c = omega (arith, ends_short _ _ _ _ (fit (goal.at.overflow_mul-from c).In_ok-label_refusal).halved c.nodes-size.ensures)
 
 pub overflow_add-to : goal.overflow_add-to
-overflow_add-to c = omega (arith, ends_short _ _ _ _ (fit (goal.at.overflow_add-to c).Else-refusal-ne0).halved c.nodes-size.ensures)
+overflow_add-to c = omega (arith, ends_short _ _ _ _ (fit (goal.at.overflow_add-to c).In_ok-label_refusal).halved c.nodes-size.ensures)
 
 pub slice_bounds-label_nodes-end : goal.slice_bounds-label_nodes-end
-slice_bounds-label_nodes-end c = ends_within _ _ _ _ (fit (goal.at.slice_bounds-label_nodes-end c).Else-refusal-ne0).halved c.nodes-size.ensures
+slice_bounds-label_nodes-end c = ends_within _ _ _ _ (fit (goal.at.slice_bounds-label_nodes-end c).In_ok-label_refusal).halved c.nodes-size.ensures
 
 pub label_nodes-exchanges-requires-clause-le_rule : goal.label_nodes-exchanges-requires-clause-le_rule
-label_nodes-exchanges-requires-clause-le_rule c = (fit (goal.at.label_nodes-exchanges-requires-clause-le_rule c).Else-refusal-ne0).rule
+label_nodes-exchanges-requires-clause-le_rule c = (fit (goal.at.label_nodes-exchanges-requires-clause-le_rule c).In_ok-label_refusal).rule
 
 pub label_nodes-exchanges-requires-clause-faults_len : goal.label_nodes-exchanges-requires-clause-faults_len
-label_nodes-exchanges-requires-clause-faults_len c = (fit (goal.at.label_nodes-exchanges-requires-clause-faults_len c).Else-refusal-ne0).faults
+label_nodes-exchanges-requires-clause-faults_len c = (fit (goal.at.label_nodes-exchanges-requires-clause-faults_len c).In_ok-label_refusal).faults
 
 pub label_nodes-exchanges-requires-clause-draining_len : goal.label_nodes-exchanges-requires-clause-draining_len
-label_nodes-exchanges-requires-clause-draining_len c = (fit (goal.at.label_nodes-exchanges-requires-clause-draining_len c).Else-refusal-ne0).draining
+label_nodes-exchanges-requires-clause-draining_len c = (fit (goal.at.label_nodes-exchanges-requires-clause-draining_len c).In_ok-label_refusal).draining
 
 pub label_nodes-exchanges-requires-clause-closed_len : goal.label_nodes-exchanges-requires-clause-closed_len
-label_nodes-exchanges-requires-clause-closed_len c = (fit (goal.at.label_nodes-exchanges-requires-clause-closed_len c).Else-refusal-ne0).closed
+label_nodes-exchanges-requires-clause-closed_len c = (fit (goal.at.label_nodes-exchanges-requires-clause-closed_len c).In_ok-label_refusal).closed
 
 pub label_nodes-exchanges-requires-clause-sized : goal.label_nodes-exchanges-requires-clause-sized
 label_nodes-exchanges-requires-clause-sized c =
-    let f = fit (goal.at.label_nodes-exchanges-requires-clause-sized c).Else-refusal-ne0 in
+    let f = fit (goal.at.label_nodes-exchanges-requires-clause-sized c).In_ok-label_refusal in
     record {
       small = f.halved.small;
       sized = ap length (part_is_half _ _ _ c.nodes-size.ensures _) ∙ halved_long _ _ _ f.halved;
@@ -57,6 +64,6 @@ label_nodes-exchanges-requires-clause-sized c =
 pub returns : goal.returns
 returns c =
     let r =
-    says_exchanges (cabinet _ _ _ _ _) _ _ _ _ _ _ c.label_refusal-refusal.ensures c.if-refusal-ne0.false
+    says_exchanges (cabinet _ _ _ _ _) _ _ _ _ _ (none (goal.at.returns c).In_ok-label_refusal)
     c.label_nodes-exchanges.ensures.exchanges c.label_nodes-exchanges.ensures.labels (part_with_half _ _ _ c.nodes-size.ensures _ _) in
     record { answer = r.0; labels = r.1 }
