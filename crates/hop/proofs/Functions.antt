@@ -6,10 +6,12 @@ use mathlib.Core.Path.{refl}
 use Prim.Native.Nat.{ℕ}
 use lib.Dec.{ltb}
 use lib.ListN.{get_or, length}
+use Rattle.std.specs.Prelude.{Result}
 use Rattle.cube.specs.Allowed.{AsksNothing, Function, Nothing}
 use Rattle.cube.proofs.Contracts.{Says}
 use Rattle.cube.specs.Count.{least, some}
 use Rattle.cube.specs.Cube.{flip}
+use Rattle.cube.specs.Refused.{answered}
 use Rattle.cube.specs.Tables.{highest, label_in}
 use Rattle.jobs.specs.Jobs.{label_for}
 use Rattle.scans.specs.Scans as scans
@@ -17,7 +19,7 @@ use Rattle.hop.specs.Helpers as helpers
 use Rattle.hop.specs.Helpers.{gathered, in_set, near_refusal, place_refusal}
 use Rattle.hop.specs.Hop as spec
 use Rattle.hop.specs.declared.Decision.{Decision}
-use Rattle.hop.specs.declared.Hopped.{Hopped}
+use Rattle.cube.specs.declared.refusals.Refusal.{Refusal}
 use Rattle.hop.specs.contracts.hop as hop-claims
 use Rattle.hop.proofs.hop.Reads as hop-claims-reads
 use Rattle.hop.specs.contracts.place_refusal
@@ -35,7 +37,7 @@ use Rattle.hop.proofs.lowest.Reads as lowest-claims-reads
 use Rattle.hop.specs.contracts.near_refusal
 use Rattle.hop.proofs.near_refusal.Reads as near_refusal-reads
 
-abbrev pub hop : Function hop-claims.ended (ℕ × ℕ × ℕ × ℕ × List ℕ) Hopped Nothing
+abbrev pub hop : Function hop-claims.ended (ℕ × ℕ × ℕ × ℕ × List ℕ) (Result Decision Refusal) Nothing
 hop =
     record {
       clauses = λ w. hop-claims.clauses w.𝓛 w.𝓜.mem w.𝓡.returns;
@@ -52,7 +54,7 @@ hop_asks = record { asked = λ κs a. tt; empty = λ w κs a. (tt, refl) }
 pub hop_says : Says hop (λ i. spec.hopped i.0 i.1 i.2 i.3 (length i.4) (label_for i.0 i.1 i.4)) (λ i. tt)
 hop_says = record { says = λ κs a r e p. (p, refl) }
 
-abbrev pub place-refusal : Function place_refusal.ended (ℕ × ℕ × ℕ × ℕ × ℕ × Bool) ℕ Nothing
+abbrev pub place-refusal : Function place_refusal.ended (ℕ × ℕ × ℕ × ℕ × ℕ × Bool) (Result Unit Refusal) Nothing
 place-refusal =
     record {
       clauses = λ w. place_refusal.clauses w.𝓛 w.𝓜.mem w.𝓡.returns;
@@ -66,10 +68,10 @@ place-refusal =
 pub place_refusal_asks : AsksNothing place-refusal
 place_refusal_asks = record { asked = λ κs a. tt; empty = λ w κs a. (tt, refl) }
 
-pub place_refusal_says : Says place-refusal (λ i. place_refusal i.0 i.1 i.2 i.3 i.4 i.5) (λ i. tt)
+pub place_refusal_says : Says place-refusal (λ i. answered (place_refusal i.0 i.1 i.2 i.3 i.4 i.5) tt) (λ i. tt)
 place_refusal_says = record { says = λ κs a r e p. (p, refl) }
 
-abbrev pub near-refusal : Function near_refusal.ended (ℕ × ℕ × ℕ × Bool) ℕ Nothing
+abbrev pub near-refusal : Function near_refusal.ended (ℕ × ℕ × ℕ × Bool) (Result Unit Refusal) Nothing
 near-refusal =
     record {
       clauses = λ w. near_refusal.clauses w.𝓛 w.𝓜.mem w.𝓡.returns;
@@ -83,7 +85,7 @@ near-refusal =
 pub near_refusal_asks : AsksNothing near-refusal
 near_refusal_asks = record { asked = λ κs a. tt; empty = λ w κs a. (tt, refl) }
 
-pub near_refusal_says : Says near-refusal (λ i. near_refusal i.0 i.1 i.2 i.3) (λ i. tt)
+pub near_refusal_says : Says near-refusal (λ i. answered (near_refusal i.0 i.1 i.2 i.3) tt) (λ i. tt)
 near_refusal_says = record { says = λ κs a r e p. (p, refl) }
 
 abbrev pub hop-at : Function hop_at.ended (ℕ × ℕ × ℕ × List ℕ) Decision Nothing

@@ -1,25 +1,32 @@
 -- The refusals of a hop, from those that the code finds one after the other: first what needs no label, then what the labels give. The question's table
 -- is these parts in a row, so the first part that refuses gives the number of the whole.
-use mathlib.Core.Path.{◌≡◌, refl, sym, ◌∙◌}
+use mathlib.Core.Path.{◌≡◌, refl, ◌∙◌}
 use mathlib.Core.Bool.{Bool, false}
 use mathlib.Core.List.{List, [], ◌++◌}
 use Prim.Native.Nat.{ℕ, ◌^◌}
-use native.Mathlib.Omega.{arith}
-use lib.Dec.{eqb, leb}
+use lib.Dec.{eqb, leb, ltb}
 use lib.ListN.{length}
-use borrow.Author.Tests.{ne_eqb, eqb-true, leb-false, ltb-true, not-false}
+use borrow.Author.Tests.{eqb-true, leb-false, ltb-true, not-false}
+use Rattle.std.specs.Prelude.{Ok, Err}
+use Rattle.cube.specs.declared.refusals.Refusal.{Refusal}
+use Rattle.cube.specs.Count.{some}
 use Rattle.cube.specs.Cube.{flip}
 use Rattle.cube.specs.Refusal.{Test, first}
-use Rattle.cube.specs.Tables.{is_dimension}
-use Rattle.cube.proofs.Bools.{by_cases, or_false}
+use Rattle.cube.specs.Refused.{answered}
+use Rattle.cube.specs.Tables.{highest, is_dimension}
+use Rattle.cube.proofs.Bools.{or_false}
 use Rattle.cube.proofs.Refusal.{None, first_none, first_passes, first_stops}
+use Rattle.cube.proofs.Refused.{accepted, passed_on, refusing}
 use Rattle.cube.proofs.Tables.{dimension_is}
 use Rattle.jobs.specs.Jobs.{Halved, half, is_job, label_bytes}
 use Rattle.jobs.proofs.Laws.{half_long}
-use Rattle.hop.specs.Helpers.{Asked, Placed, place_refusal, place_tests}
+use Rattle.hop.specs.Helpers.{Asked, Placed, near_refusal, place_refusal, place_tests}
 use Rattle.hop.specs.Hop.{hop, hop_refusal, hopped, near_tests}
 use Rattle.hop.specs.declared.Decision.{Decision}
-use Rattle.hop.specs.declared.Hopped.TheVariants.{Decided, Refused}
+
+-- a table that refuses gives the refusal, whatever comes after it
+pub refuses_first : {A B : Type 0} (ts us : List Test) (x : A) (y : B) (r : Refusal) → answered (first ts) x ≡ Err r → answered (first (ts ++ us)) y ≡ Err r
+refuses_first ts us x y r e = rw (first_stops ts us (refusing (first ts) x r e)) (passed_on (first ts) x y r e)
 
 -- ---- what needs no label, and what comes after it
 
@@ -42,9 +49,10 @@ module _ (n j a b m : ℕ) (other : Bool) (more : List Test) where
         second = leb-false (2 ^ n) b r.1;
       }
 
-  pub misplaced : (k : ℕ) → k ≡ place_refusal n j a b m other → (k ≡ 0 → ⊥) → first (place_tests n j a b m other ++ more) ≡ k
+  pub misplaced : {A B : Type 0} (x : A) (y : B) (r : Refusal) → answered (place_refusal n j a b m other) x ≡ Err r
+      → answered (first (place_tests n j a b m other ++ more)) y ≡ Err r
   unfolding place_refusal
-  misplaced k e h = first_stops (place_tests n j a b m other) more (λ z. h (e ∙ z)) ∙ sym e
+  misplaced x y r e = refuses_first (place_tests n j a b m other) more x y r e
 
   pub well_placed : place_refusal n j a b m other ≡ 0 → first (place_tests n j a b m other ++ more) ≡ first more
   unfolding place_refusal
@@ -66,30 +74,38 @@ module _ (n j c d m : ℕ) (lab : ℕ → ℕ) where
   abbrev near : List Test
   near = near_tests n c d (lab c) (λ i. lab (flip i c))
 
-  pub hop_misplaced : (k : ℕ) → k ≡ place_refusal n j c d m false → (k ≡ 0 → ⊥) → hop_refusal n j c d m lab ≡ k
+  pub hop_misplaced : {A B : Type 0} (x : A) (y : B) (r : Refusal) → answered (place_refusal n j c d m false) x ≡ Err r
+      → answered (hop_refusal n j c d m lab) y ≡ Err r
   unfolding hop_refusal first
-  hop_misplaced k e h = misplaced n j c d m false near k e h
+  hop_misplaced x y r e = misplaced n j c d m false near x y r e
 
   pub hop_placed : place_refusal n j c d m false ≡ 0 → hop_refusal n j c d m lab ≡ first near
   unfolding hop_refusal first
   hop_placed e = well_placed n j c d m false near e
+
+  -- what the labels refuse, or do not
+  module _ (high : Bool) (h : high ≡ some n (λ i. ltb highest (lab (flip i c)))) (e : place_refusal n j c d m false ≡ 0) where
+    by_labels : hop_refusal n j c d m lab ≡ near_refusal c d (lab c) high
+    unfolding near_refusal
+    by_labels = hop_placed e ∙ rw h
+
+    pub hop_refuses : {A B : Type 0} (x : A) (y : B) (r : Refusal) → answered (near_refusal c d (lab c) high) x ≡ Err r
+        → answered (hop_refusal n j c d m lab) y ≡ Err r
+    hop_refuses x y r f = rw by_labels (passed_on (near_refusal c d (lab c) high) x y r f)
+
+    pub hop_passes : {A : Type 0} (x y : A) → answered (near_refusal c d (lab c) high) x ≡ Ok y → hop_refusal n j c d m lab ≡ 0
+    hop_passes x y f = by_labels ∙ (accepted (near_refusal c d (lab c) high) x y f).0
 
   -- where nothing is refused, the place is good
   pub hop_good : hop_refusal n j c d m lab ≡ 0 → Asked n j c d m
   unfolding hop_refusal first
   hop_good e = good_place n j c d m false near (first_none 19 (place_tests n j c d m false ++ near) refl e)
 
-  pub hop_refuses : (k : ℕ) → (k ≡ 0 → ⊥) → hop_refusal n j c d m lab ≡ k → Refused k ≡ hopped n j c d m lab
-  unfolding hopped
-  hop_refuses k h e = rw (e, ne_eqb k 0 h)
-
-  pub hop_decides : (x : Decision) → hop_refusal n j c d m lab ≡ 0 → x ≡ hop n lab c d → Decided x ≡ hopped n j c d m lab
+  pub hop_decides : (x : Decision) → hop_refusal n j c d m lab ≡ 0 → x ≡ hop n lab c d → Ok x ≡ hopped n j c d m lab
   unfolding hopped
   hop_decides x e ex = rw (e, ex)
 
   -- and what a decision says
-  pub of_decided : (x : Decision) → hopped n j c d m lab ≡ Decided x → (hop_refusal n j c d m lab ≡ 0) × (hop n lab c d ≡ x)
+  pub of_decided : (x : Decision) → hopped n j c d m lab ≡ Ok x → (hop_refusal n j c d m lab ≡ 0) × (hop n lab c d ≡ x)
   unfolding hopped
-  of_decided x =
-      by_cases (λ a. a ≡ Decided x → (hop_refusal n j c d m lab ≡ 0) × (hop n lab c d ≡ x)) (eqb (hop_refusal n j c d m lab) 0)
-      (λ z e. (eqb-true (hop_refusal n j c d m lab) 0 z, cc)) (λ _ e. let q : ◌≡◌ {A = ℕ} 0 1 = cc in absurd (omega arith))
+  of_decided x e = accepted _ _ _ e

@@ -2,17 +2,17 @@
 -- The decision is a function of n, c, d, c's own label and the labels of its n neighbours, and of nothing else: `hop` takes these from the labels
 -- of all nodes. The question `hopped` is asked for a job of any label buffer: m is the buffer's length, j the job, and lab x the byte of node x in the
 -- job's half.
-use Rattle.std.specs.Prelude.{Bool, cond, not, ◌&&◌, ◌||◌, List, [], ◌∷◌, ◌++◌, ℕ, ◌^◌, eqb, leb, ltb}
+use Rattle.std.specs.Prelude.{Bool, cond, not, ◌&&◌, ◌||◌, List, [], ◌∷◌, ◌++◌, ℕ, ◌^◌, eqb, leb, ltb, Result, Ok, Err}
 use Rattle.cube.specs.Count.{some}
 use Rattle.cube.specs.Cube.{dist, flip}
 use Rattle.cube.specs.Refusal.{Test, first, ◌⇒◌}
+use Rattle.cube.specs.Refused.{answered, refused}
 use Rattle.cube.specs.Tables.{highest, is_dimension}
 use Rattle.jobs.specs.Jobs.{is_job, label_bytes}
+use Rattle.cube.specs.declared.refusals.Refusal.{Refusal}
 use Rattle.scans.specs.Scans.{first_scan, lowest, no_scan}
 use Rattle.hop.specs.declared.Decision.{Decision}
 use Rattle.hop.specs.declared.Decision.TheVariants.{Deliver, Hop, Halted}
-use Rattle.hop.specs.declared.Hopped.{Hopped}
-use Rattle.hop.specs.declared.Hopped.TheVariants.{Decided, Refused}
 
 -- ---- the decision at c for the destination d. own is c's label, and near i the label of the neighbour across dimension i.
 
@@ -61,8 +61,8 @@ unfoldable pub hop_refusal : (n j c d m : ℕ) (lab : ℕ → ℕ) → ℕ
 hop_refusal n j c d m lab = first (hop_tests n j c d m lab)
 
 -- the answer: the decision, or the refusal
-unfoldable pub hopped : (n j c d m : ℕ) (lab : ℕ → ℕ) → Hopped
-hopped n j c d m lab = cond (eqb (hop_refusal n j c d m lab) 0) (Decided (hop n lab c d)) (Refused (hop_refusal n j c d m lab))
+unfoldable pub hopped : (n j c d m : ℕ) (lab : ℕ → ℕ) → Result Decision Refusal
+hopped n j c d m lab = answered (hop_refusal n j c d m lab) (hop n lab c d)
 
 -- the numbers for the cases (RULES, To C)
 abbrev pub decision_kind : Decision → ℕ
@@ -75,14 +75,13 @@ decision_value Deliver = 0
 decision_value (Hop i) = i
 decision_value Halted = 0
 
-abbrev pub refusal_of : Hopped → ℕ
-refusal_of (Decided x) = 0
-refusal_of (Refused k) = k
+abbrev pub refusal_of : Result Decision Refusal → ℕ
+refusal_of a = refused a
 
-abbrev pub kind_of : Hopped → ℕ
-kind_of (Decided x) = decision_kind x
-kind_of (Refused k) = 0
+abbrev pub kind_of : Result Decision Refusal → ℕ
+kind_of (Ok x) = decision_kind x
+kind_of (Err r) = 0
 
-abbrev pub value_of : Hopped → ℕ
-value_of (Decided x) = decision_value x
-value_of (Refused k) = 0
+abbrev pub value_of : Result Decision Refusal → ℕ
+value_of (Ok x) = decision_value x
+value_of (Err r) = 0

@@ -6,12 +6,14 @@
 ghost use Rattle.std.specs.Prelude.{◌+◌, ◌*◌, ◌<◌, ◌≤◌, ◌^◌, ltb, get_or, length, replicate, ◌≢◌, ◌≡◌};
 ghost use Rattle.cube.specs.Count.{least, some};
 ghost use Rattle.cube.specs.Cube.{flip};
+ghost use Rattle.cube.specs.Refused.{answered};
 ghost use Rattle.cube.specs.Tables.{highest, label_in};
 ghost use Rattle.hop.specs.Helpers.{Placed, across, chosen, gathered, in_set, near_refusal, place_refusal};
 ghost use Rattle.hop.specs.Hop as spec;
 ghost use Rattle.jobs.specs.Jobs.{label_for};
 ghost use Rattle.scans.specs.Scans as scans;
 
+use cube::refusals::Refusal;
 use cube::{HIGHEST, distance, is_dimension, nodes};
 use jobs::{half, is_job, label_bytes};
 
@@ -29,33 +31,34 @@ pub enum Decision {
     Halted,
 }
 
-#[derive(Clone, Copy)]
-pub enum Hopped {
-    Decided(Decision),
-    Refused(u32),
-}
-
-// The refusals that need no label, 0 for none: of a job, two nodes, a label buffer of len bytes, and whether another lent buffer has a wrong length.
-pub fn place_refusal(n: usize, job: usize, a: usize, b: usize, len: usize, other: bool) -> u32
-    ensures { result ≡ place_refusal n job a b len other }
+// The refusals that need no label: of a job, two nodes, a label buffer of len bytes, and whether another lent buffer has a wrong length.
+pub fn place_refusal(
+    n: usize,
+    job: usize,
+    a: usize,
+    b: usize,
+    len: usize,
+    other: bool,
+) -> Result<(), Refusal>
+    ensures { result ≡ answered (place_refusal n job a b len other) tt }
 {
     if !is_dimension(n) {
-        return 1;
+        return Err(Refusal::Dimension);
     }
     if !is_job(job) {
-        return 19;
+        return Err(Refusal::Job);
     }
     if len != label_bytes(n) {
-        return 2;
+        return Err(Refusal::Length);
     }
     if other {
-        return 2;
+        return Err(Refusal::Length);
     }
     let size = nodes(n);
     if (size <= a) | (size <= b) {
-        return 5;
+        return Err(Refusal::Node);
     }
-    0
+    Ok(())
 }
 
 // Whether one of the first n labels is above the highest.
@@ -193,42 +196,36 @@ fn across(picked: usize) -> Decision
     Decision::Halted
 }
 
-// The refusals that the labels give of c and its neighbours, 0 for none: own is c's label, and high says that a neighbour's is above the highest.
-pub fn near_refusal(c: usize, d: usize, own: u8, high: bool) -> u32
-    ensures { result ≡ near_refusal c d own high }
+// The refusals that the labels give of c and its neighbours: own is c's label, and high says that a neighbour's is above the highest.
+pub fn near_refusal(c: usize, d: usize, own: u8, high: bool) -> Result<(), Refusal>
+    ensures { result ≡ answered (near_refusal c d own high) tt }
 {
     if (HIGHEST < own) | high {
-        return 4;
+        return Err(Refusal::Label);
     }
     if own == 3 {
-        return 6;
+        return Err(Refusal::Source);
     }
     if (own == DRAINING) & (c != d) {
-        return 6;
+        return Err(Refusal::Source);
     }
-    0
+    Ok(())
 }
 
 // The decision at c on the way to d, for a job. Of the job's half it reads c's label and each neighbour's once, and no other byte.
-pub fn hop(n: usize, job: usize, c: usize, d: usize, labels: &[u8]) -> Hopped
+pub fn hop(n: usize, job: usize, c: usize, d: usize, labels: &[u8]) -> Result<Decision, Refusal>
     ensures { result ≡ spec.hopped n job c d (length labels.now) (label_for n job labels.now) }
 {
-    let k = place_refusal(n, job, c, d, labels.len(), false);
-    if k != 0 {
-        return Hopped::Refused(k);
-    }
+    place_refusal(n, job, c, d, labels.len(), false)?;
     let table = half(n, job, labels);
     let own = table[c];
     let mut near = [0u8; 12];
     let high = gather(n, table, c, &mut near);
-    let by_labels = near_refusal(c, d, own, high);
-    if by_labels != 0 {
-        return Hopped::Refused(by_labels);
-    }
+    near_refusal(c, d, own, high)?;
     if c != d {
-        return Hopped::Decided(across(chosen(n, c, d, own, &near)));
+        return Ok(across(chosen(n, c, d, own, &near)));
     }
-    Hopped::Decided(Decision::Deliver)
+    Ok(Decision::Deliver)
 }
 
 // The decision at c by a label table that was tested: what a walk asks at each node. At the destination it reads nothing.
