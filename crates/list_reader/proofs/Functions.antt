@@ -3,13 +3,16 @@
 use mathlib.Core.List.{List}
 use mathlib.Core.Path.{refl}
 use Prim.Native.Nat.{ℕ}
+use Rattle.std.specs.Prelude.{Result}
+use Rattle.cube.specs.declared.refusals.Refusal.{Refusal}
 use Rattle.cube.specs.Allowed.{AsksNothing, Function}
+use Rattle.cube.specs.Refused.{answered}
 use Rattle.cube.proofs.Contracts.{Says}
 use Rattle.list_reader.specs.Reading.{list_refusal, list_table}
 use Rattle.list_reader.specs.contracts.read as read-claims
 use Rattle.list_reader.proofs.read.Reads as read-claims-reads
 
-abbrev pub read : Function read-claims.ended (ℕ × List ℕ × List ℕ) ℕ (List ℕ)
+abbrev pub read : Function read-claims.ended (ℕ × List ℕ × List ℕ) (Result Unit Refusal) (List ℕ)
 read =
     record {
       clauses = λ w. read-claims.clauses w.𝓛 w.𝓜.mem w.𝓡.returns;
@@ -23,5 +26,5 @@ read =
 pub read_asks : AsksNothing read
 read_asks = record { asked = λ κs a. tt; empty = λ w κs a. (tt, refl) }
 
-pub read_says : Says read (λ i. list_refusal i.0 i.1 i.2) (λ i. list_table i.0 i.1 i.2)
+pub read_says : Says read (λ i. answered (list_refusal i.0 i.1 i.2) tt) (λ i. list_table i.0 i.1 i.2)
 read_says = record { says = λ κs a r e p. (p.0, p.1) }

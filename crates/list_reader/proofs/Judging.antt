@@ -1,12 +1,16 @@
 -- The pass that judges: at each place it knows of the text what it has seen so far and what is left. So at the end it knows all of it.
 use mathlib.Core.Bool.{Bool, true, false, cond, ◌||◌}
 use mathlib.Core.List.{List}
-use mathlib.Core.Path.{◌≡◌, refl, sym, ap, ◌∙◌}
+use mathlib.Core.Path.{◌≡◌, refl, ap, ◌∙◌}
 use Prim.Native.Nat.{ℕ, ◌+◌, ◌≤◌, ◌<◌}
 use native.Mathlib.Omega.{arith}
 use lib.Dec.{leb}
 use lib.ListN.{length, drop}
+use Rattle.std.specs.Prelude.{Result, Ok, Err}
+use Rattle.cube.specs.declared.refusals.Refusal.{Refusal}
+use Rattle.cube.specs.declared.refusals.Refusal.TheVariants.{Address, Text}
 use Rattle.cube.specs.Refusal.{first}
+use Rattle.cube.specs.Refused.{answered}
 use Rattle.cube.proofs.Bools.{or_none}
 use Rattle.list_reader.specs.Front.{entry_at}
 use Rattle.list_reader.specs.Reading.{text_tests}
@@ -23,7 +27,10 @@ pub judge_start : (text : List ℕ) (size : ℕ) → Judging text size false 0
 judge_start text size = record { upto = omega arith; rules = refl; beyond = refl }
 
 -- the refusals of a text, from what is known of it
-tests_bad : (size : ℕ) (text : List ℕ) → is_list text ≡ false → 14 ≡ first (text_tests size text)
+abbrev Answers : (x : Result Unit Refusal) (size : ℕ) (text : List ℕ) → Type 0
+Answers x size text = x ≡ answered (first (text_tests size text)) tt
+
+tests_bad : (size : ℕ) (text : List ℕ) → is_list text ≡ false → Answers (Err Text) size text
 unfolding first
 tests_bad size text e = rw e
 
@@ -37,7 +44,7 @@ or_assoc false b c = refl
 
 module _ {text : List ℕ} {size : ℕ} {far : Bool} {at : ℕ} (P : Judging text size far at) where
   module _ (h : at < length text) where
-    pub judge_bad : Bad ≡ entry_at (drop at text) → 14 ≡ first (text_tests size text)
+    pub judge_bad : Bad ≡ entry_at (drop at text) → Answers (Err Text) size text
     judge_bad e = tests_bad size text (P.rules ∙ bad_at text at h e)
 
     pub judge_on : size ≤ 4096 → {lo hi next : ℕ} → Range lo hi next ≡ entry_at (drop at text) → Judging text size (far || leb size hi) (at + next)
@@ -57,8 +64,8 @@ module _ {text : List ℕ} {size : ℕ} {far : Bool} {at : ℕ} (P : Judging tex
     judge_far : reaches size text ≡ far
     judge_far = P.beyond ∙ or_none far (ap (reaches size) (nothing_left text at h) ∙ none_beyond size)
 
-    pub judge_beyond : far ≡ true → 12 ≡ first (text_tests size text)
-    judge_beyond e = sym (tests_good size text judge_good ∙ rw (judge_far ∙ e))
+    pub judge_beyond : far ≡ true → Answers (Err Address) size text
+    judge_beyond e = rw (tests_good size text judge_good, judge_far ∙ e)
 
-    pub judge_within : far ≡ false → 0 ≡ first (text_tests size text)
-    judge_within e = sym (tests_good size text judge_good ∙ rw (judge_far ∙ e))
+    pub judge_within : far ≡ false → Answers (Ok tt) size text
+    judge_within e = rw (tests_good size text judge_good, judge_far ∙ e)

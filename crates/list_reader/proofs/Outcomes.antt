@@ -5,18 +5,28 @@ use mathlib.Core.List.{List, ◌∷◌}
 use mathlib.Core.Logic.{◌≢◌}
 use mathlib.Core.Path.{◌≡◌, refl, sym, ap, ◌∙◌}
 use Prim.Native.Nat.{ℕ, ◌^◌, ◌≤◌}
-use native.Mathlib.Omega.{arith}
 use lib.Dec.{eqb}
 use lib.ListN.{length, replicate}
 use borrow.Author.Tests.{eq-eqb, eqb-true, le-leb, ne_eqb, not-false}
+use Rattle.std.specs.Prelude.{Result, Ok, Err}
+use Rattle.std.specs.Result.{IsErr, IsErrAnd}
+use Rattle.std.proofs.lemmas.Result.{err_from_is_err_and}
+use Rattle.cube.specs.declared.refusals.Refusal.{Refusal}
+use Rattle.cube.specs.declared.refusals.Refusal.TheVariants.{Dimension, Length}
 use Rattle.cube.specs.Refusal.{first, ◌⇒◌}
+use Rattle.cube.specs.Refused.{answered}
 use Rattle.cube.specs.Tables.{is_dimension, table_len}
 use Rattle.cube.proofs.Refusal.{first_le, first_none}
+use Rattle.cube.proofs.Refused.{accepts, refusing}
 use Rattle.cube.proofs.Tables.{dimension_is}
 use Rattle.list_reader.specs.Front.{with_parts}
 use Rattle.list_reader.specs.Reading.{list_refusal, list_table, text_tests}
 use Rattle.ranges.specs.Grammar.{is_list, named_table, parts_of, reaches}
 use Rattle.list_reader.proofs.Tables.{parts_table}
+
+-- an answer that `?` passes on
+pub passes : {A : Type 0} {x : Refusal} (r : Result A Refusal) → IsErr r × IsErrAnd r (λ y. y ≡ x) → r ≡ Err x
+passes r p = let q = err_from_is_err_and r p.1 in q.1 ∙ ap Err q.2
 
 -- a text that no test stops keeps the rules and stays within the cube
 pub text_good : (size : ℕ) (text : List ℕ) → first (text_tests size text) ≡ 0 → (is_list text ≡ true) × (reaches size text ≡ false)
@@ -35,35 +45,36 @@ module _ (n : ℕ) (text faults : List ℕ) where
 
   -- ---- the number, by the tests
 
-  -- the answer k, and what is left
-  abbrev Refused : ℕ → Type 0
-  Refused k = (k ≡ list_refusal n text faults) × (faults ≡ list_table n text faults)
+  -- the answer r, and what is left
+  abbrev Refused : Refusal → Type 0
+  Refused r = (Err r ≡ answered {A = Unit} (list_refusal n text faults) tt) × (faults ≡ list_table n text faults)
 
-  refused : (k : ℕ) → k ≡ list_refusal n text faults → k ≢ 0 → Refused k
-  refused k e h = (e, table_kept (sym e) h)
+  refused : (r : Refusal) → Err r ≡ answered {A = Unit} (list_refusal n text faults) tt → Refused r
+  refused r e = (e, table_kept refl (refusing _ tt r (sym e)))
 
-  pub wrong_dimension : is_dimension n ≡ false → Refused 1
+  pub wrong_dimension : is_dimension n ≡ false → Refused Dimension
   unfolding list_refusal first
-  wrong_dimension e = refused 1 (rw e) (λ z. omega arith)
+  wrong_dimension e = refused Dimension (rw e)
 
-  pub wrong_length : is_dimension n ≡ true → length faults ≢ table_len n → Refused 2
+  pub wrong_length : is_dimension n ≡ true → length faults ≢ table_len n → Refused Length
   unfolding list_refusal first
-  wrong_length e d = refused 2 (rw (e, ne_eqb (length faults) (table_len n) d)) (λ z. omega arith)
+  wrong_length e d = refused Length (rw (e, ne_eqb (length faults) (table_len n) d))
 
   module _ (e : is_dimension n ≡ true) (sized : length faults ≡ table_len n) where
     text_decides : list_refusal n text faults ≡ first (text_tests (2 ^ n) text)
     unfolding list_refusal first
     text_decides = rw (e, eq-eqb (length faults) (table_len n) sized)
 
-    pub wrong_text : (k : ℕ) → k ≡ first (text_tests (2 ^ n) text) → k ≢ 0 → Refused k
-    wrong_text k t h = refused k (t ∙ sym text_decides) h
+    pub wrong_text : (r : Refusal) → answered {A = Unit} (first (text_tests (2 ^ n) text)) tt ≡ Err r → Refused r
+    wrong_text r e = refused r (sym (ap (λ (k : ℕ). answered {A = Unit} k tt) text_decides ∙ e))
 
     pub right_text : first (text_tests (2 ^ n) text) ≡ 0 → {cleared after : List ℕ} → cleared ≡ replicate (length faults) 0
-        → after ≡ with_parts cleared (parts_of text) → (0 ≡ list_refusal n text faults) × (after ≡ list_table n text faults)
+        → after ≡ with_parts cleared (parts_of text)
+        → (Ok tt ≡ answered {A = Unit} (list_refusal n text faults) tt) × (after ≡ list_table n text faults)
     right_text z {cleared} {after} c a =
         let g = text_good (2 ^ n) text z in
         let zero_is = text_decides ∙ z in (
-          sym zero_is,
+          sym (accepts _ tt zero_is),
           a ∙ ap (λ (t : List ℕ). with_parts t (parts_of text)) (c ∙ ap (λ (m : ℕ). replicate m 0) sized) ∙ parts_table n text g.0 g.1 ∙ table_read zero_is,
         )
 

@@ -3,12 +3,14 @@
 
 ghost use Rattle.std.specs.Prelude.{◌+◌, ◌*◌, ◌-◌, ◌≤◌, ◌<◌, drop, get_or, length, take, false, true, ◌≡◌};
 ghost use Rattle.cube.specs.Refusal.{first};
+ghost use Rattle.cube.specs.Refused.{answered};
 ghost use Rattle.list_reader.specs.Front.{above, between, bytes_at, capped, closing, entry_at, front, high_at, lead, range_on, with_parts};
 ghost use Rattle.list_reader.specs.Reading.{list_refusal, list_table, text_tests};
 ghost use Rattle.notice.specs.Addresses.{with_bits};
 ghost use Rattle.ranges.specs.Grammar.{is_digit, is_list, no_zero, parts_of, reaches, value, value_from};
 ghost use Rattle.spelling.specs.Laws.{Bytes};
 
+use cube::refusals::Refusal;
 use cube::{is_dimension, nodes, table_len};
 use notice::{clear, set_bit};
 
@@ -177,25 +179,25 @@ fn first_entry(s: &[u8]) -> Entry
     close(s, at, first.value, first.value)
 }
 
-// Judges the whole text, and writes nothing: 14 where a rule is broken anywhere, else 12 where an entry goes beyond the cube, else 0.
-fn check(text: &[u8], size: usize) -> u32
+// Judges the whole text, and writes nothing: it is refused where a rule is broken anywhere, and otherwise where an entry goes beyond the cube.
+fn check(text: &[u8], size: usize) -> Result<(), Refusal>
     requires { size ≤ 4096 }
-    ensures { result ≡ first (text_tests size text.now) }
+    ensures { result ≡ answered (first (text_tests size text.now)) tt }
 {
     let mut far: bool = false;
     let mut at: usize = 0;
     while at < text.len() {
         let found = first_entry(&text[at..]);
         let Entry::Range(_, high, taken) = found else {
-            return 14;
+            return Err(Refusal::Text);
         };
         far = far | (size <= high);
         at += taken;
     }
     if far {
-        return 12;
+        return Err(Refusal::Address);
     }
-    0
+    Ok(())
 }
 
 // Sets the bits of a run of nodes, whole bytes at once where they are in it.
@@ -258,22 +260,19 @@ fn put_entries(text: &[u8], faults: &mut [u8])
     }
 }
 
-// Reads a list text into a lent fault table of an n-cube: 0, or the refusal, which leaves the table as it was.
-pub fn read(n: usize, text: &[u8], faults: &mut [u8]) -> u32
-    ensures answer { result ≡ list_refusal n text.now faults.old }
+// Reads a list text into a lent fault table of an n-cube, or refuses and leaves the table as it was.
+pub fn read(n: usize, text: &[u8], faults: &mut [u8]) -> Result<(), Refusal>
+    ensures answer { result ≡ answered (list_refusal n text.now faults.old) tt }
     ensures table { faults.new ≡ list_table n text.now faults.old }
 {
     if !is_dimension(n) {
-        return 1;
+        return Err(Refusal::Dimension);
     }
     if faults.len() != table_len(n) {
-        return 2;
+        return Err(Refusal::Length);
     }
-    let refusal = check(text, nodes(n));
-    if refusal != 0 {
-        return refusal;
-    }
+    check(text, nodes(n))?;
     clear(faults);
     put_entries(text, faults);
-    0
+    Ok(())
 }
