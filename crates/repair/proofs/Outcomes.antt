@@ -1,14 +1,14 @@
 -- What repairing answers and leaves, by the tests in their order: a refusal leaves result and row as they were, and where nothing is refused they are the
 -- repaired table and the row of the namers.
 use mathlib.Core.Bool.{true, false}
-use mathlib.Core.List.{List, [], ◌∷◌}
+use mathlib.Core.List.{List}
 use mathlib.Core.Logic.{◌≢◌}
 use mathlib.Core.Path.{◌≡◌, refl, sym, ap, ◌∙◌}
 use Prim.Native.Nat.{ℕ, ◌^◌, ◌≤◌}
 use native.Mathlib.Decide.{ℕ_discrete}
 use lib.ListN.{length}
 use borrow.Author.Tests.{eq-eqb, eqb-true, le-leb, ne_eqb, not-false}
-use Rattle.cube.specs.Refusal.{first, ◌⇒◌}
+use Rattle.cube.specs.Refusal.{first}
 use Rattle.cube.specs.Tables.{is_dimension, table_len, unused_set}
 use Rattle.cube.proofs.Refusal.{first_le, first_none}
 use Rattle.cube.proofs.Tables.{dimension_is}
@@ -21,60 +21,19 @@ use Rattle.repair.proofs.Words.{row_sized}
 -- ---- the number, by the tests
 
 module _ (n : ℕ) (faults masks : List ℕ) (result row : ℕ) where
-  pub wrong_dimension : is_dimension n ≡ false → 1 ≡ repair_refusal n faults masks result row
+  pub nothing_wrong : is_dimension n ≡ true → length faults ≡ table_len n → length masks ≡ 2 ^ n → result ≡ table_len n → row ≡ 2 ^ n → unused_set n faults ≡ false
+      → strays n masks ≡ false → repair_refusal n faults masks result row ≡ 0
   unfolding repair_refusal first
-  wrong_dimension e = rw e
-
-  module _ (d : is_dimension n ≡ true) where
-    pub wrong_table : length faults ≢ table_len n → 2 ≡ repair_refusal n faults masks result row
-    unfolding repair_refusal first
-    wrong_table h = rw (d, ne_eqb (length faults) (table_len n) h)
-
-    module _ (f : length faults ≡ table_len n) where
-      pub wrong_masks : length masks ≢ 2 ^ n → 2 ≡ repair_refusal n faults masks result row
-      unfolding repair_refusal first
-      wrong_masks h = rw (d, eq-eqb (length faults) (table_len n) f, ne_eqb (length masks) (2 ^ n) h)
-
-      module _ (m : length masks ≡ 2 ^ n) where
-        pub wrong_result : result ≢ table_len n → 2 ≡ repair_refusal n faults masks result row
-        unfolding repair_refusal first
-        wrong_result h = rw (d, eq-eqb (length faults) (table_len n) f, eq-eqb (length masks) (2 ^ n) m, ne_eqb result (table_len n) h)
-
-        module _ (r : result ≡ table_len n) where
-          pub wrong_row : row ≢ 2 ^ n → 2 ≡ repair_refusal n faults masks result row
-          unfolding repair_refusal first
-          wrong_row h =
-              rw (
-                d,
-                eq-eqb (length faults) (table_len n) f,
-                eq-eqb (length masks) (2 ^ n) m,
-                eq-eqb result (table_len n) r,
-                ne_eqb row (2 ^ n) h,
-              )
-
-          module _ (w : row ≡ 2 ^ n) where
-            lengths : first (repair_tests n faults masks result row) ≡ first (unused_set n faults ⇒ 3 ∷ strays n masks ⇒ 17 ∷ [])
-            unfolding first
-            lengths =
-                rw (
-                  d,
-                  eq-eqb (length faults) (table_len n) f,
-                  eq-eqb (length masks) (2 ^ n) m,
-                  eq-eqb result (table_len n) r,
-                  eq-eqb row (2 ^ n) w,
-                )
-
-            pub unused_bit : unused_set n faults ≡ true → 3 ≡ repair_refusal n faults masks result row
-            unfolding repair_refusal first
-            unused_bit h = sym (lengths ∙ rw h)
-
-            pub stray-bit : unused_set n faults ≡ false → strays n masks ≡ true → 17 ≡ repair_refusal n faults masks result row
-            unfolding repair_refusal first
-            stray-bit u h = sym (lengths ∙ rw (u, h))
-
-            pub nothing_wrong : unused_set n faults ≡ false → strays n masks ≡ false → 0 ≡ repair_refusal n faults masks result row
-            unfolding repair_refusal first
-            nothing_wrong u h = sym (lengths ∙ rw (u, h))
+  nothing_wrong d f m r w u h =
+      rw (
+        d,
+        eq-eqb (length faults) (table_len n) f,
+        eq-eqb (length masks) (2 ^ n) m,
+        eq-eqb result (table_len n) r,
+        eq-eqb row (2 ^ n) w,
+        u,
+        h,
+      )
 
   -- ---- from the number
 
@@ -107,8 +66,7 @@ module _ (n : ℕ) (faults masks : List ℕ) (result row : ℕ) where
   unfolding is_dimension
   taken a =
       let t = a.table in
-      sym
-      (nothing_wrong (rw (le-leb 1 n t.dimension.0, le-leb n 12 t.dimension.1)) t.sized a.masked a.resulting a.rowed t.unused a.none)
+      nothing_wrong (rw (le-leb 1 n t.dimension.0, le-leb n 12 t.dimension.1)) t.sized a.masked a.resulting a.rowed t.unused a.none
 
   pub refusal_few : repair_refusal n faults masks result row ≤ 17
   unfolding repair_refusal

@@ -1,15 +1,15 @@
--- A bit at n or above: what is shifted down past bit n tells it, 0 exactly where there is none. So the masks are gone through one by one.
-use mathlib.Core.Bool.{true, false, not}
+-- A bit at n or above: what is shifted down past bit n tells it, 0 exactly where there is none.
+use mathlib.Core.Bool.{Bool, true, false, not}
 use mathlib.Core.List.{List}
-use mathlib.Core.Logic.{◌≢◌, ⊎_elim}
+use mathlib.Core.Logic.{◌≢◌}
 use mathlib.Core.Path.{◌≡◌, sym, ap, ◌∙◌}
-use Prim.Native.Nat.{ℕ, ◌+◌, ◌/◌, ◌^◌, ◌≤◌, ◌<◌}
-use native.Mathlib.Numerals.{add-one}
+use Prim.Native.Nat.{ℕ, ◌/◌, ◌^◌, ◌≤◌, ◌<◌}
 use native.Mathlib.Omega.{arith}
 use lib.Dec.{eqb}
 use lib.ListN.{length}
 use borrow.Author.Tests.{eq-eqb, ne_eqb}
-use Rattle.cube.proofs.Count.{below_suc}
+use Rattle.std.specs.Bool.{MatchBool}
+use Rattle.std.specs.List.{AllWithin, HoldsAt}
 use Rattle.cube.proofs.Search.{some_hit, some_none}
 use Rattle.cube.proofs.Tables.{shifted}
 use Rattle.repair.specs.Repaired.{mask_of, stray_bit, strays}
@@ -18,25 +18,24 @@ stray_is : (n mask : ℕ) → n ≤ 16 → mask < 65536 → not (eqb (mask / 2 ^
 unfolding stray_bit
 stray_is n mask h l = shifted 16 n mask h l
 
--- none of the masks before w has one
-abbrev pub NoneBefore : (n : ℕ) (masks : List ℕ) (w : ℕ) → Type 0
-NoneBefore n masks w = (v : ℕ) → v < w → stray_bit n (mask_of masks v) ≡ false
-
-module _ (n : ℕ) (masks : List ℕ) (few : n ≤ 16) where
-  pub stray_none : {w : ℕ} → NoneBefore n masks w → length masks ≤ w → strays n masks ≡ false
+-- of masks of 16 bits
+module _ (n : ℕ) (masks : List ℕ) (few : n ≤ 16) (fits : (w : ℕ) → mask_of masks w < 65536) where
+  -- w has one
+  stray_here : (w : ℕ) → w < length masks → mask_of masks w / 2 ^ n ≢ 0 → strays n masks ≡ true
   unfolding strays
-  stray_none f h = some_none (length masks) (λ w. stray_bit n (mask_of masks w)) (λ v l. f v (omega arith))
+  stray_here w h d =
+      some_hit (length masks) (λ v. stray_bit n (mask_of masks v)) w h
+      (sym (stray_is n (mask_of masks w) few (fits w)) ∙ ap not (ne_eqb (mask_of masks w / 2 ^ n) 0 d))
 
-  module _ (w : ℕ) (fits : mask_of masks w < 65536) where
-    pub stray_here : w < length masks → mask_of masks w / 2 ^ n ≢ 0 → strays n masks ≡ true
-    unfolding strays
-    stray_here h d =
-        some_hit (length masks) (λ v. stray_bit n (mask_of masks v)) w h
-        (sym (stray_is n (mask_of masks w) few fits) ∙ ap not (ne_eqb (mask_of masks w / 2 ^ n) 0 d))
+  -- none has one
+  stray_none : ((w : ℕ) → w < length masks → mask_of masks w / 2 ^ n ≡ 0) → strays n masks ≡ false
+  unfolding strays
+  stray_none f =
+      some_none (length masks) (λ w. stray_bit n (mask_of masks w))
+      (λ w l. sym (stray_is n (mask_of masks w) few (fits w)) ∙ ap not (eq-eqb (mask_of masks w / 2 ^ n) 0 (f w l)))
 
-    pub stray_next : NoneBefore n masks w → mask_of masks w / 2 ^ n ≡ 0 → NoneBefore n masks (w + 1)
-    stray_next f e v l =
-        ⊎_elim
-        (λ (k : v ≡ w). rw k (sym (stray_is n (mask_of masks w) few fits) ∙ ap not (eq-eqb (mask_of masks w / 2 ^ n) 0 e)))
-        (λ (k : v < w). f v k)
-        (below_suc (rw add-one at l))
+  pub strays_are : (r : Bool)
+      → MatchBool r ((w : ℕ) × (w < length masks) × HoldsAt (λ m. m / 2 ^ n ≢ 0) masks w) (AllWithin (λ m. m / 2 ^ n ≡ 0) masks 0 (length masks))
+      → r ≡ strays n masks
+  strays_are true h = sym (stray_here h.0 h.1 (h.2 0))
+  strays_are false h = sym (stray_none (λ w l. h w 0 (omega arith) l))

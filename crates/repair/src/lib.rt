@@ -4,6 +4,7 @@
 #![tactic(auto)]
 
 ghost use Rattle.std.specs.Prelude.{◌+◌, ◌/◌, ◌^◌, ◌≤◌, ◌<◌, length, replicate, set, cond, ◌≡◌};
+ghost use Rattle.cube.specs.Refused.{answered};
 ghost use Rattle.cube.specs.Tables.{node_bit, table_len};
 ghost use Rattle.notice.specs.Addresses.{with_bit};
 ghost use Rattle.repair.specs.Hearing.{Heard, HeardBy};
@@ -11,6 +12,7 @@ ghost use Rattle.repair.specs.Repaired.{namers, repaired, strays};
 ghost use Rattle.repair.specs.Repairing.{namers_after, repair_refusal, result_after};
 ghost use Rattle.spelling.specs.Laws.{Bytes};
 
+use cube::refusals::Refusal;
 use cube::{is_dimension, neighbour, node_bit, nodes, table_len, unused_set};
 use notice::set_bit;
 
@@ -19,68 +21,38 @@ fn some_stray(n: usize, masks: &[u16]) -> bool
     requires { n < 16 }
     ensures { result ≡ strays n masks.now }
 {
-    let mut w: usize = 0;
-    while w < masks.len() {
-        if masks[w] >> n != 0 {
-            return true;
-        }
-        w += 1;
-    }
-    false
+    masks.iter().any(|mask| *mask >> n != 0)
 }
 
-// The refusal, 0 for none, where result and row have room for so many numbers.
-fn refusal(n: usize, faults: &[u8], masks: &[u16], res: usize, row: usize) -> u32
-    ensures { result ≡ repair_refusal n faults.now masks.now res row }
+// The refusal, if any, where result and row have room for so many numbers.
+#[tactic(auto, unfolding(crate::specs::Repairing::repair_refusal, cube::specs::Refusal::first, cube::specs::Tables::is_dimension))]
+fn refusal(n: usize, faults: &[u8], masks: &[u16], res: usize, row: usize) -> Result<(), Refusal>
+    ensures { result ≡ answered (repair_refusal n faults.now masks.now res row) tt }
 {
     if !is_dimension(n) {
-        return 1;
+        return Err(Refusal::Dimension);
     }
     let bytes = table_len(n);
     let size = nodes(n);
     if faults.len() != bytes {
-        return 2;
+        return Err(Refusal::Length);
     }
     if masks.len() != size {
-        return 2;
+        return Err(Refusal::Length);
     }
     if res != bytes {
-        return 2;
+        return Err(Refusal::Length);
     }
     if row != size {
-        return 2;
+        return Err(Refusal::Length);
     }
     if unused_set(n, faults) {
-        return 3;
+        return Err(Refusal::Unused);
     }
     if some_stray(n, masks) {
-        return 17;
+        return Err(Refusal::Mask);
     }
-    0
-}
-
-// Copies a table. Whoever has read all of it knows that it is of bytes.
-fn copy(from: &[u8], to: &mut [u8])
-    requires { length to.old ≡ length from.now }
-    ensures table { to.new ≡ from.now }
-    ensures bytes { Bytes from.now }
-{
-    let mut i: usize = 0;
-    while i < from.len() {
-        to[i] = from[i];
-        i += 1;
-    }
-}
-
-// Sets every number of a row to 0.
-fn clear(row: &mut [u16])
-    ensures { row.new ≡ replicate (length row.old) 0 }
-{
-    let mut i: usize = 0;
-    while i < row.len() {
-        row[i] = 0;
-        i += 1;
-    }
+    Ok(())
 }
 
 // Puts node k into the result, and one more than its namer w into the row, where it is not in the result yet.
@@ -101,12 +73,10 @@ fn put_all(n: usize, w: usize, mask: u16, res: &mut [u8], row: &mut [u16])
     requires { (n ≤ 12) × ((length res.old ≡ table_len n) × ((length row.old ≡ 2 ^ n) × (w < 2 ^ n))) }
     ensures { Heard n mask w res.old row.old res.new row.new }
 {
-    let mut i: usize = 0;
-    while i < n {
+    for i in 0..n {
         if (mask >> i) % 2 == 1 {
             put_named(neighbour(w, i), w, res, row);
         }
-        i += 1;
     }
 }
 
@@ -133,26 +103,27 @@ fn hear_all(n: usize, faults: &[u8], masks: &[u16], res: &mut [u8], row: &mut [u
     ensures table { res.new ≡ repaired n faults.now masks.now }
     ensures row { row.new ≡ namers n faults.now masks.now }
 {
-    let mut w: usize = 0;
-    while w < masks.len() {
+    for w in 0..masks.len() {
         hear(n, w, faults, masks, res, row);
-        w += 1;
     }
 }
 
-// Repairs a fault table of an n-cube by the masks of its nodes, into the result, and says in the row who named whom: 0, or the refusal, which leaves result
-// and row as they were.
-pub fn repair(n: usize, faults: &[u8], masks: &[u16], res: &mut [u8], row: &mut [u16]) -> u32
-    ensures answer { result ≡ repair_refusal n faults.now masks.now (length res.old) (length row.old) }
+// Repairs a fault table of an n-cube by the masks of its nodes, into the result, and says in the row who named whom. A refusal leaves result and row as
+// they were.
+pub fn repair(
+    n: usize,
+    faults: &[u8],
+    masks: &[u16],
+    res: &mut [u8],
+    row: &mut [u16],
+) -> Result<(), Refusal>
+    ensures answer { result ≡ answered (repair_refusal n faults.now masks.now (length res.old) (length row.old)) tt }
     ensures table { res.new ≡ result_after n faults.now masks.now res.old row.old }
     ensures row { row.new ≡ namers_after n faults.now masks.now res.old row.old }
 {
-    let k = refusal(n, faults, masks, res.len(), row.len());
-    if k != 0 {
-        return k;
-    }
-    copy(faults, res);
-    clear(row);
+    refusal(n, faults, masks, res.len(), row.len())?;
+    res.copy_from_slice(faults);
+    row.fill(0);
     hear_all(n, faults, masks, res, row);
-    0
+    Ok(())
 }

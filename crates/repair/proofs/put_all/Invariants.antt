@@ -1,10 +1,7 @@
 -- `put_all` goes through the dimensions of a mask: its loop keeps `Heard`, of the dimensions so far. The measure is what is left of them.
-use Prim.Native.Nat.{◌-◌, ◌≤◌}
+use Prim.Native.Nat.{◌≤◌}
 use Rattle.repair.specs.Hearing.{Heard}
 use Rattle.repair.proofs.put_all.Given as goal
 
 abbrev pub invariant-loop-i : goal.invariant-loop-i
 invariant-loop-i l = (l.i ≤ l.n) × Heard l.i l.mask l.w l.initial.res l.initial.row l.res l.row
-
-abbrev pub decreases-loop-i : goal.decreases-loop-i
-decreases-loop-i l = l.n - l.i

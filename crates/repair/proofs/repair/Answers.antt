@@ -1,43 +1,46 @@
 -- `repair` makes the tests, and writes only where none holds: the old table into the result, zeros into the row, and then what the working nodes say.
 use mathlib.Core.Path.{◌≡◌, sym, ap, ◌∙◌}
 use Prim.Native.Nat.{ℕ}
+use native.Mathlib.Omega.{arith}
 use lib.ListN.{length, replicate}
+use Rattle.std.proofs.Common.{rules}
+use Rattle.cube.proofs.Refused.{accepted as answered_ok, refusing}
 use Rattle.repair.specs.Repairing.{repair_refusal}
 use Rattle.repair.proofs.Outcomes.{Accepted, accepted, result_kept, result_made, row_kept, row_made}
 use Rattle.repair.proofs.repair.Goals as goal
-use Rattle.repair.proofs.repair.Goals.{Else-k-ne0}
+use Rattle.repair.proofs.repair.Goals.{In_ok-refusal}
 
-pub returns-then-k-ne0 : goal.returns-then-k-ne0
-returns-then-k-ne0 c =
-    let e = c.refusal-k.ensures in
+pub returns-in_err-refusal : goal.returns-in_err-refusal
+returns-in_err-refusal c =
+    let e = sym c.refusal.ensures ∙ c.in_err-refusal.was in
     record {
-      answer = e;
-      table = result_kept _ _ _ _ _ (λ z. c.if-k-ne0.true (e ∙ z));
-      row = row_kept _ _ _ _ _ (λ z. c.if-k-ne0.true (e ∙ z));
+      answer = search rules;
+      table = result_kept _ _ _ _ _ (refusing _ _ _ e);
+      row = row_kept _ _ _ _ _ (refusing _ _ _ e);
     }
 
-none : (c : Else-k-ne0) → let a = c.args in repair_refusal a.n a.faults.now a.masks.now (length a.res.now) (length a.row.now) ≡ 0
-none c = sym c.refusal-k.ensures ∙ c.if-k-ne0.false
+none : (c : In_ok-refusal) → let a = c.args in repair_refusal a.n a.faults.now a.masks.now (length a.res.now) (length a.row.now) ≡ 0
+none c = (answered_ok _ _ _ (sym c.refusal.ensures ∙ c.in_ok-refusal.was)).0
 
-right : (c : Else-k-ne0) → let a = c.args in Accepted a.n a.faults.now a.masks.now (length a.res.now) (length a.row.now)
+right : (c : In_ok-refusal) → let a = c.args in Accepted a.n a.faults.now a.masks.now (length a.res.now) (length a.row.now)
 right c = accepted _ _ _ _ _ (none c)
 
-pub copy-requires : goal.copy-requires
-copy-requires c = let r = right (goal.at.copy-requires c).Else-k-ne0 in r.resulting ∙ sym r.table.sized
+pub copy_from_slice-requires : goal.copy_from_slice-requires
+copy_from_slice-requires c = let r = right (goal.at.copy_from_slice-requires c).In_ok-refusal in r.resulting ∙ sym r.table.sized
 
 pub hear_all-requires : goal.hear_all-requires
 hear_all-requires c =
-    let r = right (goal.at.hear_all-requires c).Else-k-ne0 in
+    let r = right (goal.at.hear_all-requires c).In_ok-refusal in
     record {
-      n_bound = (r.table.dimension.1, (r.table.sized, (r.masked, c.copy.ensures.table)));
-      bytes = (c.copy.ensures.bytes, c.clear.ensures ∙ ap (λ (m : ℕ). replicate m 0) r.rowed);
+      n_bound = (r.table.dimension.1, (r.table.sized, (r.masked, c.copy_from_slice.ensures.after)));
+      bytes = (λ i. omega (arith, c.type_inv.faults i), c.fill.ensures.after (λ y e. cc) ∙ ap (λ (m : ℕ). replicate m 0) r.rowed);
     }
 
 pub returns : goal.returns
 returns c =
-    let z = none (goal.at.returns c).Else-k-ne0 in
+    let z = none (goal.at.returns c).In_ok-refusal in
     record {
-      answer = sym z;
+      answer = search rules;
       table = c.hear_all.ensures.table ∙ result_made _ _ _ _ _ z;
       row = c.hear_all.ensures.row ∙ row_made _ _ _ _ _ z;
     }
