@@ -5,8 +5,7 @@ use mathlib.Core.Path.{refl}
 use Prim.Native.Nat.{ℕ}
 use Rattle.cube.specs.Allowed.{AsksNothing, Function, Nothing}
 use Rattle.cube.proofs.Contracts.{Says}
-use Rattle.groups.specs.Number.{number_at}
-use Rattle.groups.specs.declared.Number.{Number}
+use Rattle.groups.specs.Number.{Number, number_at}
 use Rattle.groups.specs.contracts.number_at
 use Rattle.groups.proofs.number_at.Reads as number_at-reads
 

@@ -1,6 +1,6 @@
 -- What a number can be: each is one of the outcomes of `number_at`, so what holds of those holds of every number. A value of two groups is below
 -- 128 * 128, since each group has seven bits, and at least 128, since the second is not zero.
-use mathlib.Core.Path.{◌≡◌, refl, sym, ◌∙◌}
+use mathlib.Core.Path.{◌≡◌, refl, sym, ap, ◌∙◌}
 use mathlib.Core.Logic.{◌⊎◌, inl, inr}
 use mathlib.Core.Bool.{true, false, ◌||◌}
 use mathlib.Core.List.{List}
@@ -9,15 +9,22 @@ use native.Mathlib.Omega.{arith}
 use lib.Dec.{eqb, ltb, leb}
 use lib.ListN.{length, get_or}
 use borrow.Author.Tests.{leb-false, ltb-true, lt-leb, le-ltb, ne_eqb}
+use Rattle.std.specs.Prelude.{Ok, Err}
+use Rattle.cube.specs.declared.refusals.Refusal.{Refusal}
+use Rattle.cube.specs.declared.refusals.Refusal.TheVariants.{Cut, Group}
 use Rattle.cube.proofs.Bools.{by_cases}
-use Rattle.groups.specs.Number.{number_at, two_groups}
+use Rattle.groups.specs.Number.{Number, number_at, on_number, two_groups}
 use Rattle.groups.specs.Laws.{ReadNumber}
-use Rattle.groups.specs.declared.Number.{Number}
-use Rattle.groups.specs.declared.Number.TheVariants.{Value, Refused}
 
--- a refusal is no value
-pub no_value : {k at v next : ℕ} → Refused k at ≡ Value v next → ⊥
-no_value e = let z : ◌≡◌ {A = ℕ} 0 1 = cc in omega arith
+-- two answers that are one have the same parts, and a refusal is no value
+pub same_value : {v next w after : ℕ} → ◌≡◌ {A = Number} (Ok (v, next)) (Ok (w, after)) → (v ≡ w) × (next ≡ after)
+same_value e = let p : ◌≡◌ {A = ℕ × ℕ} _ _ = ap (λ x. on_number x (λ r at. (0, 0)) (λ v next. (v, next))) e in (ap (λ x. x.0) p, ap (λ x. x.1) p)
+
+pub same_refusal : {r q : Refusal} {at place : ℕ} → ◌≡◌ {A = Number} (Err (r, at)) (Err (q, place)) → (r ≡ q) × (at ≡ place)
+same_refusal e = let p : ◌≡◌ {A = Refusal × ℕ} _ _ = ap (λ x. on_number x (λ r at. (r, at)) (λ v next. (Cut, 0))) e in (ap (λ x. x.0) p, ap (λ x. x.1) p)
+
+pub no_value : {r : Refusal} {at v next : ℕ} → ◌≡◌ {A = Number} (Err (r, at)) (Ok (v, next)) → ⊥
+no_value e = cc
 
 -- a second group that is neither zero nor has its high bit set
 seven_bits : (b : ℕ) → (eqb b 0 || leb 128 b) ≡ false → (1 ≤ b) × (b < 128)
@@ -25,8 +32,8 @@ seven_bits zero e = let z : ◌≡◌ {A = ℕ} 0 1 = cc in absurd (omega arith)
 seven_bits (suc b) e = (omega arith, leb-false 128 (suc b) (rw (ne_eqb (suc b) 0 (omega arith)) at e))
 
 -- a number is 9 or 10 with its own place, or a value with the next place
-pub cases : (s : List ℕ) (at : ℕ) (P : Number → Type 0) → P (Refused 9 at) → P (Refused 10 at)
-    → ((v next : ℕ) → ReadNumber s at v next → P (Value v next)) → P (number_at s at)
+pub cases : (s : List ℕ) (at : ℕ) (P : Number → Type 0) → P (Err (Cut, at)) → P (Err (Group, at))
+    → ((v next : ℕ) → ReadNumber s at v next → P (Ok (v, next))) → P (number_at s at)
 unfolding number_at two_groups
 cases s at P nine ten value =
     by_cases P (leb (length s) at) (λ _. nine)
@@ -49,19 +56,19 @@ cases s at P nine ten value =
       shortest = λ few. absurd (omega (arith, l.0));
     }
 
-pub read_number : (s : List ℕ) (at v next : ℕ) → number_at s at ≡ Value v next → ReadNumber s at v next
+pub read_number : (s : List ℕ) (at v next : ℕ) → number_at s at ≡ Ok (v, next) → ReadNumber s at v next
 read_number s at v next =
-    cases s at (λ x. x ≡ Value v next → ReadNumber s at v next) (λ e. absurd (no_value e)) (λ e. absurd (no_value e))
-    (λ w after r e. let p : w ≡ v = cc in let q : after ≡ next = cc in rw (← p, ← q) r)
+    cases s at (λ x. x ≡ Ok (v, next) → ReadNumber s at v next) (λ e. absurd (no_value e)) (λ e. absurd (no_value e))
+    (λ w after r e. let p = same_value e in rw (← p.0, ← p.1) r)
 
-pub refused_number : (s : List ℕ) (at k place : ℕ) → number_at s at ≡ Refused k place → (k ≡ 9) ⊎ (k ≡ 10)
-refused_number s at k place =
-    cases s at (λ x. x ≡ Refused k place → (k ≡ 9) ⊎ (k ≡ 10)) (λ e. let p : k ≡ 9 = cc in inl p) (λ e. let p : k ≡ 10 = cc in inr p)
-    (λ v next r e. absurd (no_value (sym e)))
+pub refused_number : (s : List ℕ) (at : ℕ) (r : Refusal) (place : ℕ) → number_at s at ≡ Err (r, place) → (r ≡ Cut) ⊎ (r ≡ Group)
+refused_number s at r place =
+    cases s at (λ x. x ≡ Err (r, place) → (r ≡ Cut) ⊎ (r ≡ Group)) (λ e. inl (sym (same_refusal e).0)) (λ e. inr (sym (same_refusal e).0))
+    (λ v next _ e. absurd (no_value (sym e)))
 
-pub refused_place : (s : List ℕ) (at k place : ℕ) → number_at s at ≡ Refused k place → place ≡ at
-refused_place s at k place =
-    cases s at (λ x. x ≡ Refused k place → place ≡ at) (λ e. cc) (λ e. cc) (λ v next r e. absurd (no_value (sym e)))
+pub refused_place : (s : List ℕ) (at : ℕ) (r : Refusal) (place : ℕ) → number_at s at ≡ Err (r, place) → place ≡ at
+refused_place s at r place =
+    cases s at (λ x. x ≡ Err (r, place) → place ≡ at) (λ e. sym (same_refusal e).1) (λ e. sym (same_refusal e).1) (λ v next _ e. absurd (no_value (sym e)))
 
 -- ---- a first group that has its high bit set, and a byte behind it: there are two groups, and the second decides
 
@@ -70,11 +77,11 @@ module _ (s : List ℕ) (at : ℕ) (more : at + 1 < length s) (high : 128 ≤ ge
   unfolding number_at
   both = rw (lt-leb (length s) at (omega arith), le-ltb (get_or s at 0) 128 high, lt-leb (length s) (at + 1) more)
 
-  pub second_refused : (eqb (get_or s (at + 1) 0) 0 || leb 128 (get_or s (at + 1) 0)) ≡ true → Refused 10 at ≡ number_at s at
+  pub second_refused : (eqb (get_or s (at + 1) 0) 0 || leb 128 (get_or s (at + 1) 0)) ≡ true → Err (Group, at) ≡ number_at s at
   unfolding two_groups
   second_refused e = sym (both ∙ rw e)
 
   pub second_value : (eqb (get_or s (at + 1) 0) 0 || leb 128 (get_or s (at + 1) 0)) ≡ false
-      → Value (get_or s at 0 % 128 + get_or s (at + 1) 0 * 128) (at + 2) ≡ number_at s at
+      → Ok (get_or s at 0 % 128 + get_or s (at + 1) 0 * 128, at + 2) ≡ number_at s at
   unfolding two_groups
   second_value e = sym (both ∙ rw e)

@@ -10,20 +10,20 @@ use lib.Dec.{leb}
 use lib.ListN.{length, drop, length-drop}
 use lib.Seq.{get_or-drop}
 use borrow.Author.Tests.{leb-true, leb-false, le-leb, lt-leb}
-use Rattle.groups.specs.Number.{number_at, two_groups, further}
-use Rattle.groups.specs.declared.Number.{Number}
-use Rattle.groups.specs.declared.Number.TheVariants.{Value, Refused}
+use Rattle.std.specs.Prelude.{Ok, Err}
+use Rattle.cube.specs.declared.refusals.Refusal.{Refusal}
+use Rattle.groups.specs.Number.{Number, number_at, two_groups, further}
 
 module _ (k : ℕ) where
   further_cond : (b : Bool) (x y : Number) → further k (cond b x y) ≡ cond b (further k x) (further k y)
   further_cond true x y = refl
   further_cond false x y = refl
 
-  further_value : (v next : ℕ) → further k (Value v next) ≡ Value v (k + next)
+  further_value : (v next : ℕ) → further k (Ok (v, next)) ≡ Ok (v, k + next)
   unfolding further
   further_value v next = refl
 
-  further_refused : (r at : ℕ) → further k (Refused r at) ≡ Refused r (k + at)
+  further_refused : (r : Refusal) (at : ℕ) → further k (Err (r, at)) ≡ Err (r, k + at)
   unfolding further
   further_refused r at = refl
 

@@ -4,31 +4,29 @@
 ghost use Rattle.std.specs.Prelude.{◌≡◌};
 ghost use Rattle.groups.specs.Number.{number_at};
 
+use cube::refusals::Refusal;
+
 // One number: its value with the next place, or the refusal, 9 or 10, with the place where the number begins.
-#[derive(Clone, Copy, Drop)]
-pub enum Number {
-    Value(usize, usize),
-    Refused(u32, usize),
-}
+pub type Number = Result<(usize, usize), (Refusal, usize)>;
 
 // The number that begins at a place. Every place has an answer: beyond the end it is refusal 9.
 pub fn number_at(bytes: &[u8], at: usize) -> Number
     ensures { result ≡ number_at bytes.now at }
 {
     if bytes.len() <= at {
-        return Number::Refused(9, at);
+        return Err((Refusal::Cut, at));
     }
     let low = bytes[at] as usize;
     let second = at + 1;
     if low < 128 {
-        return Number::Value(low, second);
+        return Ok((low, second));
     }
     if bytes.len() <= second {
-        return Number::Refused(9, at);
+        return Err((Refusal::Cut, at));
     }
     let high = bytes[second] as usize;
     if (high == 0) | (128 <= high) {
-        return Number::Refused(10, at);
+        return Err((Refusal::Group, at));
     }
-    Number::Value(low % 128 + high * 128, at + 2)
+    Ok((low % 128 + high * 128, at + 2))
 }

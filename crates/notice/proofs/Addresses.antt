@@ -9,24 +9,24 @@ use native.Mathlib.Nat.{eq-zero-or-pos}
 use native.Mathlib.Omega.{arith}
 use lib.ListN.{length}
 use borrow.Author.Tests.{leb-false, le-leb, lt-ltb}
+use Rattle.std.specs.Prelude.{Ok}
 use Rattle.cube.proofs.Bools.{and_both}
 use Rattle.cube.proofs.Refusal.{first_none}
 use Rattle.groups.specs.Number.{number_at}
-use Rattle.groups.specs.declared.Number.TheVariants.{Value}
-use Rattle.groups.proofs.Groups.{read_number, no_value}
+use Rattle.groups.proofs.Groups.{read_number, no_value, same_value}
 use Rattle.notice.specs.Tests.{tested, address_tests}
 use Rattle.notice.specs.Addresses.{addresses_end, addresses_at, rising}
 use Rattle.notice.proofs.Cases.{on-number, tested_value}
 
 -- an address that is not refused
-pub read_address : (s : List ℕ) (at base size : ℕ) {v next : ℕ} → tested (address_tests base size) at (number_at s at) ≡ Value v next
-    → (number_at s at ≡ Value v next) × (base + v < size)
+pub read_address : (s : List ℕ) (at base size : ℕ) {v next : ℕ} → tested (address_tests base size) at (number_at s at) ≡ Ok (v, next)
+    → (number_at s at ≡ Ok (v, next)) × (base + v < size)
 read_address s at base size {v} e =
     let passed = tested_value (address_tests base size) at (number_at s at) e in
     (passed.0, leb-false size (base + v) (first_none 12 (address_tests base size v) refl passed.1).0)
 
 -- its bytes are no more than its number and one
-pub few_bytes : (s : List ℕ) (at v next : ℕ) → number_at s at ≡ Value v next → next ≤ at + v + 1
+pub few_bytes : (s : List ℕ) (at v next : ℕ) → number_at s at ≡ Ok (v, next) → next ≤ at + v + 1
 few_bytes s at v next here =
     let r = read_number s at v next here in
     ⊎_elim (λ (h : v ≡ 0). omega (arith, r.shortest (omega arith))) (λ (h : 0 < v). omega (arith, r.near)) (eq-zero-or-pos v)
@@ -35,15 +35,15 @@ few_bytes s at v next here =
 pub record FirstAddress (m : ℕ) (s : List ℕ) (at base size last end : ℕ) : Type 0 where
   pub v : ℕ
   pub next : ℕ
-  pub number : number_at s at ≡ Value v next
+  pub number : number_at s at ≡ Ok (v, next)
   pub below : base + v < size
-  pub others : addresses_end m s next (base + v + 1) size ≡ Value last end
+  pub others : addresses_end m s next (base + v + 1) size ≡ Ok (last, end)
 
-pub first_address : (m : ℕ) (s : List ℕ) (at base size last end : ℕ) → addresses_end (suc m) s at base size ≡ Value last end
+pub first_address : (m : ℕ) (s : List ℕ) (at base size last end : ℕ) → addresses_end (suc m) s at base size ≡ Ok (last, end)
     → FirstAddress m s at base size last end
 unfolding addresses_end
 first_address m s at base size last end =
-    on-number (λ y. y ≡ Value last end → FirstAddress m s at base size last end) (tested (address_tests base size) at (number_at s at))
+    on-number (λ y. y ≡ Ok (last, end) → FirstAddress m s at base size last end) (tested (address_tests base size) at (number_at s at))
     (λ _ _ _ e. absurd (no_value e))
     (λ v next here e.
     let read = read_address s at base size here in
@@ -60,7 +60,7 @@ none : (s : List ℕ) (at base size : ℕ) → ReadAddresses zero s at base size
 unfolding addresses_at rising
 none s at base size = record { counted = refl; rises = refl; low = λ h. h; short = omega arith; within = λ h. h }
 
-module _ (m : ℕ) (s : List ℕ) (at base size v next last end : ℕ) (here : number_at s at ≡ Value v next) (below : base + v < size) where
+module _ (m : ℕ) (s : List ℕ) (at base size v next last end : ℕ) (here : number_at s at ≡ Ok (v, next)) (below : base + v < size) where
   one_more : addresses_at (suc m) s at base ≡ (base + v) ∷ addresses_at m s next (base + v + 1)
   unfolding addresses_at
   one_more = rw here
@@ -77,10 +77,10 @@ module _ (m : ℕ) (s : List ℕ) (at base size v next last end : ℕ) (here : n
         within = λ h. g.within r.within;
       }
 
-pub read_addresses : (m : ℕ) (s : List ℕ) (at base size last end : ℕ) → addresses_end m s at base size ≡ Value last end
+pub read_addresses : (m : ℕ) (s : List ℕ) (at base size last end : ℕ) → addresses_end m s at base size ≡ Ok (last, end)
     → ReadAddresses m s at base size last end
 unfolding addresses_end
-read_addresses zero s at base size last end e = let p : base ≡ last = cc in let q : at ≡ end = cc in rw (← p, ← q) (none s at base size)
+read_addresses zero s at base size last end e = let p = same_value e in rw (← p.0, ← p.1) (none s at base size)
 read_addresses (suc m) s at base size last end e =
     let f = first_address m s at base size last end e in
     more m s at base size f.v f.next last end f.number f.below

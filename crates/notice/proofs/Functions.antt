@@ -6,10 +6,9 @@ use Prim.Native.Nat.{ℕ, ◌+◌}
 use lib.ListN.{drop, length, replicate}
 use Rattle.cube.specs.Allowed.{AsksNothing, Function, Nothing}
 use Rattle.cube.proofs.Contracts.{Says}
-use Rattle.groups.specs.declared.Number.{Number}
+use Rattle.groups.specs.Number.{Number}
 use Rattle.notice.specs.Addresses.{with_bit}
-use Rattle.notice.specs.Notice.{dimension_at, noticed, table_after, tail_at}
-use Rattle.notice.specs.declared.Noticed.{Noticed}
+use Rattle.notice.specs.Notice.{Noticed, dimension_at, noticed, table_after, tail_at}
 use Rattle.notice.specs.contracts.clear as clear-claims
 use Rattle.notice.proofs.clear.Reads as clear-claims-reads
 use Rattle.notice.specs.contracts.dimension as dimension-claims

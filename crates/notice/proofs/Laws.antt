@@ -9,19 +9,18 @@ use native.Mathlib.Omega.{arith}
 use lib.Dec.{leb}
 use lib.ListN.{length, replicate, length-replicate}
 use borrow.Author.Tests.{le-ltb, leb-true}
+use Rattle.std.specs.Prelude.{Ok, Err}
 use Rattle.cube.specs.Refusal.{first}
+use Rattle.cube.specs.declared.refusals.Refusal.{Refusal}
 use Rattle.cube.specs.Tables.{is_dimension, table_len, node_bit, unused_set}
 use Rattle.cube.proofs.Count.{count_same}
 use Rattle.cube.proofs.Search.{some_none}
 use Rattle.cube.proofs.Tables.{table_room}
 use Rattle.groups.specs.Number.{further, number_at, two_groups}
-use Rattle.groups.specs.declared.Number.TheVariants.{Value}
 use Rattle.notice.specs.Tests.{tested, length_tests}
 use Rattle.notice.specs.Addresses.{addresses_end, addresses_at, among, with_bit, with_bits}
-use Rattle.notice.specs.Notice.{dimension_at, rest_at, notice_from, notice_of, noticed, addresses_of, table_after, tail_at}
+use Rattle.notice.specs.Notice.{a_notice, a_rest, count_at, dimension_at, rest_at, notice_from, notice_of, noticed, addresses_of, table_after, tail_at}
 use Rattle.notice.specs.Laws.{NoneFaulty, NoticeLaws, ReadNotice, TableOf}
-use Rattle.notice.specs.declared.Rest.TheVariants as rest
-use Rattle.notice.specs.declared.Noticed.TheVariants.{Notice, Refused}
 use Rattle.notice.proofs.Rising.{rising_wider, not_among, count_among}
 use Rattle.notice.proofs.Bits.{length_bits, bits_among}
 use Rattle.notice.proofs.Opened.{addresses_are, opened_notice, opened_sized}
@@ -29,11 +28,11 @@ use Rattle.notice.proofs.Outcomes.{notice_good, sized_value}
 use Rattle.notice.proofs.Agree.{accepted, dimension_place, dimension_read, dimension_refused, same_notice, tail_behind, tail_empty}
 use Rattle.notice.proofs.Refusals.{refused_notice, sized_refused}
 
-kept : (s t : List ℕ) (k at : ℕ) → noticed s t ≡ Refused k at → table_after s t ≡ t
+kept : (s t : List ℕ) (r : Refusal) (at : ℕ) → noticed s t ≡ Err (r, at) → table_after s t ≡ t
 unfolding table_after
-kept s t k at e = rw e
+kept s t r at e = rw e
 
-module _ (s t : List ℕ) (n m taken : ℕ) (e : noticed s t ≡ Notice n m taken) where
+module _ (s t : List ℕ) (n m taken : ℕ) (e : noticed s t ≡ a_notice n m taken) where
   read : ReadNotice s n m taken
   read = accepted s t n m taken e
 
@@ -74,12 +73,12 @@ module _ (s t : List ℕ) (n m taken : ℕ) (e : noticed s t ≡ Notice n m take
 
 -- ---- a count of zero: there is no address to read, and no bit to set
 
-module _ (s t : List ℕ) (n at next : ℕ) (dimension : dimension_at s ≡ Value n at) (sized : length t ≡ table_len n) (zero : number_at s at ≡ Value 0 next) where
-  no_addresses : rest_at n s at ≡ rest.Addresses 0 next next
-  unfolding rest_at tested first addresses_end further
+module _ (s t : List ℕ) (n at next : ℕ) (dimension : dimension_at s ≡ Ok (n, at)) (sized : length t ≡ table_len n) (zero : number_at s at ≡ Ok (0, next)) where
+  no_addresses : rest_at n s at ≡ a_rest 0 next next
+  unfolding rest_at count_at tested first addresses_end further
   no_addresses = let z : next + 0 ≡ next = omega arith in rw (zero, le-ltb (2 ^ n) 0 (omega arith), z)
 
-  ends : noticed s t ≡ Notice n 0 next
+  ends : noticed s t ≡ a_notice n 0 next
   unfolding noticed
   ends = sym (notice_good s (sized_value s (sym dimension) t sized) (sym no_addresses))
 
@@ -92,7 +91,7 @@ module _ (s t : List ℕ) (n at next : ℕ) (dimension : dimension_at s ≡ Valu
   }
 
 pub notice_laws : NoticeLaws
-unfolding first is_dimension table_len number_at two_groups further tested addresses_end addresses_at with_bit with_bits dimension_at rest_at notice_from notice_of
+unfolding first is_dimension table_len number_at two_groups further tested addresses_end addresses_at with_bit with_bits dimension_at count_at rest_at notice_from notice_of
     noticed addresses_of table_after tail_at
 notice_laws = record {
   accepted = accepted;

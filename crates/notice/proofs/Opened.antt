@@ -8,30 +8,27 @@ use native.Mathlib.Omega.{arith}
 use lib.ListN.{length, drop, length-drop}
 use lib.Dec.{eqb}
 use borrow.Author.Tests.{eqb-true, ltb-false, not-false}
+use Rattle.std.specs.Prelude.{Ok, Err}
 use Rattle.cube.specs.Tables.{is_dimension, table_len}
 use Rattle.cube.proofs.Refusal.{first_none}
 use Rattle.cube.proofs.Tables.{dimension_is}
-use Rattle.groups.specs.Number.{number_at, on_number}
-use Rattle.groups.specs.declared.Number.{Number}
-use Rattle.groups.specs.declared.Number.TheVariants as number
+use Rattle.groups.specs.Number.{Number, number_at, on_number}
 use Rattle.groups.proofs.Groups.{read_number}
 use Rattle.notice.specs.Tests.{tested, dimension_tests, length_tests, count_tests}
 use Rattle.notice.specs.Addresses.{addresses_end, addresses_at, rising}
-use Rattle.notice.specs.Notice.{dimension_at, rest_at, notice_from, notice_of, addresses_of}
+use Rattle.notice.specs.Notice.{a_notice, a_rest, count_at, on_noticed, on_rest, dimension_at, rest_at, notice_from, notice_of, addresses_of}
 use Rattle.notice.specs.Laws.{ReadNotice}
-use Rattle.notice.specs.declared.Rest.TheVariants as rest
-use Rattle.notice.specs.declared.Noticed.TheVariants.{Notice}
 use Rattle.notice.proofs.Cases.{no_addresses, no_notice, on_further, on-number, on-rest, tested_value}
 use Rattle.notice.proofs.Addresses.{read_addresses}
 
 -- ---- the dimension
 
 pub record OpenedDimension (s : List ℕ) (n at : ℕ) : Type 0 where
-  pub number : number_at s 0 ≡ number.Value n at
+  pub number : number_at s 0 ≡ Ok (n, at)
   pub is : is_dimension n ≡ true
   pub good : (1 ≤ n) × (n ≤ 12)
 
-pub opened_dimension : (s : List ℕ) (n at : ℕ) → dimension_at s ≡ number.Value n at → OpenedDimension s n at
+pub opened_dimension : (s : List ℕ) (n at : ℕ) → dimension_at s ≡ Ok (n, at) → OpenedDimension s n at
 unfolding dimension_at
 opened_dimension s n at e =
     let passed = tested_value dimension_tests 0 (number_at s 0) e in
@@ -39,16 +36,16 @@ opened_dimension s n at e =
     record { number = passed.0; is = is; good = dimension_is n is }
 
 -- a dimension with the length of the lent fault table
-pub opened_sized : (s t : List ℕ) (n at : ℕ) → tested (length_tests t) 0 (dimension_at s) ≡ number.Value n at
-    → (dimension_at s ≡ number.Value n at) × (length t ≡ table_len n)
+pub opened_sized : (s t : List ℕ) (n at : ℕ) → tested (length_tests t) 0 (dimension_at s) ≡ Ok (n, at)
+    → (dimension_at s ≡ Ok (n, at)) × (length t ≡ table_len n)
 opened_sized s t n at e =
     let passed = tested_value (length_tests t) 0 (dimension_at s) e in
     (passed.0, eqb-true (length t) (table_len n) (not-false (eqb (length t) (table_len n)) (first_none 12 (length_tests t n) refl passed.1).0))
 
 -- ---- the count and the addresses
 
-pub opened_count : (n : ℕ) (s : List ℕ) (at m start : ℕ) → tested (count_tests n) at (number_at s at) ≡ number.Value m start
-    → (number_at s at ≡ number.Value m start) × (m ≤ 2 ^ n)
+pub opened_count : (n : ℕ) (s : List ℕ) (at m start : ℕ) → count_at n s at ≡ Ok (m, start) → (number_at s at ≡ Ok (m, start)) × (m ≤ 2 ^ n)
+unfolding count_at
 opened_count n s at m start e =
     let passed = tested_value (count_tests n) at (number_at s at) e in
     (passed.0, ltb-false (2 ^ n) m (first_none 12 (count_tests n m) refl passed.1).0)
@@ -56,23 +53,23 @@ opened_count n s at m start e =
 pub record OpenedRest (n : ℕ) (s : List ℕ) (at m start end : ℕ) : Type 0 where
   pub base : ℕ
   pub taken : ℕ
-  pub count : number_at s at ≡ number.Value m start
+  pub count : number_at s at ≡ Ok (m, start)
   pub few : m ≤ 2 ^ n
-  pub addresses : addresses_end m (drop start s) 0 0 (2 ^ n) ≡ number.Value base taken
+  pub addresses : addresses_end m (drop start s) 0 0 (2 ^ n) ≡ Ok (base, taken)
   pub ends : start + taken ≡ end
 
-pub opened_rest : (n : ℕ) (s : List ℕ) (at m start end : ℕ) → rest_at n s at ≡ rest.Addresses m start end → OpenedRest n s at m start end
+pub opened_rest : (n : ℕ) (s : List ℕ) (at m start end : ℕ) → rest_at n s at ≡ a_rest m start end → OpenedRest n s at m start end
 unfolding rest_at
 opened_rest n s at m start end =
-    on-number (λ y. y ≡ rest.Addresses m start end → OpenedRest n s at m start end) (tested (count_tests n) at (number_at s at))
+    on-number (λ y. y ≡ a_rest m start end → OpenedRest n s at m start end) (count_at n s at)
     (λ _ _ _ e. absurd (no_addresses e))
     (λ c from here. on_further
-    (λ y. on_number y rest.Refused (λ base last. rest.Addresses c from last) ≡ rest.Addresses m start end → OpenedRest n s at m start end)
+    (λ y. on_number y (λ r place. Err (r, place)) (λ base last. a_rest c from last) ≡ a_rest m start end → OpenedRest n s at m start end)
     from (addresses_end c (drop from s) 0 0 (2 ^ n)) (λ _ _ _ e. absurd (no_addresses e))
     (λ base taken found e.
-    let p : c ≡ m = cc in
-    let q : from ≡ start = cc in
-    let r : from + taken ≡ end = cc in
+    let p : c ≡ m = ap (λ x. on_rest x (λ r at. 0) (λ m start end. m)) e in
+    let q : from ≡ start = ap (λ x. on_rest x (λ r at. 0) (λ m start end. start)) e in
+    let r : from + taken ≡ end = ap (λ x. on_rest x (λ r at. 0) (λ m start end. end)) e in
     let read = opened_count n s at c from here in
     record {
       base = base;
@@ -105,7 +102,7 @@ read_rest n s at m start end o =
 
 -- ---- the whole
 
-pub addresses_are : (n : ℕ) (s : List ℕ) (at m start end : ℕ) → dimension_at s ≡ number.Value n at → rest_at n s at ≡ rest.Addresses m start end
+pub addresses_are : (n : ℕ) (s : List ℕ) (at m start end : ℕ) → dimension_at s ≡ Ok (n, at) → rest_at n s at ≡ a_rest m start end
     → addresses_of s ≡ addresses_at m (drop start s) 0 0
 unfolding addresses_of
 addresses_are n s at m start end here found = rw here (rw found)
@@ -114,21 +111,21 @@ addresses_are n s at m start end here found = rw here (rw found)
 pub record OpenedNotice (x : Number) (s : List ℕ) (n m taken : ℕ) : Type 0 where
   pub at : ℕ
   pub start : ℕ
-  pub dimension : x ≡ number.Value n at
-  pub rest : rest_at n s at ≡ rest.Addresses m start taken
+  pub dimension : x ≡ Ok (n, at)
+  pub rest : rest_at n s at ≡ a_rest m start taken
 
-pub opened_notice : (x : Number) (s : List ℕ) (n m taken : ℕ) → notice_from x s ≡ Notice n m taken → OpenedNotice x s n m taken
+pub opened_notice : (x : Number) (s : List ℕ) (n m taken : ℕ) → notice_from x s ≡ a_notice n m taken → OpenedNotice x s n m taken
 unfolding notice_from
 opened_notice x s n m taken =
-    on-number (λ y. y ≡ Notice n m taken → OpenedNotice x s n m taken) x (λ _ _ _ e. absurd (no_notice e))
-    (λ v at here. on-rest (λ y. y ≡ Notice n m taken → OpenedNotice x s n m taken) (rest_at v s at) (λ _ _ _ e. absurd (no_notice e))
+    on-number (λ y. y ≡ a_notice n m taken → OpenedNotice x s n m taken) x (λ _ _ _ e. absurd (no_notice e))
+    (λ v at here. on-rest (λ y. y ≡ a_notice n m taken → OpenedNotice x s n m taken) (rest_at v s at) (λ _ _ _ e. absurd (no_notice e))
     (λ c start end found e.
-    let p : v ≡ n = cc in
-    let q : c ≡ m = cc in
-    let r : end ≡ taken = cc in
+    let p : v ≡ n = ap (λ x. on_noticed x (λ r at. 0) (λ n m taken. n)) e in
+    let q : c ≡ m = ap (λ x. on_noticed x (λ r at. 0) (λ n m taken. m)) e in
+    let r : end ≡ taken = ap (λ x. on_noticed x (λ r at. 0) (λ n m taken. taken)) e in
     record { at = at; start = start; dimension = rw p at here; rest = rw (p, q, r) at found }))
 
-pub read_notice : (s : List ℕ) (n m taken : ℕ) → notice_of s ≡ Notice n m taken → ReadNotice s n m taken
+pub read_notice : (s : List ℕ) (n m taken : ℕ) → notice_of s ≡ a_notice n m taken → ReadNotice s n m taken
 unfolding notice_of
 read_notice s n m taken e =
     let o = opened_notice (dimension_at s) s n m taken e in

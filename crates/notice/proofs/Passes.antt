@@ -7,9 +7,11 @@ use Prim.Native.Nat.{ℕ, suc, ◌+◌, ◌-◌, ◌*◌, ◌≤◌, ◌<◌}
 use native.Mathlib.Omega.{arith}
 use lib.ListN.{length, length-set}
 use borrow.Author.Tests.{le-leb, lt-leb}
+use Rattle.std.specs.Prelude.{Ok, Err}
 use Rattle.cube.specs.Refusal.{first}
+use Rattle.cube.specs.declared.refusals.Refusal.{Refusal}
+use Rattle.cube.specs.declared.refusals.Refusal.TheVariants.{Address}
 use Rattle.groups.specs.Number.{number_at}
-use Rattle.groups.specs.declared.Number.TheVariants.{Value, Refused}
 use Rattle.notice.specs.Tests.{tested, address_tests}
 use Rattle.notice.specs.Addresses.{addresses_end, addresses_at, rising, with_bit, with_bits}
 use Rattle.notice.proofs.Cases.{tested_refused, tested_fails, tested_passes}
@@ -25,21 +27,21 @@ module _ (left : ℕ) (s : List ℕ) (at base : ℕ) (more : 0 < left) where
   next_left : left ≡ suc (left - 1)
   next_left = omega arith
 
-  end_refused : (size : ℕ) {k p : ℕ} → Refused k p ≡ tested (address_tests base size) at (number_at s at)
-      → addresses_end left s at base size ≡ Refused k p
+  end_refused : (size : ℕ) {r : Refusal} {p : ℕ} → Err (r, p) ≡ tested (address_tests base size) at (number_at s at)
+      → addresses_end left s at base size ≡ Err (r, p)
   unfolding addresses_end
   end_refused size e = ap (λ (j : ℕ). addresses_end j s at base size) next_left ∙ rw (sym e)
 
-  end_value : (size : ℕ) {v next : ℕ} → Value v next ≡ tested (address_tests base size) at (number_at s at)
+  end_value : (size : ℕ) {v next : ℕ} → Ok (v, next) ≡ tested (address_tests base size) at (number_at s at)
       → addresses_end left s at base size ≡ addresses_end (left - 1) s next (base + v + 1) size
   unfolding addresses_end
   end_value size e = ap (λ (j : ℕ). addresses_end j s at base size) next_left ∙ rw (sym e)
 
-  at_refused : {k p : ℕ} → Refused k p ≡ number_at s at → addresses_at left s at base ≡ []
+  at_refused : {r : Refusal} {p : ℕ} → Err (r, p) ≡ number_at s at → addresses_at left s at base ≡ []
   unfolding addresses_at
   at_refused e = ap (λ (j : ℕ). addresses_at j s at base) next_left ∙ rw (sym e)
 
-  at_value : {v next : ℕ} → Value v next ≡ number_at s at → addresses_at left s at base ≡ (base + v) ∷ addresses_at (left - 1) s next (base + v + 1)
+  at_value : {v next : ℕ} → Ok (v, next) ≡ number_at s at → addresses_at left s at base ≡ (base + v) ∷ addresses_at (left - 1) s next (base + v + 1)
   unfolding addresses_at
   at_value e = ap (λ (j : ℕ). addresses_at j s at base) next_left ∙ rw (sym e)
 
@@ -50,19 +52,19 @@ pub record Checking (m : ℕ) (s : List ℕ) (size left at base : ℕ) : Type 0 
   pub same : addresses_end m s 0 0 size ≡ addresses_end left s at base size
 
 module _ {m : ℕ} {s : List ℕ} {size left at base : ℕ} (I : Checking m s size left at base) where
-  pub checked : left ≤ 0 → Value base at ≡ addresses_end m s 0 0 size
+  pub checked : left ≤ 0 → Ok (base, at) ≡ addresses_end m s 0 0 size
   unfolding addresses_end
   checked h = let z : 0 ≡ left = omega arith in ap (λ (j : ℕ). addresses_end j s at base size) z ∙ sym I.same
 
   module _ (more : 0 < left) where
-    pub check_refused : {k p : ℕ} → Refused k p ≡ number_at s at → Refused k p ≡ addresses_end m s 0 0 size
+    pub check_refused : {r : Refusal} {p : ℕ} → Err (r, p) ≡ number_at s at → Err (r, p) ≡ addresses_end m s 0 0 size
     check_refused e = sym (I.same ∙ end_refused left s at base more size (tested_refused (address_tests base size) at e))
 
-    module _ {v next : ℕ} (e : Value v next ≡ number_at s at) where
-      pub check_over : size ≤ base + v → Refused 12 at ≡ addresses_end m s 0 0 size
+    module _ {v next : ℕ} (e : Ok (v, next) ≡ number_at s at) where
+      pub check_over : size ≤ base + v → Err (Address, at) ≡ addresses_end m s 0 0 size
       unfolding first
       check_over h =
-          sym (I.same ∙ end_refused left s at base more size (tested_fails (address_tests base size) at e (rw (le-leb size (base + v) h)) refl))
+          sym (I.same ∙ end_refused left s at base more size (tested_fails (address_tests base size) at 12 e (rw (le-leb size (base + v) h)) refl))
 
       pub check_on : base + v < size → Checking m s size (left - 1) next (base + v + 1)
       unfolding first
@@ -84,11 +86,11 @@ module _ {m : ℕ} {s old now : List ℕ} {left at base : ℕ} (I : Writing m s 
   written h = let z : 0 ≡ left = omega arith in ap (λ (j : ℕ). with_bits now (addresses_at j s at base)) z ∙ sym I.same
 
   module _ (more : 0 < left) where
-    pub write_refused : {k p : ℕ} → Refused k p ≡ number_at s at → now ≡ with_bits old (addresses_at m s 0 0)
+    pub write_refused : {r : Refusal} {p : ℕ} → Err (r, p) ≡ number_at s at → now ≡ with_bits old (addresses_at m s 0 0)
     unfolding with_bits
     write_refused e = sym (I.same ∙ ap (with_bits now) (at_refused left s at base more e))
 
-    module _ {v next : ℕ} (e : Value v next ≡ number_at s at) where
+    module _ {v next : ℕ} (e : Ok (v, next) ≡ number_at s at) where
       this : addresses_at left s at base ≡ (base + v) ∷ addresses_at (left - 1) s next (base + v + 1)
       this = at_value left s at base more e
 

@@ -1,15 +1,14 @@
 -- What RULES says of a notice (Tables and the notice, Refusal numbers), as laws of its definitions: an accepted notice names what the table then holds, a
 -- refused one writes nothing, and the tail question agrees with the reader; and how far in a refusal's place can be. Proved in proofs/Laws.antt.
-use Rattle.std.specs.Prelude.{◌≡◌, ◌≢◌, true, false, List, [], ◌∷◌, ℕ, ◌+◌, ◌^◌, ◌≤◌, length, drop, replicate}
+use Rattle.std.specs.Prelude.{◌≡◌, ◌≢◌, true, false, List, [], ◌∷◌, ℕ, ◌+◌, ◌^◌, ◌≤◌, length, drop, replicate, Ok, Err}
 use Rattle.cube.specs.Count.{count}
 use Rattle.cube.specs.Tables.{table_len, node_bit, unused_set}
 use Rattle.groups.specs.Number.{number_at}
-use Rattle.groups.specs.declared.Number.TheVariants.{Value}
-use Rattle.groups.specs.declared.Number.TheVariants as number
+use Rattle.cube.specs.Refused.{number}
+use Rattle.cube.specs.declared.refusals.Refusal.{Refusal}
+use Rattle.cube.specs.declared.refusals.Refusal.TheVariants.{Address, Count, Cut, Group, Length}
 use Rattle.notice.specs.Addresses.{rising, among}
-use Rattle.notice.specs.Notice.{dimension_at, notice_of, noticed, addresses_of, refusal_of, table_after, tail_at}
-use Rattle.notice.specs.declared.Noticed.{Noticed}
-use Rattle.notice.specs.declared.Noticed.TheVariants.{Notice, Refused}
+use Rattle.notice.specs.Notice.{Noticed, a_notice, dimension_at, notice_of, noticed, addresses_of, refusal_of, table_after, tail_at}
 
 -- an accepted notice at the front of the bytes s
 pub record ReadNotice (s : List ℕ) (n m taken : ℕ) : Type 0 where
@@ -23,10 +22,10 @@ pub record ReadNotice (s : List ℕ) (n m taken : ℕ) : Type 0 where
   pub counted : length (addresses_of s) ≡ m
   pub rises : rising 0 (2 ^ n) (addresses_of s) ≡ true
 
--- a notice that is refused with k at a place
-pub record RefusedNotice (s : List ℕ) (k at : ℕ) : Type 0 where
+-- a notice that is refused with r at a place
+pub record RefusedNotice (s : List ℕ) (r : Refusal) (at : ℕ) : Type 0 where
   -- the number is one of the table's
-  pub number : (1 ≤ k) × (k ≤ 12)
+  pub number : (1 ≤ number r) × (number r ≤ 12)
   -- the place is among the bytes, or where they end, and never further in than the longest notice
   pub within : at ≤ length s
   pub near : at ≤ 4099
@@ -42,7 +41,7 @@ pub record TableOf (n m : ℕ) (l after : List ℕ) : Type 0 where
 
 -- a notice whose count is zero, before the place `next`: it names no node
 pub record NoneFaulty (s t : List ℕ) (n next : ℕ) : Type 0 where
-  pub answer : noticed s t ≡ Notice n 0 next
+  pub answer : noticed s t ≡ a_notice n 0 next
   pub clear : table_after s t ≡ replicate (length t) 0
   pub tail : tail_at s ≡ next
 
@@ -52,40 +51,41 @@ listing_bytes = 0x04 ∷ 0x04 ∷ 0x02 ∷ 0x01 ∷ 0x03 ∷ 0x06 ∷ 0x0D ∷ 0
 
 pub record NoticeLaws : Type 0 where
   -- accepted, "the notice reader overwrites all of the fault table and returns dimension, count and the number of bytes the notice took"
-  pub accepted : (s t : List ℕ) (n m taken : ℕ) → noticed s t ≡ Notice n m taken → ReadNotice s n m taken
-  pub written : (s t : List ℕ) (n m taken : ℕ) → noticed s t ≡ Notice n m taken → TableOf n m (addresses_of s) (table_after s t)
+  pub accepted : (s t : List ℕ) (n m taken : ℕ) → noticed s t ≡ a_notice n m taken → ReadNotice s n m taken
+  pub written : (s t : List ℕ) (n m taken : ℕ) → noticed s t ≡ a_notice n m taken → TableOf n m (addresses_of s) (table_after s t)
   -- "a count of zero ends the notice"
   pub none_faulty :
-      (s t : List ℕ) (n at next : ℕ) → dimension_at s ≡ Value n at → length t ≡ table_len n → number_at s at ≡ Value 0 next
+      (s t : List ℕ) (n at next : ℕ) → dimension_at s ≡ Ok (n, at) → length t ≡ table_len n → number_at s at ≡ Ok (0, next)
       → NoneFaulty s t n next
   -- "Refused: lent tables keep every byte"
-  pub kept : (s t : List ℕ) (k at : ℕ) → noticed s t ≡ Refused k at → table_after s t ≡ t
-  pub refused : (s t : List ℕ) (k at : ℕ) → noticed s t ≡ Refused k at → RefusedNotice s k at
+  pub kept : (s t : List ℕ) (r : Refusal) (at : ℕ) → noticed s t ≡ Err (r, at) → table_after s t ≡ t
+  pub refused : (s t : List ℕ) (r : Refusal) (at : ℕ) → noticed s t ≡ Err (r, at) → RefusedNotice s r at
   -- the dimension by itself: what it refuses, the reader refuses alike, whatever table it is lent,
-  pub dimension_refused : (s t : List ℕ) (k at : ℕ) → dimension_at s ≡ number.Refused k at → noticed s t ≡ Refused k at
+  pub dimension_refused : (s t : List ℕ) (r : Refusal) (at : ℕ) → dimension_at s ≡ Err (r, at) → noticed s t ≡ Err (r, at)
   -- at the first byte,
-  pub dimension_place : (s : List ℕ) (k at : ℕ) → dimension_at s ≡ number.Refused k at → at ≡ 0
+  pub dimension_place : (s : List ℕ) (r : Refusal) (at : ℕ) → dimension_at s ≡ Err (r, at) → at ≡ 0
   -- a table that was sized by it is not refused for its length,
   pub dimension_sizes :
-      (s t : List ℕ) (n next k at : ℕ) → dimension_at s ≡ Value n next → length t ≡ table_len n → noticed s t ≡ Refused k at → 9 ≤ k
+      (s t : List ℕ) (n next : ℕ) (r : Refusal) (at : ℕ) → dimension_at s ≡ Ok (n, next) → length t ≡ table_len n → noticed s t ≡ Err (r, at)
+      → 9 ≤ number r
   -- and it is the dimension of an accepted notice
-  pub dimension_read : (s t : List ℕ) (n next n' m taken : ℕ) → dimension_at s ≡ Value n next → noticed s t ≡ Notice n' m taken → n' ≡ n
+  pub dimension_read : (s t : List ℕ) (n next n' m taken : ℕ) → dimension_at s ≡ Ok (n, next) → noticed s t ≡ a_notice n' m taken → n' ≡ n
   -- the tail question "isn't given" the table's length: it takes for a notice, or refuses, what the reader does, unless the reader answers 2
   pub same_notice : (s t : List ℕ) (x : Noticed) → noticed s t ≡ x → refusal_of x ≢ 2 → notice_of s ≡ x
   -- "one question gives the bytes after the first notice"
-  pub tail_behind : (s t : List ℕ) (n m taken : ℕ) → noticed s t ≡ Notice n m taken → tail_at s ≡ taken
+  pub tail_behind : (s t : List ℕ) (n m taken : ℕ) → noticed s t ≡ a_notice n m taken → tail_at s ≡ taken
   -- "if the notice is refused for anything but the table's length, it gives the empty part at their end"
-  pub tail_empty : (s t : List ℕ) (k at : ℕ) → noticed s t ≡ Refused k at → k ≢ 2 → (tail_at s ≡ length s) × (drop (tail_at s) s ≡ [])
+  pub tail_empty : (s t : List ℕ) (r : Refusal) (at : ℕ) → noticed s t ≡ Err (r, at) → number r ≢ 2 → (tail_at s ≡ length s) × (drop (tail_at s) s ≡ [])
   -- the listing's notice, read over an old table
-  pub listing_answer : noticed listing_bytes (0 ∷ 255 ∷ []) ≡ Notice 4 4 6
+  pub listing_answer : noticed listing_bytes (0 ∷ 255 ∷ []) ≡ a_notice 4 4 6
   pub listing_nodes : addresses_of listing_bytes ≡ 2 ∷ 4 ∷ 8 ∷ 15 ∷ []
   pub listing_table : table_after listing_bytes (0 ∷ 255 ∷ []) ≡ 0x14 ∷ 0x81 ∷ []
   pub listing_tail : tail_at listing_bytes ≡ 6
   -- a missing count, behind a table of the wrong length and of the right one: 2 stands before it
-  pub two_first : noticed (0x04 ∷ []) (0 ∷ []) ≡ Refused 2 0
-  pub nine_then : noticed (0x04 ∷ []) (0 ∷ 0 ∷ []) ≡ Refused 9 1
+  pub two_first : noticed (0x04 ∷ []) (0 ∷ []) ≡ Err (Length, 0)
+  pub nine_then : noticed (0x04 ∷ []) (0 ∷ 0 ∷ []) ≡ Err (Cut, 1)
   -- places: a count of 17, a second address that is ill written, one that is node 16, and one that is missing
-  pub eleven_place : noticed (0x04 ∷ 0x11 ∷ 0x00 ∷ []) (0 ∷ 0 ∷ []) ≡ Refused 11 1
-  pub ten_place : noticed (0x04 ∷ 0x02 ∷ 0x03 ∷ 0x81 ∷ 0x00 ∷ []) (0 ∷ 0 ∷ []) ≡ Refused 10 3
-  pub twelve_place : noticed (0x04 ∷ 0x02 ∷ 0x03 ∷ 0x0C ∷ []) (0 ∷ 0 ∷ []) ≡ Refused 12 3
-  pub end_place : noticed (0x04 ∷ 0x02 ∷ 0x03 ∷ []) (0 ∷ 0 ∷ []) ≡ Refused 9 3
+  pub eleven_place : noticed (0x04 ∷ 0x11 ∷ 0x00 ∷ []) (0 ∷ 0 ∷ []) ≡ Err (Count, 1)
+  pub ten_place : noticed (0x04 ∷ 0x02 ∷ 0x03 ∷ 0x81 ∷ 0x00 ∷ []) (0 ∷ 0 ∷ []) ≡ Err (Group, 3)
+  pub twelve_place : noticed (0x04 ∷ 0x02 ∷ 0x03 ∷ 0x0C ∷ []) (0 ∷ 0 ∷ []) ≡ Err (Address, 3)
+  pub end_place : noticed (0x04 ∷ 0x02 ∷ 0x03 ∷ []) (0 ∷ 0 ∷ []) ≡ Err (Cut, 3)

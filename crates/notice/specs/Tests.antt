@@ -1,15 +1,15 @@
 -- The refusals of a notice (RULES, Refusal numbers), as tables. "Notice: left to right; each number 9 or 10 first, then its value (1 after the dimension, then
 -- 2 for the lent fault table, 11 after the count, 12 at each address)."
-use Rattle.std.specs.Prelude.{cond, not, List, [], ◌∷◌, ℕ, ◌+◌, ◌^◌, eqb, leb, ltb, length}
+use Rattle.std.specs.Prelude.{cond, not, List, [], ◌∷◌, ℕ, ◌+◌, ◌^◌, eqb, leb, ltb, length, Ok, Err}
 use Rattle.cube.specs.Refusal.{Test, first, ◌⇒◌}
 use Rattle.cube.specs.Tables.{is_dimension, table_len}
-use Rattle.groups.specs.Number.{on_number}
-use Rattle.groups.specs.declared.Number.{Number}
-use Rattle.groups.specs.declared.Number.TheVariants.{Value, Refused}
+use Rattle.cube.specs.Refused.{refusal}
+use Rattle.groups.specs.Number.{Number, on_number}
 
 -- a number that begins at place `at`, with the tests of its value: 9 or 10 stays, and then the first test that holds refuses it, at that place
 unfoldable pub tested : (ℕ → List Test) → (at : ℕ) → Number → Number
-tested tests at x = on_number x Refused (λ v next. cond (eqb (first (tests v)) 0) (Value v next) (Refused (first (tests v)) at))
+tested tests at x =
+    on_number x (λ r place. Err (r, place)) (λ v next. cond (eqb (first (tests v)) 0) (Ok (v, next)) (Err (refusal (first (tests v)), at)))
 
 -- the dimension n; then, for the lent fault table t, its length
 abbrev pub dimension_tests : (n : ℕ) → List Test

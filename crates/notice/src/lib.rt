@@ -3,59 +3,61 @@
 #![tactic(auto)]
 
 ghost use Rattle.std.specs.Prelude.{◌+◌, ◌*◌, ◌/◌, ◌<◌, ◌≤◌, drop, length, replicate, true, ◌≡◌};
-ghost use Rattle.groups.specs.Number.{place_in, refusal_in};
 ghost use Rattle.notice.specs.Addresses.{addresses_at, addresses_end, rising, with_bit, with_bits};
-ghost use Rattle.notice.specs.Notice.{dimension_at, noticed, rest_at, table_after, tail_at};
+ghost use Rattle.notice.specs.Notice.{count_at, dimension_at, noticed, rest_at, table_after, tail_at};
 
+use cube::refusals::Refusal;
 use cube::{is_dimension, nodes, table_len};
 use groups::{Number, number_at};
 
-// A notice: its dimension, its count of faulty nodes and the bytes it took; or the refusal, with the place where the number begins that it is about.
-#[derive(Drop)]
-pub enum Noticed {
-    Notice(usize, usize, usize),
-    Refused(u32, usize),
+// A notice: its dimension, its count of faulty nodes and the bytes it took.
+#[derive(Clone, Copy, Drop)]
+pub struct Notice {
+    pub n: usize,
+    pub count: usize,
+    pub taken: usize,
 }
 
-// What follows a dimension: the count, where the addresses begin and where they end; or the refusal with its place.
-#[derive(Drop)]
-enum Rest {
-    Addresses(usize, usize, usize),
-    Refused(u32, usize),
+// What is read of one: the notice, or the refusal, with the place where the number begins that it is about.
+pub type Noticed = Result<Notice, (Refusal, usize)>;
+
+// What follows a dimension: the count, where the addresses begin and where they end.
+#[derive(Clone, Copy, Drop)]
+struct Found {
+    count: usize,
+    start: usize,
+    end: usize,
 }
 
-// The number of a refusal, and 0 where there is none.
-fn refusal(number: Number) -> u32
-    ensures { result ≡ refusal_in number }
-{
-    match number {
-        Number::Value(_, _) => 0,
-        Number::Refused(k, _) => k,
-    }
-}
-
-// The place of a refusal, and 0 where there is none.
-fn place(number: Number) -> usize
-    ensures { result ≡ place_in number }
-{
-    match number {
-        Number::Value(_, _) => 0,
-        Number::Refused(_, at) => at,
-    }
-}
+type Rest = Result<Found, (Refusal, usize)>;
 
 // The dimension of the notice at the front of the bytes, with the next place, or the refusal.
 pub fn dimension(bytes: &[u8]) -> Number
     ensures { result ≡ dimension_at bytes.now }
 {
     let number = number_at(bytes, 0);
-    let Number::Value(n, next) = number else {
+    let Ok((n, next)) = number else {
         return number;
     };
     if is_dimension(n) {
-        return Number::Value(n, next);
+        return Ok((n, next));
     }
-    Number::Refused(1, 0)
+    Err((Refusal::Dimension, 0))
+}
+
+// The count of faulty nodes behind a dimension n, with the next place, or the refusal.
+fn count(bytes: &[u8], n: usize, at: usize) -> Number
+    requires { n ≤ 12 }
+    ensures { result ≡ count_at n bytes.now at }
+{
+    let number = number_at(bytes, at);
+    let Ok((m, next)) = number else {
+        return number;
+    };
+    if nodes(n) < m {
+        return Err((Refusal::Count, at));
+    }
+    Ok((m, next))
 }
 
 // The checking pass of the address reader: it is handed the bytes behind the count, and writes nothing. It answers where a next address would be
@@ -69,18 +71,18 @@ fn check_addresses(bytes: &[u8], m: usize, size: usize) -> Number
     let mut base: usize = 0;
     while 0 < due {
         let number = number_at(bytes, at);
-        let Number::Value(v, next) = number else {
+        let Ok((v, next)) = number else {
             return number;
         };
         let address = base + v;
         if size <= address {
-            return Number::Refused(12, at);
+            return Err((Refusal::Address, at));
         }
         base = address + 1;
         at = next;
         due -= 1;
     }
-    Number::Value(base, at)
+    Ok((base, at))
 }
 
 // The count and the addresses behind it, checked. The address reader's places begin where its bytes do.
@@ -88,30 +90,22 @@ fn check_rest(bytes: &[u8], n: usize, at: usize) -> Rest
     requires { n ≤ 12 }
     ensures { result ≡ rest_at n bytes.now at }
 {
-    let size = nodes(n);
-    let count = number_at(bytes, at);
-    let Number::Value(m, start) = count else {
-        return Rest::Refused(refusal(count), place(count));
-    };
-    if size < m {
-        return Rest::Refused(11, at);
+    let (m, start) = count(bytes, n, at)?;
+    match check_addresses(&bytes[start..], m, nodes(n)) {
+        Ok((_, taken)) => Ok(Found {
+            count: m,
+            start,
+            end: start + taken,
+        }),
+        Err((refusal, place)) => Err((refusal, start + place)),
     }
-    let addresses = check_addresses(&bytes[start..], m, size);
-    let Number::Value(_, taken) = addresses else {
-        return Rest::Refused(refusal(addresses), start + place(addresses));
-    };
-    Rest::Addresses(m, start, start + taken)
 }
 
 // Sets every bit of a fault table to 0.
 pub fn clear(faults: &mut [u8])
     ensures { faults.new ≡ replicate (length faults.old) 0 }
 {
-    let mut i: usize = 0;
-    while i < faults.len() {
-        faults[i] = 0;
-        i += 1;
-    }
+    faults.fill(0);
 }
 
 // Sets node k's bit.
@@ -134,7 +128,7 @@ fn write_addresses(bytes: &[u8], m: usize, faults: &mut [u8])
     let mut base: usize = 0;
     while 0 < left {
         let number = number_at(bytes, at);
-        let Number::Value(v, next) = number else {
+        let Ok((v, next)) = number else {
             return;
         };
         let node = base + v;
@@ -150,22 +144,18 @@ pub fn read(bytes: &[u8], faults: &mut [u8]) -> Noticed
     ensures answer { result ≡ noticed bytes.now faults.old }
     ensures table { faults.new ≡ table_after bytes.now faults.old }
 {
-    let first = dimension(bytes);
-    let Number::Value(n, at) = first else {
-        return Noticed::Refused(refusal(first), place(first));
-    };
+    let (n, at) = dimension(bytes)?;
     if faults.len() != table_len(n) {
-        return Noticed::Refused(2, 0);
+        return Err((Refusal::Length, 0));
     }
-    let found = check_rest(bytes, n, at);
-    match found {
-        Rest::Refused(k, at) => Noticed::Refused(k, at),
-        Rest::Addresses(m, start, end) => {
-            clear(faults);
-            write_addresses(&bytes[start..], m, faults);
-            Noticed::Notice(n, m, end)
-        }
-    }
+    let found = check_rest(bytes, n, at)?;
+    clear(faults);
+    write_addresses(&bytes[found.start..], found.count, faults);
+    Ok(Notice {
+        n,
+        count: found.count,
+        taken: found.end,
+    })
 }
 
 // The bytes after the first notice, as a part of the caller's own memory: of a refused notice the empty part at their end.
@@ -174,13 +164,11 @@ pub fn tail(bytes: &[u8]) -> &[u8]
     ensures place { result.ref_ptr ≡ (bytes.entry.ref_ptr.0, bytes.entry.ref_ptr.1 + tail_at bytes.now) }
 {
     let end = bytes.len();
-    let first = dimension(bytes);
-    let Number::Value(n, at) = first else {
+    let Ok((n, at)) = dimension(bytes) else {
         return &bytes[end..end];
     };
-    let notice = check_rest(bytes, n, at);
-    let Rest::Addresses(_, _, next) = notice else {
+    let Ok(found) = check_rest(bytes, n, at) else {
         return &bytes[end..end];
     };
-    &bytes[next..]
+    &bytes[found.end..]
 }

@@ -11,15 +11,15 @@ returns-in_default c =
 
 pub overflow_add-address : goal.overflow_add-address
 overflow_add-address c =
-    omega (arith, c.loop-due.invariant.low, (read_number _ _ _ _ (sym c.number_at-number.ensures ∙ c.in-Value.is)).small)
+    omega (arith, c.loop-due.invariant.low, (read_number _ _ _ _ (sym c.number_at-number.ensures ∙ c.in-Ok.is)).small)
 
 pub returns-then-size-address : goal.returns-then-size-address
 returns-then-size-address c =
-    check_over c.loop-due.invariant (omega arith) (sym c.in-Value.is ∙ c.number_at-number.ensures) (omega arith)
+    check_over c.loop-due.invariant (omega arith) (sym c.in-Ok.is ∙ c.number_at-number.ensures) (omega arith)
 
 pub loop-due-preserved : goal.loop-due-preserved
 loop-due-preserved c =
-    check_on c.loop-due.invariant (omega arith) (sym c.in-Value.is ∙ c.number_at-number.ensures) c.if-size-address.false
+    check_on c.loop-due.invariant (omega arith) (sym c.in-Ok.is ∙ c.number_at-number.ensures) c.if-size-address.false
 
 pub returns : goal.returns
 returns c = checked c.loop-due.invariant (omega arith)

@@ -15,9 +15,9 @@ returns-in_default c =
 pub returns-then-is_dimension : goal.returns-then-is_dimension
 unfolding dimension_at first
 returns-then-is_dimension c =
-    tested_passes dimension_tests 0 (sym c.in-Value.is ∙ c.number_at-number.ensures) (rw (sym c.is_dimension.ensures ∙ c.if-is_dimension.true))
+    tested_passes dimension_tests 0 (sym c.in-Ok.is ∙ c.number_at-number.ensures) (rw (sym c.is_dimension.ensures ∙ c.if-is_dimension.true))
 
 pub returns : goal.returns
 unfolding dimension_at first
 returns c =
-    tested_fails dimension_tests 0 (sym c.in-Value.is ∙ c.number_at-number.ensures) (rw (sym c.is_dimension.ensures ∙ c.if-is_dimension.false)) refl
+    tested_fails dimension_tests 0 1 (sym c.in-Ok.is ∙ c.number_at-number.ensures) (rw (sym c.is_dimension.ensures ∙ c.if-is_dimension.false)) refl

@@ -8,26 +8,26 @@ use Rattle.notice.proofs.tail.Goals as goal
 pub returns-in_default : goal.returns-in_default
 unfolding notice_of
 returns-in_default c =
-    tail_part c.args.bytes.now c.args.bytes.ref_ptr.0 c.args.bytes.ref_ptr.1 _ _ (tail_refused _ (notice-refused _ (sym c.in_default.is ∙ c.dimension-first.ensures)))
+    tail_part c.args.bytes.now c.args.bytes.ref_ptr.0 c.args.bytes.ref_ptr.1 _ _ (tail_refused _ (notice-refused _ (sym c.in_default.is ∙ c.dimension.ensures)))
 
-pub check_rest-notice-requires : goal.check_rest-notice-requires
-check_rest-notice-requires c = small _ (sym c.in-Value.is ∙ c.dimension-first.ensures)
+pub check_rest-requires : goal.check_rest-requires
+check_rest-requires c = small _ (sym c.in-Ok.is ∙ c.dimension.ensures)
 
-pub returns-in_default-notice : goal.returns-in_default-notice
+pub returns-in_default-check_rest : goal.returns-in_default-check_rest
 unfolding notice_of
-returns-in_default-notice c =
-    let bad = sym c.in_default-notice.is ∙ c.check_rest-notice.ensures in
-    tail_part c.args.bytes.now c.args.bytes.ref_ptr.0 c.args.bytes.ref_ptr.1 _ _ (tail_refused _ (notice_bad _ (sym c.in-Value.is ∙ c.dimension-first.ensures) bad))
+returns-in_default-check_rest c =
+    let bad = sym c.in_default-check_rest.is ∙ c.check_rest.ensures in
+    tail_part c.args.bytes.now c.args.bytes.ref_ptr.0 c.args.bytes.ref_ptr.1 _ _ (tail_refused _ (notice_bad _ (sym c.in-Ok.is ∙ c.dimension.ensures) bad))
 
 pub slice_bounds-result-count-2 : goal.slice_bounds-result-count-2
 slice_bounds-result-count-2 c =
-    (rest_read _ (sym c.in-Value.is ∙ c.dimension-first.ensures) (sym c.in-Addresses.is ∙ c.check_rest-notice.ensures)).within
+    (rest_read _ (sym c.in-Ok.is ∙ c.dimension.ensures) (sym c.in-Ok-check_rest.is ∙ c.check_rest.ensures)).within
 
 pub slice_bounds-result-start-2 : goal.slice_bounds-result-start-2
 slice_bounds-result-start-2 c =
-    (rest_read _ (sym c.in-Value.is ∙ c.dimension-first.ensures) (sym c.in-Addresses.is ∙ c.check_rest-notice.ensures)).within
+    (rest_read _ (sym c.in-Ok.is ∙ c.dimension.ensures) (sym c.in-Ok-check_rest.is ∙ c.check_rest.ensures)).within
 
 pub returns : goal.returns
 unfolding notice_of
 returns c =
-    tail_part c.args.bytes.now c.args.bytes.ref_ptr.0 c.args.bytes.ref_ptr.1 _ _ (tail_good _ (notice_good _ (sym c.in-Value.is ∙ c.dimension-first.ensures) (sym c.in-Addresses.is ∙ c.check_rest-notice.ensures)))
+    tail_part c.args.bytes.now c.args.bytes.ref_ptr.0 c.args.bytes.ref_ptr.1 _ _ (tail_good _ (notice_good _ (sym c.in-Ok.is ∙ c.dimension.ensures) (sym c.in-Ok-check_rest.is ∙ c.check_rest.ensures)))

@@ -4,11 +4,11 @@ use native.Mathlib.Omega.{arith}
 use lib.ListN.{length}
 use Rattle.notice.proofs.Passes.{written, write_refused, write_below, write_on}
 use Rattle.notice.proofs.write_addresses.Goals as goal
-use Rattle.notice.proofs.write_addresses.Goals.{In-Value}
+use Rattle.notice.proofs.write_addresses.Goals.{In-Ok}
 
 -- the turn's address has its bit in the table, and so it is small
-below : (c : goal.In-Value) → c.loop-left.base + c.in-Value.v < 8 * length c.loop-left.faults
-below c = write_below c.loop-left.invariant (omega arith) (sym c.in-Value.is ∙ c.number_at-number.ensures)
+below : (c : goal.In-Ok) → c.loop-left.base + c.in-Ok.v < 8 * length c.loop-left.faults
+below c = write_below c.loop-left.invariant (omega arith) (sym c.in-Ok.is ∙ c.number_at-number.ensures)
 
 pub returns-in_default : goal.returns-in_default
 returns-in_default c =
@@ -18,14 +18,14 @@ pub overflow_add-node : goal.overflow_add-node
 overflow_add-node c = omega (arith, below c, c.loop-left.invariant.sized, c.requires.faults_len_bound)
 
 pub set_bit-requires : goal.set_bit-requires
-set_bit-requires c = omega (arith, below (goal.at.set_bit-requires c).In-Value)
+set_bit-requires c = omega (arith, below (goal.at.set_bit-requires c).In-Ok)
 
 pub overflow_add-base : goal.overflow_add-base
-overflow_add-base c = omega (arith, below (goal.at.overflow_add-base c).In-Value, c.loop-left.invariant.sized, c.requires.faults_len_bound)
+overflow_add-base c = omega (arith, below (goal.at.overflow_add-base c).In-Ok, c.loop-left.invariant.sized, c.requires.faults_len_bound)
 
 pub loop-left-preserved : goal.loop-left-preserved
 loop-left-preserved c =
-    write_on c.loop-left.invariant (omega arith) (sym c.in-Value.is ∙ c.number_at-number.ensures) c.set_bit.ensures
+    write_on c.loop-left.invariant (omega arith) (sym c.in-Ok.is ∙ c.number_at-number.ensures) c.set_bit.ensures
 
 pub returns : goal.returns
 returns c = written c.loop-left.invariant (omega arith)
