@@ -146,10 +146,8 @@ pub fn start(n: usize, faults: &[u8], draining: &[u8], closed: &[u8], labels: &m
     requires labels_len { length labels.old ≡ 2 ^ n }
     ensures { labels.new ≡ tab (2 ^ n) (started (λ x. (node_bit faults.now x || node_bit closed.now x) || node_bit draining.now x)) }
 {
-    let mut k: usize = 0;
-    while k < labels.len() {
-        labels[k] = start_byte(faults, draining, closed, k);
-        k = k + 1;
+    for (k, label) in labels.iter_mut().enumerate() {
+        *label = start_byte(faults, draining, closed, k);
     }
 }
 
@@ -161,14 +159,12 @@ pub fn sweep(n: usize, rule: usize, labels: &mut [u8]) -> usize
     ensures marked { result ≡ count (2 ^ n) (fresh n rule labels.old) }
     ensures labels { labels.new ≡ tab (2 ^ n) (swept n rule labels.old) }
 {
-    let mut marked: usize = 0;
-    let mut x: usize = 0;
-    while x < labels.len() {
+    let mut marked = 0;
+    for x in 0..labels.len() {
         if is_fresh(n, rule, labels, x) {
             labels[x] = NEW;
-            marked = marked + 1;
+            marked += 1;
         }
-        x = x + 1;
     }
     marked
 }
@@ -183,10 +179,8 @@ fn settled_byte(byte: u8) -> u8
 pub fn settle(labels: &mut [u8])
     ensures { labels.new ≡ tab (length labels.old) (settled labels.old) }
 {
-    let mut x: usize = 0;
-    while x < labels.len() {
-        labels[x] = settled_byte(labels[x]);
-        x = x + 1;
+    for label in labels.iter_mut() {
+        *label = settled_byte(*label);
     }
 }
 
@@ -225,11 +219,9 @@ pub fn finish(n: usize, faults: &[u8], closed: &[u8], labels: &mut [u8])
     requires sized { Sized n labels.old }
     ensures { labels.new ≡ tab (2 ^ n) (finished n (λ y. cond (node_bit faults.now y || node_bit closed.now y) 3 4) labels.old) }
 {
-    let mut x: usize = 0;
-    while x < labels.len() {
+    for x in 0..labels.len() {
         if MARKED <= labels[x] {
             labels[x] = final_byte(n, faults, closed, labels, x);
         }
-        x = x + 1;
     }
 }

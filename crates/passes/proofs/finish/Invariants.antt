@@ -1,7 +1,5 @@
--- `finish` goes once through the table. Invariant: the places before x hold the bytes of the end; the measure is what is left.
+-- `finish` goes once through the table. Invariant: the places before x hold the bytes of the end.
 use mathlib.Core.Bool.{cond, ◌||◌}
-use Prim.Native.Nat.{◌-◌}
-use lib.ListN.{length}
 use Rattle.cube.specs.Tables.{node_bit}
 use Rattle.passes.specs.Passes.{finished}
 use Rattle.cube.proofs.Filling.{Filled}
@@ -9,6 +7,3 @@ use Rattle.passes.proofs.finish.Given as goal
 
 abbrev pub invariant-loop-x : goal.invariant-loop-x
 invariant-loop-x l = Filled (finished l.n (λ y. cond (node_bit l.faults y || node_bit l.closed y) 3 4) l.initial.labels) l.initial.labels l.labels l.x
-
-abbrev pub decreases-loop-x : goal.decreases-loop-x
-decreases-loop-x l = length l.initial.labels - l.x

@@ -5,13 +5,13 @@ use Rattle.passes.specs.Passes.{settled}
 use Rattle.cube.proofs.Filling.{fill_start, fill_here, fill_write, fill_end}
 use Rattle.passes.proofs.settle.Goals as goal
 
-pub loop-x-init : goal.loop-x-init
-loop-x-init c = fill_start _ _
+pub loop-label-init : goal.loop-label-init
+loop-label-init c = fill_start _ _
 
-pub loop-x-preserved : goal.loop-x-preserved
+pub loop-label-preserved : goal.loop-label-preserved
 unfolding settled label_in
-loop-x-preserved c =
-    fill_write _ _ _ _ c.loop-x.invariant _ (omega arith) (c.settled_byte.ensures ∙ rw (fill_here _ _ _ _ c.loop-x.invariant))
+loop-label-preserved c =
+    fill_write _ _ _ _ c.loop-label.invariant _ (omega arith) (c.settled_byte.ensures ∙ rw (fill_here _ _ _ _ c.loop-label.invariant))
 
 pub returns : goal.returns
-returns c = fill_end _ _ _ _ c.loop-x.invariant _ refl (omega arith)
+returns c = fill_end _ _ _ _ c.loop-label.invariant _ refl (omega arith)

@@ -1,7 +1,5 @@
--- `start` goes once through the table. Invariant: the places before k hold the bytes of the start; the measure is what is left.
+-- `start` goes once through the table. Invariant: the places before k hold the bytes of the start.
 use mathlib.Core.Bool.{◌||◌}
-use Prim.Native.Nat.{◌-◌}
-use lib.ListN.{length}
 use Rattle.cube.specs.Tables.{node_bit}
 use Rattle.passes.specs.Passes.{started}
 use Rattle.cube.proofs.Filling.{Filled}
@@ -9,6 +7,3 @@ use Rattle.passes.proofs.start.Given as goal
 
 abbrev pub invariant-loop-k : goal.invariant-loop-k
 invariant-loop-k l = Filled (started (λ x. (node_bit l.faults x || node_bit l.closed x) || node_bit l.draining x)) l.initial.labels l.labels l.k
-
-abbrev pub decreases-loop-k : goal.decreases-loop-k
-decreases-loop-k l = length l.initial.labels - l.k

@@ -1,7 +1,5 @@
 -- `sweep` goes once through the table. Invariant: the places before x are marked as the round marks them, and `marked` of them are new.
 use mathlib.Core.Path.{◌≡◌}
-use Prim.Native.Nat.{◌-◌}
-use lib.ListN.{length}
 use Rattle.cube.specs.Count.{count}
 use Rattle.passes.specs.Passes.{fresh, swept}
 use Rattle.cube.proofs.Filling.{Filled}
@@ -10,6 +8,3 @@ use Rattle.passes.proofs.sweep.Given as goal
 abbrev pub invariant-loop-x : goal.invariant-loop-x
 invariant-loop-x l =
     Filled (swept l.n l.rule l.initial.labels) l.initial.labels l.labels l.x × (l.marked ≡ count l.x (fresh l.n l.rule l.initial.labels))
-
-abbrev pub decreases-loop-x : goal.decreases-loop-x
-decreases-loop-x l = length l.initial.labels - l.x
