@@ -5,7 +5,10 @@ use mathlib.Core.Path.{refl}
 use Prim.Native.Nat.{ℕ}
 use lib.ListN.{length}
 use Rattle.cube.specs.Allowed.{AsksNothing, Function, Nothing}
+use Rattle.std.specs.Prelude.{Result}
 use Rattle.cube.proofs.Contracts.{Says}
+use Rattle.cube.specs.Refused.{answered}
+use Rattle.cube.specs.declared.refusals.Refusal.{Refusal}
 use Rattle.cube.specs.Tables.{label_in}
 use Rattle.jobs.specs.Jobs.{label_for}
 use Rattle.walk.specs.Helpers.{table_refusal}
@@ -53,7 +56,7 @@ pub walk_for_says : Says walk-for (λ i. walked i.0 i.1 i.2 i.3 (length i.4) i.5
 walk_for_says = record { says = λ κs a r e p. (p, refl) }
 
 -- handed the dimension, both nodes and the labels
-abbrev pub table-refusal : Function table_refusal.ended (ℕ × ℕ × ℕ × List ℕ) ℕ Nothing
+abbrev pub table-refusal : Function table_refusal.ended (ℕ × ℕ × ℕ × List ℕ) (Result Unit Refusal) Nothing
 table-refusal =
     record {
       clauses = λ w. table_refusal.clauses w.𝓛 w.𝓜.mem w.𝓡.returns;
@@ -64,5 +67,5 @@ table-refusal =
       left = λ κs e. tt;
     }
 
-pub table_refusal_says : Says table-refusal (λ i. table_refusal i.0 i.1 i.2 (label_in i.3)) (λ i. tt)
+pub table_refusal_says : Says table-refusal (λ i. answered (table_refusal i.0 i.1 i.2 (label_in i.3)) tt) (λ i. tt)
 table_refusal_says = record { says = λ κs a r e p. (p, refl) }

@@ -2,10 +2,13 @@
 use mathlib.Core.Path.{◌≡◌, refl, sym, ap, ap₂, ◌∙◌}
 use mathlib.Core.Bool.{cond, not}
 use Prim.Native.Nat.{ℕ, zero, suc, ◌+◌, ◌^◌, ◌<◌}
-use native.Mathlib.Decide.{ℕ_discrete}
 use lib.Dec.{eqb, leb, ltb}
+use Rattle.std.specs.Prelude.{Result, Ok, Err}
 use Rattle.cube.specs.Cube.{flip}
+use Rattle.cube.specs.Refused.{answered, number}
+use Rattle.cube.specs.declared.refusals.Refusal.{Refusal}
 use Rattle.cube.specs.Tables.{highest}
+use Rattle.cube.proofs.Refused.{accepted}
 use Rattle.cube.proofs.Search.{least_same, some_same}
 use Rattle.cube.proofs.Cube.{flip_lt}
 use Rattle.cube.proofs.Front.{tab_cong}
@@ -15,8 +18,8 @@ use Rattle.hop.specs.declared.Decision.TheVariants.{Deliver, Hop, Halted}
 use Rattle.hop.proofs.Local.{hop_dim, hop_same}
 use Rattle.hop.proofs.Refusals.{placed}
 use Rattle.walk.specs.Local.{WalkLocal}
-use Rattle.walk.specs.Walk.{onto, stops, spot, turn, hops, last, route, row, row_bytes, walk_from, walk_refusal, walked}
-use Rattle.walk.proofs.Refusals.{walk_misplaced}
+use Rattle.walk.specs.Walk.{onto, stops, spot, turn, hops, last, refused, route, row, row_bytes, walk_from, walk_refusal, walked}
+use Rattle.walk.proofs.Refusals.{walk_answered, walk_misplaced}
 
 -- where every hop is across one of the n dimensions, it stays in the cube
 module _ (n : ℕ) (go : ℕ → Decision) (across : (x i : ℕ) → go x ≡ Hop i → i < n) (s : ℕ) (hs : s < 2 ^ n) where
@@ -88,14 +91,14 @@ module _ (n j s d m room : ℕ) (lab lab' : ℕ → ℕ) (same : (x : ℕ) → x
       decides x h = hop_same n lab lab' x d (same x h) (λ i l. same (flip i x) (flip_lt n i x l h))
 
   walked_same : walked n j s d m room lab ≡ walked n j s d m room lab'
-  walked_same =
-      elim (ℕ_discrete k 0) [
-        | yes e ↦ let p = placed n j s d m (not (eqb room row_bytes)) e in inside_same p.first p.second
-        | no e ↦ sym (walk_misplaced n j s d m room lab k refl e) ∙ walk_misplaced n j s d m room lab' k refl e
-      ]
+  walked_same = by (answered (place_refusal n j s d m (not (eqb room row_bytes))) 0) refl
     where
-      k : ℕ
-      k = place_refusal n j s d m (not (eqb room row_bytes))
+      by : (a : Result ℕ Refusal) → answered (place_refusal n j s d m (not (eqb room row_bytes))) 0 ≡ a
+          → walked n j s d m room lab ≡ walked n j s d m room lab'
+      by (Ok x) e = let p = placed n j s d m (not (eqb room row_bytes)) (accepted _ _ _ e).0 in inside_same p.first p.second
+      by (Err r) e =
+          sym (walk_answered n j s d m room lab (Err r) (sym (walk_misplaced n j s d m room lab 0 r e)) (refused (number r)) refl)
+          ∙ walk_answered n j s d m room lab' (Err r) (sym (walk_misplaced n j s d m room lab' 0 r e)) (refused (number r)) refl
 
 pub walk_local : WalkLocal
 walk_local = walked_same

@@ -1,58 +1,110 @@
 -- The refusals of a walk, from those that the code finds one after the other: first what needs no label, then what the labels give, and 8 where the
 -- walk would go on. The question's table is these parts in a row, so the first part that refuses gives the number of the whole.
 use mathlib.Core.Path.{◌≡◌, refl, sym, ◌∙◌}
-use mathlib.Core.Logic.{◌≢◌, ⊎_elim}
-use mathlib.Core.Bool.{Bool, true, false, not}
-use mathlib.Core.List.{List, [], ◌∷◌, ◌++◌}
+use mathlib.Core.Logic.{◌≢◌}
+use mathlib.Core.Bool.{Bool, true, not}
+use mathlib.Core.List.{List, ◌++◌}
 use Prim.Native.Nat.{ℕ, ◌^◌, ◌≤◌, ◌<◌}
 use native.Mathlib.Omega.{arith}
 use lib.Dec.{eqb, ltb}
+use Rattle.std.specs.Prelude.{Result, Err, Ok}
+use Rattle.std.specs.Result.{MatchResult}
 use borrow.Author.Tests.{eqb-false, eqb-true, leb-false, ltb-false, ne_eqb, not-false}
-use Rattle.cube.specs.Refusal.{Test, first, ◌⇒◌}
+use Rattle.cube.specs.Refusal.{Test, first}
+use Rattle.cube.specs.Refused.{answered, number, refusal}
+use Rattle.cube.specs.declared.refusals.Refusal.{Refusal}
+use Rattle.cube.specs.declared.refusals.Refusal.TheVariants.{
+  Dimension,
+  Length,
+  Unused,
+  Label,
+  Node,
+  Source,
+  Destination,
+  Hops,
+  Cut,
+  Group,
+  Count,
+  Address,
+  Room,
+  Text,
+  Board,
+  Network,
+  Mask,
+  Rule,
+  Job,
+}
 use Rattle.cube.specs.Tables.{highest, is_dimension}
-use Rattle.cube.proofs.Bools.{by_cases, either}
-use Rattle.cube.proofs.Refusal.{first_none, first_passes, first_stops}
+use Rattle.cube.proofs.Bools.{by_cases}
+use Rattle.cube.proofs.Refusal.{first_le, first_none, first_passes}
+use Rattle.cube.proofs.Refused.{accepted, refuses, refusing}
 use Rattle.cube.proofs.Search.{none_some}
 use Rattle.hop.specs.Helpers.{Asked, place_refusal}
-use Rattle.hop.proofs.Refusals.{good_place, misplaced, well_placed}
-use Rattle.walk.specs.Helpers.{table_refusal, walk_or_refusal}
-use Rattle.walk.specs.Walk.{last, refused, route, row_bytes, stops, table_tests, walk_from, walk_refusal, walk_tests, walked}
+use Rattle.hop.proofs.Refusals.{good_place, misplaced, refuses_first, well_placed}
+use Rattle.walk.specs.Helpers.{table_refusal, walk_asked, walk_or_refusal}
+use Rattle.walk.specs.Walk.{hops_tests, last, refused, route, row_bytes, stops, table_tests, walk_from, walk_refusal, walk_tests, walked}
 use Rattle.walk.specs.declared.Walked.{Walked}
 use Rattle.walk.proofs.Steps.{hops_within}
+
+-- every refusal is that with its number
+pub refusal_of_number : (r : Refusal) → refusal (number r) ≡ r
+refusal_of_number Dimension = refl
+refusal_of_number Length = refl
+refusal_of_number Unused = refl
+refusal_of_number Label = refl
+refusal_of_number Node = refl
+refusal_of_number Source = refl
+refusal_of_number Destination = refl
+refusal_of_number Hops = refl
+refusal_of_number Cut = refl
+refusal_of_number Group = refl
+refusal_of_number Count = refl
+refusal_of_number Address = refl
+refusal_of_number Room = refl
+refusal_of_number Text = refl
+refusal_of_number Board = refl
+refusal_of_number Network = refl
+refusal_of_number Mask = refl
+refusal_of_number Rule = refl
+refusal_of_number Job = refl
 
 module _ (n j s d m room : ℕ) (lab : ℕ → ℕ) where
   abbrev wrong : Bool
   wrong = not (eqb room row_bytes)
 
   abbrev eight : List Test
-  eight = not (stops (last n (route n lab d) s)) ⇒ 8 ∷ []
+  eight = hops_tests n s d lab
 
-  walk_stops : (k : ℕ) → (k ≡ 0 → ⊥) → walk_refusal n j s d m room lab ≡ k → refused k ≡ walked n j s d m room lab
-  unfolding walked
-  walk_stops k h e = rw (e, ne_eqb k 0 h)
+  -- the walk, or the refused one
+  pub walk_answered : (a : Result Walked Refusal) → a ≡ walk_asked n j s d m room lab → (w : Walked) → MatchResult a (λ x. w ≡ x) (λ r. w ≡ refused (number r))
+      → w ≡ walked n j s d m room lab
+  unfolding walk_asked walked walk_refusal first
+  walk_answered (Ok x) e w h =
+      let a = accepted (walk_refusal n j s d m room lab) (walk_from n (route n lab d) s) x (sym e) in
+      h ∙ rw a.0 (sym a.1)
+  walk_answered (Err r) e w h =
+      let k = walk_refusal n j s d m room lab in
+      let l : k ≤ 19 = first_le 19 (walk_tests n j s d m room lab) refl in
+      let x = walk_from n (route n lab d) s in
+      h ∙ rw (refuses k x r l (sym e), ne_eqb (number r) 0 (λ z. refusing k x r (sym e) (refuses k x r l (sym e) ∙ z)))
 
   -- a place that is refused is the whole answer
-  pub walk_misplaced : (k : ℕ) → k ≡ place_refusal n j s d m wrong → (k ≡ 0 → ⊥) → refused k ≡ walked n j s d m room lab
-  unfolding walk_refusal
-  walk_misplaced k e h = walk_stops k h (misplaced n j s d m wrong (table_tests n s d lab ++ eight) k e h)
+  pub walk_misplaced : {A : Type 0} (x : A) (r : Refusal) → answered (place_refusal n j s d m wrong) x ≡ Err r → walk_asked n j s d m room lab ≡ Err r
+  unfolding walk_asked walk_refusal
+  walk_misplaced x r e = misplaced n j s d m wrong (table_tests n s d lab ++ eight) x (walk_from n (route n lab d) s) r e
 
   module _ (good : place_refusal n j s d m wrong ≡ 0) where
     walk_placed : walk_refusal n j s d m room lab ≡ first (table_tests n s d lab ++ eight)
     unfolding walk_refusal
     walk_placed = well_placed n j s d m wrong (table_tests n s d lab ++ eight) good
 
-    pub walk_refuses : (k : ℕ) → k ≡ table_refusal n s d lab → (k ≡ 0 → ⊥) → refused k ≡ walked n j s d m room lab
-    unfolding table_refusal
-    walk_refuses k e h = walk_stops k h (walk_placed ∙ first_stops (table_tests n s d lab) eight (λ z. h (e ∙ z)) ∙ sym e)
+    pub walk_refuses : {A : Type 0} (x : A) (r : Refusal) → answered (table_refusal n s d lab) x ≡ Err r → walk_asked n j s d m room lab ≡ Err r
+    unfolding walk_asked table_refusal
+    walk_refuses x r e = rw walk_placed (refuses_first (table_tests n s d lab) eight x (walk_from n (route n lab d) s) r e)
 
-    pub walk_starts : table_refusal n s d lab ≡ 0 → walk_or_refusal n lab d s ≡ walked n j s d m room lab
-    unfolding walked table_refusal walk_or_refusal first
-    walk_starts e =
-        ⊎_elim (λ (t : stops (last n (route n lab d) s) ≡ true). rw (f, t)) (λ (t : stops (last n (route n lab d) s) ≡ false). rw (f, t))
-        (either (stops (last n (route n lab d) s)))
-      where
-        f : walk_refusal n j s d m room lab ≡ first eight
-        f = walk_placed ∙ first_passes (table_tests n s d lab) eight (first_none 7 (table_tests n s d lab) refl e)
+    pub walk_starts : table_refusal n s d lab ≡ 0 → walk_or_refusal n lab d s ≡ walk_asked n j s d m room lab
+    unfolding walk_asked table_refusal walk_or_refusal
+    walk_starts e = rw (walk_placed ∙ first_passes (table_tests n s d lab) eight (first_none 7 (table_tests n s d lab) refl e))
 
 -- ---- what a walk has that is not refused: every test passes
 

@@ -11,7 +11,10 @@ use borrow.Author.Count.{below_more}
 use borrow.Author.Tests.{le-leb, lt-leb}
 use lib.Dec.{leb}
 use lib.ListN.{replicate, set}
+use Rattle.std.specs.Prelude.{Ok, Err}
 use Rattle.cube.specs.Cube.{flip}
+use Rattle.cube.specs.Refusal.{first}
+use Rattle.cube.specs.declared.refusals.Refusal.TheVariants.{Hops}
 use Rattle.cube.specs.Tables.{tab}
 use Rattle.cube.proofs.Bools.{clash}
 use Rattle.cube.proofs.Search.{Least, least_is, the_least}
@@ -19,7 +22,7 @@ use Rattle.cube.proofs.Cube.{flip_lt}
 use Rattle.cube.proofs.Front.{front, front_zero, front_zeros, front_write}
 use Rattle.walk.specs.Helpers.{walk_or_refusal}
 use Rattle.hop.specs.Hop.{hop}
-use Rattle.walk.specs.Walk.{ending_of, onto, stops, spot, turn, hops, last, route, row, walk_from, moved, refused}
+use Rattle.walk.specs.Walk.{ending_of, onto, stops, spot, turn, hops, last, route, row, walk_from, moved}
 use Rattle.hop.specs.declared.Decision.{Decision}
 use Rattle.hop.specs.declared.Decision.TheVariants.{Deliver, Hop, Halted}
 use Rattle.walk.specs.declared.Message.{Message}
@@ -120,19 +123,19 @@ module _ (n : ℕ) (lab : ℕ → ℕ) (d s : ℕ) where
           })
 
       -- n + 4 hops are done, and the decision is another
-      pub too_long : n + 4 ≤ m.hops → refused 8 ≡ walk_or_refusal n lab d s
-      unfolding walk_or_refusal last stops
+      pub too_long : n + 4 ≤ m.hops → Err Hops ≡ walk_or_refusal n lab d s
+      unfolding walk_or_refusal first last stops
       too_long l =
           let e8 = hops_is (λ h. absurd (omega arith)) in
           rw (e8, turn_is (Hop i) e)
 
     -- the decision is no hop
     pub ends : (x : Decision) → n ≤ 12 → x ≡ hop n lab m.at m.to → stops x ≡ true
-        → record { row = places; hops = m.hops; ending = ending_of x } ≡ walk_or_refusal n lab d s
-    unfolding walk_or_refusal walk_from last row
+        → Ok (record { row = places; hops = m.hops; ending = ending_of x }) ≡ walk_or_refusal n lab d s
+    unfolding walk_or_refusal walk_from first last row
     ends x small e h =
         let z = hops_is (λ _. ap stops (turn_is x e) ∙ h) in
-        rw (z, turn_is x e, h) (ap (λ (r : List ℕ). record { row = r; hops = m.hops; ending = ending_of x }) (w.written ∙ rest))
+        rw (z, turn_is x e, h) (ap (λ (r : List ℕ). Ok (record { row = r; hops = m.hops; ending = ending_of x })) (w.written ∙ rest))
       where
         rest : front (spot (route n lab d) s) (m.hops + 1) (replicate 17 0) ≡ tab 17 (λ k. cond (leb k m.hops) (spot (route n lab d) s k) 0)
         rest =

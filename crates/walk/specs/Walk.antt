@@ -6,6 +6,8 @@ use Rattle.std.specs.Prelude.{Bool, true, false, cond, not, List, [], ◌∷◌,
 use Rattle.cube.specs.Count.{least, some}
 use Rattle.cube.specs.Cube.{flip}
 use Rattle.cube.specs.Refusal.{Test, first, ◌⇒◌}
+use Rattle.cube.specs.Refused.{number, refusal}
+use Rattle.cube.specs.declared.refusals.Refusal.TheVariants.{Hops}
 use Rattle.cube.specs.Tables.{highest, tab}
 use Rattle.hop.specs.Hop.{hop, node_tests, size_tests}
 use Rattle.hop.specs.declared.Decision.{Decision}
@@ -66,11 +68,15 @@ table_tests n s d lab =
     ∷ eqb (lab d) 3 ⇒ 7
     ∷ []
 
+-- that of a walk that goes on after n + 4 hops
+abbrev pub hops_tests : (n s d : ℕ) (lab : ℕ → ℕ) → List Test
+hops_tests n s d lab = not (stops (last n (route n lab d) s)) ⇒ 8 ∷ []
+
 -- all of them in order, 1, 19, 2 (labels, then row), 5, 4, 6, 7, 8, for a caller who lends a row of `room` bytes
 abbrev pub walk_tests : (n j s d m room : ℕ) (lab : ℕ → ℕ) → List Test
 walk_tests n j s d m room lab =
     size_tests n j m ++ (not (eqb room row_bytes) ⇒ 2 ∷ node_tests n s d)
-    ++ (table_tests n s d lab ++ (not (stops (last n (route n lab d) s)) ⇒ 8 ∷ []))
+    ++ (table_tests n s d lab ++ hops_tests n s d lab)
 
 unfoldable pub walk_refusal : (n j s d m room : ℕ) (lab : ℕ → ℕ) → ℕ
 walk_refusal n j s d m room lab = first (walk_tests n j s d m room lab)
@@ -78,7 +84,7 @@ walk_refusal n j s d m room lab = first (walk_tests n j s d m room lab)
 -- how a walk ends, by its last decision. (One whose last decision is a hop is refused, by the table.)
 abbrev pub ending_of : Decision → Ending
 ending_of Deliver = ending.Delivered
-ending_of (Hop i) = ending.Refused 8
+ending_of (Hop i) = ending.Refused Hops
 ending_of Halted = ending.Halted
 
 -- the answer: the walk, or the refusal, which has hop count 0 and a row of zeros
@@ -86,7 +92,7 @@ unfoldable pub walk_from : (n : ℕ) (go : ℕ → Decision) (s : ℕ) → Walke
 walk_from n go s = record { row = row n go s; hops = hops n go s; ending = ending_of (last n go s) }
 
 unfoldable pub refused : ℕ → Walked
-refused k = record { row = replicate 17 0; hops = 0; ending = ending.Refused k }
+refused k = record { row = replicate 17 0; hops = 0; ending = ending.Refused (refusal k) }
 
 unfoldable pub walked : (n j s d m room : ℕ) (lab : ℕ → ℕ) → Walked
 walked n j s d m room lab = cond (eqb (walk_refusal n j s d m room lab) 0) (walk_from n (route n lab d) s) (refused (walk_refusal n j s d m room lab))
@@ -99,9 +105,9 @@ moved m i = record { at = flip i m.at; to = m.to; hops = m.hops + 1 }
 abbrev pub refusal_of : Ending → ℕ
 refusal_of ending.Delivered = 0
 refusal_of ending.Halted = 0
-refusal_of (ending.Refused k) = k
+refusal_of (ending.Refused r) = number r
 
 abbrev pub kind_of : Ending → ℕ
 kind_of ending.Delivered = 0
 kind_of ending.Halted = 1
-kind_of (ending.Refused k) = 0
+kind_of (ending.Refused r) = 0

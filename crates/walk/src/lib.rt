@@ -4,12 +4,14 @@
 
 ghost use Rattle.std.specs.Prelude.{◌<◌, length, ◌≡◌};
 ghost use Rattle.cube.specs.Count.{larger, largest};
+ghost use Rattle.cube.specs.Refused.{answered, number};
 ghost use Rattle.cube.specs.Tables.{label_in};
 ghost use Rattle.hop.specs.Helpers.{Placed};
 ghost use Rattle.jobs.specs.Jobs.{label_for};
-ghost use Rattle.walk.specs.Helpers.{table_refusal, walk_or_refusal};
+ghost use Rattle.walk.specs.Helpers.{table_refusal, walk_asked, walk_or_refusal};
 ghost use Rattle.walk.specs.Walk.{moved, refused, row_bytes, walked};
 
+use cube::refusals::Refusal;
 use cube::{HIGHEST, neighbour};
 use hop::{Decision, hop_at, place_refusal};
 use jobs::half;
@@ -28,7 +30,7 @@ pub struct Message {
 pub enum Ending {
     Delivered,
     Halted,
-    Refused(u32),
+    Refused(Refusal),
 }
 
 #[derive(Clone, Copy)]
@@ -56,18 +58,18 @@ impl Message {
 }
 
 // A refused walk: hop count 0 and a row of zeros.
-fn refused(k: u32) -> Walked
-    ensures { result ≡ refused k }
+fn refused(refusal: Refusal) -> Walked
+    ensures { result ≡ refused (number refusal) }
 {
     Walked {
         row: [0u16; 17],
         hops: 0,
-        ending: Ending::Refused(k),
+        ending: Ending::Refused(refusal),
     }
 }
 
-// The walk from s: a message is moved until a decision is no hop. 8 where it would go on after n + 4 hops.
-fn walk_or_refusal(n: usize, s: usize, d: usize, labels: &[u8]) -> Walked
+// The walk from s: a message is moved until a decision is no hop. It is refused where it would go on after n + 4 hops.
+fn walk_or_refusal(n: usize, s: usize, d: usize, labels: &[u8]) -> Result<Walked, Refusal>
     requires { Placed n s d (length labels.now) }
     ensures { result ≡ walk_or_refusal n (label_in labels.now) d s }
 {
@@ -83,19 +85,19 @@ fn walk_or_refusal(n: usize, s: usize, d: usize, labels: &[u8]) -> Walked
         let to = m.to;
         let hops = m.hops;
         match hop_at(n, at, to, labels) {
-            Decision::Deliver => return Walked {
+            Decision::Deliver => return Ok(Walked {
                 row,
                 hops,
                 ending: Ending::Delivered,
-            },
-            Decision::Halted => return Walked {
+            }),
+            Decision::Halted => return Ok(Walked {
                 row,
                 hops,
                 ending: Ending::Halted,
-            },
+            }),
             Decision::Hop(i) => {
                 if n + 4 <= hops {
-                    return refused(8);
+                    return Err(Refusal::Hops);
                 }
                 m = m.moved(i);
                 let next = m.at;
@@ -125,37 +127,45 @@ fn largest(labels: &[u8]) -> u8
     high
 }
 
-// The refusals that the labels give, 0 for none.
-pub fn table_refusal(n: usize, s: usize, d: usize, labels: &[u8]) -> u32
+// The refusals that the labels give.
+pub fn table_refusal(n: usize, s: usize, d: usize, labels: &[u8]) -> Result<(), Refusal>
     requires { Placed n s d (length labels.now) }
-    ensures { result ≡ table_refusal n s d (label_in labels.now) }
+    ensures { result ≡ answered (table_refusal n s d (label_in labels.now)) tt }
 {
     if HIGHEST < largest(labels) {
-        return 4;
+        return Err(Refusal::Label);
     }
     if 3 <= labels[s] {
-        return 6;
+        return Err(Refusal::Source);
     }
     if labels[d] == 3 {
-        return 7;
+        return Err(Refusal::Destination);
     }
-    0
+    Ok(())
+}
+
+// The walk from s to d for a job, or why it is refused.
+fn walk_asked(
+    n: usize,
+    job: usize,
+    s: usize,
+    d: usize,
+    labels: &[u8],
+    room: usize,
+) -> Result<Walked, Refusal>
+    ensures { result ≡ walk_asked n job s d (length labels.now) room (label_for n job labels.now) }
+{
+    place_refusal(n, job, s, d, labels.len(), room != ROW_BYTES)?;
+    let table = half(n, job, labels);
+    table_refusal(n, s, d, table)?;
+    walk_or_refusal(n, s, d, table)
 }
 
 // The walk from s to d for a job, for a caller who lends a row of `room` bytes: another length than 34 is refused.
 pub fn walk_for(n: usize, job: usize, s: usize, d: usize, labels: &[u8], room: usize) -> Walked
     ensures { result ≡ walked n job s d (length labels.now) room (label_for n job labels.now) }
 {
-    let by_place = place_refusal(n, job, s, d, labels.len(), room != ROW_BYTES);
-    if by_place != 0 {
-        return refused(by_place);
-    }
-    let table = half(n, job, labels);
-    let by_labels = table_refusal(n, s, d, table);
-    if by_labels != 0 {
-        return refused(by_labels);
-    }
-    walk_or_refusal(n, s, d, table)
+    walk_asked(n, job, s, d, labels, room).unwrap_or_else(refused)
 }
 
 // The walk from s to d for a job, for a caller who takes the row from the answer.

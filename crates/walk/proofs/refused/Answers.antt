@@ -1,8 +1,8 @@
 -- `refused` is the definition itself.
-use mathlib.Core.Path.{refl}
 use Rattle.walk.specs.Walk.{refused}
+use Rattle.walk.proofs.Refusals.{refusal_of_number}
 use Rattle.walk.proofs.refused.Goals as goal
 
 pub returns : goal.returns
 unfolding refused
-returns c = refl
+returns c = rw refusal_of_number

@@ -1,4 +1,4 @@
-use mathlib.Core.Path.{refl, ◌∙◌}
+use mathlib.Core.Path.{refl}
 use Prim.Native.Nat.{◌+◌}
 use native.Mathlib.Omega.{arith}
 use lib.ListN.{set}
@@ -30,7 +30,7 @@ returns-in-Halted c =
 
 pub returns-then-n-hops : goal.returns-then-n-hops
 returns-then-n-hops c =
-    c.refused.ensures ∙ too_long _ _ _ _ _ _ c.loop-row.invariant _ c.in-Hop.ensures c.if-n-hops.true
+    too_long _ _ _ _ _ _ c.loop-row.invariant _ c.in-Hop.ensures c.if-n-hops.true
 
 pub moved-m-requires : goal.moved-m-requires
 moved-m-requires c =
