@@ -1,53 +1,89 @@
--- Texts that are put into a buffer: one behind the other they are one text, and at the front of the buffer they are a line. A text that is copied to its
--- place byte by byte has its first i bytes there after i steps.
+-- Texts put behind what a line has: one behind the other they are one text, and a text that a new line has room for is all there.
 use mathlib.Core.Path.{◌≡◌, refl, sym, ap, ◌∙◌}
-use mathlib.Core.List.{List, [], ◌++◌, append_assoc, append-nil}
-use Prim.Native.Nat.{ℕ, ◌+◌, ◌≤◌, ◌<◌}
+use mathlib.Core.List.{List, [], ◌∷◌, ◌++◌, append_assoc, append-nil, map}
+use mathlib.Core.Logic.{⊎_elim}
+use mathlib.Core.Bool.{true, false}
+use Prim.Native.Nat.{ℕ, zero, suc, ◌+◌, ◌-◌, ◌*◌, ◌/◌, ◌^◌, ◌≤◌, min}
 use native.Mathlib.Numerals.{add-one}
 use native.Mathlib.Omega.{arith}
-use lib.ListN.{length, length-append, length-set, get_or, take, set}
-use lib.Seq.{paste, paste-zero, paste-suc, take-paste, take-length}
-use Rattle.lines.specs.Text.{Put}
+use lib.Dec.{leb, ltb}
+use lib.ListN.{get_or, length, length-append, length-take, take}
+use borrow.Author.Tests.{leb-true, leb-false}
+use Rattle.std.proofs.lemmas.List.{get_or-map, get_or-take, length-take-le, map-id, take-append-le, take_all}
+use Rattle.std.proofs.lemmas.Slice.{take-put_mid}
+use borrow.Rule.Slice.PartMut.{put_mid}
+use Rattle.std.proofs.Math.Seq.{take-append-add}
+use Rattle.cube.proofs.Bools.{either}
+use Rattle.cube.proofs.Search.{the_least}
+use Rattle.io.specs.Digits.{last_digits}
+use Rattle.lines.specs.Lines.{put, room, row_text}
+use Rattle.lines.specs.Text.{decimal, width}
 
--- nothing yet, and one text behind the other
-pub put_none : (a : List ℕ) (at : ℕ) → Put a at [] a at
-put_none a at = record { place = omega arith; front = sym (append-nil (take at a)) }
+pub put_none : (line : List ℕ) → length line ≤ room → line ≡ put line []
+unfolding put
+put_none line h = sym (ap (take room) (append-nil line) ∙ take_all room line h)
 
-pub put_then : {a b c x y : List ℕ} {at next end : ℕ} → Put a at x b next → Put b next y c end → Put a at (x ++ y) c end
-put_then {a} {b} {c} {x} {y} {at} {next} {end} p q = record {
-  place = omega (arith, p.place, q.place, length-append x y);
-  front = q.front ∙ ap (λ (t : List ℕ). t ++ y) p.front ∙ append_assoc (take at a) x y;
-}
+front_then : (a y : List ℕ) → take room (take room a ++ y) ≡ take room (a ++ y)
+front_then a y =
+    ⊎_elim (λ (t : leb (length a) room ≡ true). ap (λ (l : List ℕ). take room (l ++ y)) (take_all room a (leb-true (length a) room t)))
+    (λ (t : leb (length a) room ≡ false).
+    let over = leb-false (length a) room t in
+    take-append-le room (take room a) y (simp length-take (omega arith))
+    ∙ take_all room (take room a) (simp length-take (omega arith))
+    ∙ sym (take-append-le room a y (omega arith))) (either (leb (length a) room))
 
--- ---- a text that is copied: the buffer was d and is l, and the first i bytes of the text s stand at the place
+pub put_put : (line x y : List ℕ) → put (put line x) y ≡ put line (x ++ y)
+unfolding put
+put_put line x y = front_then (line ++ x) y ∙ ap (take room) (append_assoc line x y)
 
-pub record Copied (d : List ℕ) (at : ℕ) (s l : List ℕ) (i : ℕ) : Type 0 where
-  pub upto : i ≤ length s
-  pub sized : length l ≡ length d
-  pub table : l ≡ paste d at s i
+pub whole : (x : List ℕ) → length x ≤ room → put [] x ≡ x
+unfolding put
+whole x h = take_all room x h
 
-module _ (d : List ℕ) (at : ℕ) (s : List ℕ) where
-  pub copy_start : Copied d at s d 0
-  copy_start = record { upto = omega arith; sized = refl; table = paste-zero d at s }
+-- of a word what there is room for
+fitting : (word : List ℕ) (n left : ℕ) → n ≡ min (length word) left → take n word ≡ take left word
+fitting word n left e = grind (arith, take_all)
 
-  module _ (room : at + length s ≤ length d) (l : List ℕ) (i : ℕ) (P : Copied d at s l i) where
-    pub copy_step : i < length s → Copied d at s (set l (at + i) (get_or s i 0)) (i + 1)
-    copy_step h = record {
-      upto = omega arith;
-      sized = length-set l (at + i) (get_or s i 0) ∙ P.sized;
-      table =
-          ap (λ (m : List ℕ). set m (at + i) (get_or s i 0)) P.table
-          ∙ paste-suc d at s i 0 (omega arith) h
-          ∙ ap (λ (k : ℕ). paste d at s k) (sym (add-one i));
-    }
+-- in a line's bytes: the first `len` are its text, and those behind are written over by what there is room for
+pub copied : (bytes word new : List ℕ) (len n k : ℕ) → length bytes ≡ room → len ≤ room → n ≡ min (length word) (room - len) → new ≡ take n word
+    → take (len + n) (put_mid len k bytes new) ≡ put (take len bytes) word
+unfolding put
+copied bytes word new len n k whole upto e m =
+    let line = take len bytes in
+    let long : length line ≡ len = simp length-take (omega arith) in
+    let left : room ≡ length line + (room - length line) = omega arith in
+    take-put_mid len k bytes new (len + n) (rw m (simp length-take (omega arith))) (omega arith)
+    ∙ ap (λ (l : List ℕ). line ++ l) (m ∙ fitting word n (room - length line) (omega arith))
+    ∙ sym (ap (λ (m : ℕ). take m (line ++ word)) left ∙ take-append-add line word (room - length line))
 
-    pub copy_end : length s ≤ i → Put d at s l (at + length s)
-    copy_end h =
-        let e : i ≡ length s = omega (arith, P.upto) in
-        record {
-          place = refl;
-          front =
-              ap (take (at + length s)) (P.table ∙ ap (λ (k : ℕ). paste d at s k) e)
-              ∙ take-paste d at s (length s) (omega arith) (omega arith)
-              ∙ ap (λ (m : List ℕ). take at d ++ m) (take-length s);
-        }
+-- ---- rows
+
+pub row_more : (row : List ℕ) (k n : ℕ) → get_or row k 0 ≡ n → row_text row (k + 1) ≡ row_text row k ++ 32 ∷ decimal n
+unfolding row_text
+row_more row k n e = rw (add-one, e)
+
+row_front : (row : List ℕ) (k n : ℕ) → k ≤ n → row_text (take n row) k ≡ row_text row k
+unfolding row_text
+row_front row zero n h = refl
+row_front row (suc k) n h = rw (row_front row k n (omega arith), get_or-take n row k 0 h)
+
+-- the front of a row, as `Line::row` is lent it
+pub row_upto : (row : List ℕ) (k : ℕ) → k ≤ length row → row_text (map (λ (n : ℕ). n) (take k row)) (length (take k row)) ≡ row_text row k
+row_upto row k h = rw (map-id, length-take-le k row h) (row_front row k k (omega arith))
+
+-- ---- none is too long
+
+digits_length : (b k n : ℕ) → length (last_digits b k n) ≡ k
+digits_length b zero n = refl
+digits_length b (suc k) n = simp length-append (omega (arith, digits_length b k (n / b)))
+
+pub few : (n : ℕ) → length (decimal n) ≤ 20
+unfolding decimal width
+few n = omega (arith, digits_length 10 (width n) n, (the_least 19 (λ k. ltb n (10 ^ suc k))).within)
+
+pub row_few : (row : List ℕ) (k : ℕ) → length (row_text row k) ≤ 21 * k
+unfolding row_text
+row_few row zero = omega arith
+row_few row (suc k) = simp length-append (omega (arith, row_few row k, few (get_or row k 0)))
+
+pub ruleset putting = (put_put, whole, few, row_few, append_assoc, append-nil, length-append, map-id, row_upto, row_more, get_or-map)

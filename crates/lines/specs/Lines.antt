@@ -1,14 +1,18 @@
 -- The lines of the listing program (RULES, The listing program) and of the tally (RULES, The tally).
-use Rattle.std.specs.Prelude.{List, [], ◌++◌, ℕ, zero, suc, ◌+◌, get_or}
+use Rattle.std.specs.Prelude.{List, [], ◌++◌, ℕ, zero, suc, ◌+◌, get_or, take}
 use Rattle.cube.specs.Tables.{label_count}
 use Rattle.walk.specs.declared.Ending.{Ending}
 use Rattle.walk.specs.declared.Ending.TheVariants as ending
 use Rattle.walk.specs.declared.Walked.{Walked}
 use Rattle.lines.specs.Text.{decimal, field, text}
 
--- the bytes that are lent for a line: none is longer
+-- the bytes that a line has room for: none is longer
 abbrev pub room : ℕ
 room = 1024
+
+-- a line with a text put behind what it has: of a text that is longer than the room that is left, only the front
+unfoldable pub put : (line x : List ℕ) → List ℕ
+put line x = take room (line ++ x)
 
 abbrev pub counts_text : (labels : List ℕ) → List ℕ
 counts_text labels = field " safe " (label_count labels 0) ++ field " ordinary " (label_count labels 1) ++ field " strong " (label_count labels 2)

@@ -1,5 +1,5 @@
--- Text as bytes: words, and numbers in decimal digits; and what it is that a text was put into a buffer.
-use Rattle.std.specs.Prelude.{◌≡◌, List, [], ◌∷◌, ◌++◌, ℕ, zero, suc, ◌+◌, ◌^◌, ltb, length, take}
+-- Text as bytes: words, and numbers in decimal digits.
+use Rattle.std.specs.Prelude.{List, [], ◌∷◌, ◌++◌, ℕ, zero, suc, ◌+◌, ◌^◌, ltb}
 use Prim.Native.Char.{code}
 use Prim.Native.String.{String, char_at, len}
 use Rattle.cube.specs.Count.{least}
@@ -24,8 +24,3 @@ decimal n = last_digits 10 (width n) n
 -- a word and a number
 abbrev pub field : String → ℕ → List ℕ
 field word n = text word ++ decimal n
-
--- x was put at place `at` of a buffer: it follows what stood before that place, and `end` is the place behind it
-pub record Put (before : List ℕ) (at : ℕ) (x after : List ℕ) (end : ℕ) : Type 0 where
-  pub place : end ≡ at + length x
-  pub front : take end after ≡ take at before ++ x

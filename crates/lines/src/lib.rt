@@ -1,223 +1,213 @@
-// The lines of the listing program and of the tally, made in a lent buffer of 1,024 bytes, which is room for any of them. A `put_` function writes at a
-// place and answers the place behind; the others make a line at the front of the buffer and answer its end.
-#![tactic(auto)]
+// The lines of the listing program and of the tally. A `Line` has room for 1,024 bytes, which is enough for any of them: what is put behind its text and does
+// not fit would be left off, and each function that makes a line shows that all of it is there.
+#![tactic(auto, using(crate::proofs::Putting::putting))]
 
-ghost use Rattle.std.specs.Prelude.{◌+◌, ◌≤◌, length, take, ◌++◌, ◌≡◌};
+ghost use Rattle.std.specs.Prelude.{[], length, ◌++◌, ◌≡◌, ◌≤◌, ◌+◌, ℕ, map, take};
 ghost use Rattle.cube.specs.Tables.{label_count};
-ghost use Rattle.lines.specs.Lines.{counts_text, cube_line, end_text, figures_line, pair_line, progress_line, room, row_text, size_line, too_long};
-ghost use Rattle.lines.specs.Text.{Put, decimal, field, text};
+ghost use Rattle.lines.specs.Lines.{cube_line, end_text, figures_line, pair_line, progress_line, put, row_text, size_line, too_long};
+ghost use Rattle.lines.specs.Text.{decimal, field, text};
 
+use cube::count_of;
+use std::marker::Model;
 use walk::{Ending, Walked};
 
-// ---- texts at a place
+// A number that a line holds in decimal digits.
+trait Numeral: Copy {
+    ghost value: { Self → ℕ };
 
-fn put_text(out: &mut [u8], at: usize, word: &[u8]) -> usize
-    requires { at + length word.now ≤ length out.old }
-    ensures { Put out.old at word.now out.new result }
-{
-    let mut i: usize = 0;
-    while i < word.len() {
-        out[at + i] = word[i];
-        i += 1;
-    }
-    at + word.len()
+    fn value(self) -> u64
+        ensures { result ≡ value self };
 }
 
-// A number: it has at most 20 digits.
-fn put_decimal(out: &mut [u8], at: usize, n: usize) -> usize
-    requires { at + 20 ≤ length out.old }
-    ensures text { Put out.old at (decimal n) out.new result }
-    ensures near { result ≤ at + 20 }
-{
-    let mut digits = [0u8; 20];
-    let k = io::decimal(n as u64, &mut digits);
-    put_text(out, at, &digits[..k])
-}
+impl Numeral for u16 {
+    ghost value = { λ n. n };
 
-// A word and a number.
-fn put_field(out: &mut [u8], at: usize, word: &[u8], n: usize) -> usize
-    requires { (length word.now ≤ 20) × (at + 40 ≤ length out.old) }
-    ensures text { Put out.old at (word.now ++ decimal n) out.new result }
-    ensures near { result ≤ at + 40 }
-{
-    let next = put_text(out, at, word);
-    put_decimal(out, next, n)
-}
-
-// ---- the first line
-
-fn put_count(out: &mut [u8], at: usize, word: &[u8], labels: &[u8], label: u8) -> usize
-    requires { (length word.now ≤ 20) × (at + 40 ≤ length out.old) }
-    ensures text { Put out.old at (word.now ++ decimal (label_count labels.now label)) out.new result }
-    ensures near { result ≤ at + 40 }
-{
-    put_field(out, at, word, cube::count_of(labels, label))
-}
-
-fn put_counts(out: &mut [u8], at: usize, labels: &[u8]) -> usize
-    requires { at + 120 ≤ length out.old }
-    ensures text { Put out.old at (counts_text labels.now) out.new result }
-    ensures near { result ≤ at + 120 }
-{
-    let safe = put_count(out, at, b" safe ", labels, 0);
-    let ordinary = put_count(out, safe, b" ordinary ", labels, 1);
-    put_count(out, ordinary, b" strong ", labels, 2)
-}
-
-pub fn cube_line(n: usize, faulty: usize, labels: &[u8], exchanges: usize, out: &mut [u8]) -> usize
-    requires { length out.old ≡ room }
-    ensures line { take result out.new ≡ cube_line n faulty labels.now exchanges }
-    ensures near { result ≤ room }
-{
-    let a = put_field(out, 0, b"cube ", n);
-    let b = put_field(out, a, b" faulty ", faulty);
-    let c = put_counts(out, b, labels);
-    let d = put_field(out, c, b" rounds ", exchanges);
-    put_text(out, d, b"\n")
-}
-
-// ---- the line of a pair
-
-fn put_node(out: &mut [u8], at: usize, node: u16) -> usize
-    requires { at + 40 ≤ length out.old }
-    ensures text { Put out.old at (text " " ++ decimal node) out.new result }
-    ensures near { result ≤ at + 40 }
-{
-    put_field(out, at, b" ", node as usize)
-}
-
-// The nodes visited.
-fn put_row(out: &mut [u8], at: usize, row: &[u16; 17], hops: usize) -> usize
-    requires { (hops ≤ 16) × (at + 680 ≤ length out.old) }
-    ensures text { Put out.old at (row_text row.now (hops + 1)) out.new result }
-    ensures near { result ≤ at + 680 }
-{
-    let mut end = at;
-    let mut k: usize = 0;
-    while k <= hops {
-        let node = row[k];
-        end = put_node(out, end, node);
-        k += 1;
-    }
-    end
-}
-
-// A walk that came to an end.
-fn put_walk(out: &mut [u8], at: usize, word: &[u8], row: &[u16; 17], hops: usize) -> usize
-    requires word_len_bound { length word.now ≤ 20 }
-    requires hops_bound { (hops ≤ 16) × (at + 720 ≤ length out.old) }
-    ensures text { Put out.old at (word.now ++ decimal hops ++ row_text row.now (hops + 1)) out.new result }
-    ensures near { result ≤ at + 720 }
-{
-    let next = put_field(out, at, word, hops);
-    put_row(out, next, row, hops)
-}
-
-fn put_ending(out: &mut [u8], at: usize, walked: Walked) -> usize
-    requires { (walked.hops ≤ 16) × (at + 720 ≤ length out.old) }
-    ensures text { Put out.old at (end_text walked.ending walked.hops walked.row) out.new result }
-    ensures near { result ≤ at + 720 }
-{
-    let row = walked.row;
-    let hops = walked.hops;
-    let ending = walked.ending;
-    match ending {
-        Ending::Delivered => put_walk(out, at, b" delivered ", &row, hops),
-        Ending::Halted => put_walk(out, at, b" halted ", &row, hops),
-        Ending::Refused(k) => put_field(out, at, b" refused ", k as usize),
+    fn value(self) -> u64 {
+        u64::from(self)
     }
 }
 
-pub fn pair_line(s: usize, d: usize, walked: Walked, out: &mut [u8]) -> usize
-    requires { (walked.hops ≤ 16) × (length out.old ≡ room) }
-    ensures line { take result out.new ≡ pair_line s d walked }
-    ensures near { result ≤ room }
-{
-    let a = put_decimal(out, 0, s);
-    let b = put_field(out, a, b" ", d);
-    let c = put_ending(out, b, walked);
-    put_text(out, c, b"\n")
+impl Numeral for u32 {
+    ghost value = { λ n. n };
+
+    fn value(self) -> u64 {
+        u64::from(self)
+    }
 }
 
-// ---- refusals
+impl Numeral for usize {
+    ghost value = { λ n. n };
+
+    fn value(self) -> u64 {
+        self as u64
+    }
+}
+
+// A text of at most 1,024 bytes.
+#[derive(Drop)]
+pub struct Line {
+    bytes: [u8; 1024],
+    len: usize,
+}
+
+impl Model for Line {
+    ghost use Rattle.std.specs.Prelude.{List, take, ℕ, ◌≤◌};
+    ghost use Rattle.lines.specs.Lines.{room};
+
+    ghost Value = { List ℕ };
+
+    ghost view = { λ l. take l.len l.bytes };
+
+    ghost invariant = { λ l. l.len ≤ room };
+}
+
+impl Line {
+    fn new() -> Line
+        ensures { result ≡ [] }
+    {
+        Line {
+            bytes: [0; 1024],
+            len: 0,
+        }
+    }
+
+    pub fn as_bytes(&self) -> &[u8]
+        ensures { result.now ≡ self.now }
+    {
+        &self.bytes[..self.len]
+    }
+
+    // As much of the word as there is room for.
+    fn text(&mut self, word: &[u8])
+        ensures { self.new ≡ put self.old word.now }
+    {
+        let n = word.len().min(1024 - self.len);
+        self.bytes[self.len..self.len + n].copy_from_slice(&word[..n]);
+        self.len += n;
+    }
+
+    fn number<N: Numeral>(&mut self, n: N)
+        ensures { self.new ≡ put self.old (decimal (N.value n)) }
+    {
+        let mut digits = [0u8; 20];
+        let k = io::decimal(n.value(), &mut digits);
+        self.text(&digits[..k]);
+    }
+
+    // A word and a number.
+    fn field<N: Numeral>(&mut self, word: &[u8], n: N)
+        ensures { self.new ≡ put self.old (word.now ++ decimal (N.value n)) }
+    {
+        self.text(word);
+        self.number(n);
+    }
+
+    // Numbers, each behind a space.
+    fn row<N: Numeral>(&mut self, numbers: &[N])
+        ensures { self.new ≡ put self.old (row_text (map N.value numbers.now) (length numbers.now)) }
+    {
+        let _ = &self.len; // no line is longer than its room
+        for n in numbers {
+            self.field(b" ", *n);
+        }
+    }
+
+    // A walk that came to an end: its hops, and the nodes visited.
+    fn nodes(&mut self, word: &[u8], walked: &Walked)
+        requires { walked.now.hops ≤ 16 }
+        ensures { self.new ≡ put self.old (word.now ++ decimal walked.now.hops ++ row_text walked.now.row (walked.now.hops + 1)) }
+    {
+        self.field(word, walked.hops);
+        self.row(&walked.row[..=walked.hops]);
+    }
+
+    fn ending(&mut self, walked: &Walked)
+        requires { walked.now.hops ≤ 16 }
+        ensures { self.new ≡ put self.old (end_text walked.now.ending walked.now.hops walked.now.row) }
+    {
+        match walked.ending {
+            Ending::Delivered => self.nodes(b" delivered ", walked),
+            Ending::Halted => self.nodes(b" halted ", walked),
+            Ending::Refused(refusal) => self.field(b" refused ", refusal),
+        }
+    }
+}
+
+// ---- the listing
+
+pub fn cube_line(n: usize, faulty: usize, labels: &[u8], exchanges: usize) -> Line
+    ensures { result ≡ cube_line n faulty labels.now exchanges }
+{
+    let mut line = Line::new();
+    line.field(b"cube ", n);
+    line.field(b" faulty ", faulty);
+    line.field(b" safe ", count_of(labels, 0));
+    line.field(b" ordinary ", count_of(labels, 1));
+    line.field(b" strong ", count_of(labels, 2));
+    line.field(b" rounds ", exchanges);
+    line.text(b"\n");
+    line
+}
+
+pub fn pair_line(s: usize, d: usize, walked: Walked) -> Line
+    requires { walked.hops ≤ 16 }
+    ensures { result ≡ pair_line s d walked }
+{
+    let mut line = Line::new();
+    line.number(s);
+    line.field(b" ", d);
+    line.ending(&walked);
+    line.text(b"\n");
+    line
+}
 
 // A word, the refusal, its place and the end of the line.
-pub fn refused_line(word: &[u8], k: u32, at: usize, out: &mut [u8]) -> usize
-    requires { (length word.now ≤ 20) × (length out.old ≡ room) }
-    ensures line { take result out.new ≡ (word.now ++ decimal k) ++ field " " at ++ text "\n" }
-    ensures near { result ≤ room }
+pub fn refused_line(word: &[u8], k: u32, at: usize) -> Line
+    requires { length word.now ≤ 20 }
+    ensures { result ≡ (word.now ++ decimal k) ++ field " " at ++ text "\n" }
 {
-    let refusal = put_field(out, 0, word, k as usize);
-    let place = put_field(out, refusal, b" ", at);
-    put_text(out, place, b"\n")
+    let mut line = Line::new();
+    line.field(word, k);
+    line.field(b" ", at);
+    line.text(b"\n");
+    line
 }
 
 // The only line of an input that is too long.
-pub fn long_line(out: &mut [u8]) -> usize
-    requires { length out.old ≡ room }
-    ensures line { take result out.new ≡ too_long }
-    ensures near { result ≤ room }
+pub fn long_line() -> Line
+    ensures { result ≡ too_long }
 {
-    put_text(out, 0, b"input too long\n")
+    let mut line = Line::new();
+    line.text(b"input too long\n");
+    line
 }
 
 // ---- the tally
 
-// A word, a number and the end of the line.
-fn field_line(word: &[u8], n: usize, out: &mut [u8]) -> usize
-    requires { (length word.now ≤ 20) × (length out.old ≡ room) }
-    ensures line { take result out.new ≡ (word.now ++ decimal n) ++ text "\n" }
-    ensures near { result ≤ room }
+pub fn size_line(n: usize) -> Line
+    ensures { result ≡ size_line n }
 {
-    let next = put_field(out, 0, word, n);
-    put_text(out, next, b"\n")
+    let mut line = Line::new();
+    line.field(b"cube ", n);
+    line.text(b"\n");
+    line
 }
 
-pub fn size_line(n: usize, out: &mut [u8]) -> usize
-    requires { length out.old ≡ room }
-    ensures line { take result out.new ≡ size_line n }
-    ensures near { result ≤ room }
+pub fn progress_line(n: usize) -> Line
+    ensures { result ≡ progress_line n }
 {
-    field_line(b"cube ", n, out)
+    let mut line = Line::new();
+    line.field(b"tally: cube ", n);
+    line.text(b"\n");
+    line
 }
 
-pub fn progress_line(n: usize, out: &mut [u8]) -> usize
-    requires { length out.old ≡ room }
-    ensures line { take result out.new ≡ progress_line n }
-    ensures near { result ≤ room }
+pub fn figures_line(faults: usize, figures: &[u32; 6]) -> Line
+    ensures { result ≡ figures_line faults figures.now }
 {
-    field_line(b"tally: cube ", n, out)
-}
-
-fn put_figure(out: &mut [u8], at: usize, figure: u32) -> usize
-    requires { at + 40 ≤ length out.old }
-    ensures text { Put out.old at (text " " ++ decimal figure) out.new result }
-    ensures near { result ≤ at + 40 }
-{
-    put_field(out, at, b" ", figure as usize)
-}
-
-fn put_figures(out: &mut [u8], at: usize, figures: &[u32]) -> usize
-    requires { (length figures.now ≡ 6) × (at + 240 ≤ length out.old) }
-    ensures text { Put out.old at (row_text figures.now 6) out.new result }
-    ensures near { result ≤ at + 240 }
-{
-    let mut end = at;
-    let mut k: usize = 0;
-    while k < 6 {
-        let figure = figures[k];
-        end = put_figure(out, end, figure);
-        k += 1;
-    }
-    end
-}
-
-pub fn figures_line(faults: usize, figures: &[u32], out: &mut [u8]) -> usize
-    requires { (length figures.now ≡ 6) × (length out.old ≡ room) }
-    ensures line { take result out.new ≡ figures_line faults figures.now }
-    ensures near { result ≤ room }
-{
-    let number = put_decimal(out, 0, faults);
-    let end = put_figures(out, number, figures);
-    put_text(out, end, b"\n")
+    let mut line = Line::new();
+    line.number(faults);
+    line.row(figures);
+    line.text(b"\n");
+    line
 }

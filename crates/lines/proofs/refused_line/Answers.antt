@@ -1,7 +1,0 @@
--- `refused_line`: two fields and the end of the line, from the front of the buffer.
-use Rattle.lines.proofs.Putting.{put_then}
-use Rattle.lines.proofs.refused_line.Goals as goal
-
-pub returns-clause-line : goal.returns-clause-line
-returns-clause-line c =
-    (put_then (put_then c.put_field-refusal.ensures.text c.put_field-place.ensures.text) c.put_text.ensures).front
