@@ -1,5 +1,6 @@
 -- The lines of the listing program (RULES, The listing program) and of the tally (RULES, The tally).
 use Rattle.std.specs.Prelude.{List, [], ◌++◌, ℕ, zero, suc, ◌+◌, get_or, take}
+use Rattle.cube.specs.Refused.{number}
 use Rattle.cube.specs.Tables.{label_count}
 use Rattle.walk.specs.declared.Ending.{Ending}
 use Rattle.walk.specs.declared.Ending.TheVariants as ending
@@ -30,7 +31,7 @@ row_text row (suc k) = row_text row k ++ field " " (get_or row k 0)
 abbrev pub end_text : Ending → (hops : ℕ) (row : List ℕ) → List ℕ
 end_text ending.Delivered hops row = field " delivered " hops ++ row_text row (hops + 1)
 end_text ending.Halted hops row = field " halted " hops ++ row_text row (hops + 1)
-end_text (ending.Refused k) hops row = field " refused " k
+end_text (ending.Refused r) hops row = field " refused " (number r)
 
 -- "Each pair: source, destination", and then how the walk between them ended
 unfoldable pub pair_line : (s d : ℕ) → Walked → List ℕ

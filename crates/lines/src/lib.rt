@@ -3,11 +3,13 @@
 #![tactic(auto, using(crate::proofs::Putting::putting))]
 
 ghost use Rattle.std.specs.Prelude.{[], length, ◌++◌, ◌≡◌, ◌≤◌, ◌+◌, ℕ, map, take};
+ghost use Rattle.cube.specs.Refused.{number};
 ghost use Rattle.cube.specs.Tables.{label_count};
 ghost use Rattle.lines.specs.Lines.{cube_line, end_text, figures_line, pair_line, progress_line, put, row_text, size_line, too_long};
 ghost use Rattle.lines.specs.Text.{decimal, field, text};
 
 use cube::count_of;
+use cube::refusals::Refusal;
 use std::marker::Model;
 use walk::{Ending, Walked};
 
@@ -40,6 +42,14 @@ impl Numeral for usize {
 
     fn value(self) -> u64 {
         self as u64
+    }
+}
+
+impl Numeral for Refusal {
+    ghost value = { number };
+
+    fn value(self) -> u64 {
+        u64::from(u32::from(self))
     }
 }
 
@@ -162,12 +172,12 @@ pub fn pair_line(s: usize, d: usize, walked: Walked) -> Line
 }
 
 // A word, the refusal, its place and the end of the line.
-pub fn refused_line(word: &[u8], k: u32, at: usize) -> Line
+pub fn refused_line(word: &[u8], refusal: Refusal, at: usize) -> Line
     requires { length word.now ≤ 20 }
-    ensures { result ≡ (word.now ++ decimal k) ++ field " " at ++ text "\n" }
+    ensures { result ≡ (word.now ++ decimal (number refusal)) ++ field " " at ++ text "\n" }
 {
     let mut line = Line::new();
-    line.field(word, k);
+    line.field(word, refusal);
     line.field(b" ", at);
     line.text(b"\n");
     line
