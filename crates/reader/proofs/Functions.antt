@@ -14,8 +14,7 @@ use denote.Triple.Clauses.{AtExit, Clauses}
 use denote.Triple.Entry.{Args, Res}
 use Rattle.cube.specs.Allowed.{AsksNothing, Function, Nothing}
 use Rattle.cube.proofs.Contracts.{Says}
-use Rattle.groups.specs.Number.{number_at}
-use Rattle.groups.specs.declared.Number.{Number}
+use Rattle.groups.specs.Number.{Number, number_at}
 use Rattle.reader.specs.Reader.{place_after}
 use Rattle.reader.specs.declared.Reader.{Reader}
 use Rattle.reader.specs.declared.Step.{Step}

@@ -5,12 +5,12 @@ use mathlib.Core.List.{List, [], ◌∷◌}
 use Prim.Native.Nat.{ℕ, zero, suc, ◌+◌, ◌^◌, ◌<◌}
 use native.Mathlib.Omega.{arith}
 use lib.ListN.{drop}
+use Rattle.std.specs.Prelude.{Ok}
 use Rattle.groups.specs.Number.{number_at, value_in, two_groups, further}
-use Rattle.groups.specs.declared.Number.TheVariants.{Value}
+use Rattle.groups.proofs.Groups.{same_value}
 use Rattle.groups.proofs.HandedOn.{handed_on}
 use Rattle.notice.specs.Addresses.{addresses_end, addresses_at}
-use Rattle.notice.specs.Notice.{dimension_at, notice_of}
-use Rattle.notice.specs.declared.Noticed.TheVariants.{Notice}
+use Rattle.notice.specs.Notice.{a_notice, dimension_at, notice_of}
 use Rattle.notice.proofs.Addresses.{first_address}
 use Rattle.notice.proofs.Agree.{same_accepted}
 use Rattle.notice.proofs.Opened.{opened_dimension, opened_rest, opened_notice, addresses_are}
@@ -44,15 +44,15 @@ more m s k base v l end t e r = record {
     all zero h = let z : k + 0 ≡ k = omega arith in rw z t
     all (suc j) h = let z : suc k + j ≡ k + suc j = omega arith in rw z at (r.each j (omega arith))
 
-address_answers : (m : ℕ) (s : List ℕ) (start at base size end last k : ℕ) → addresses_end m (drop start s) at base size ≡ Value end last
+address_answers : (m : ℕ) (s : List ℕ) (start at base size end last k : ℕ) → addresses_end m (drop start s) at base size ≡ Ok (end, last)
     → places s k ≡ start + at → AddressAnswers m s k base (addresses_at m (drop start s) at base) (start + last)
 unfolding addresses_end addresses_at further
 address_answers zero s start at base size end last k e here =
-    let z : at ≡ last = cc in
+    let z = (same_value e).1 in
     none s k base (start + last) (here ∙ ap (λ (j : ℕ). start + j) z)
 address_answers (suc m) s start at base size end last k e here =
     let f = first_address m (drop start s) at base size end last e in
-    let number : number_at s (start + at) ≡ Value f.v (start + f.next) = handed_on s start at ∙ ap (further start) f.number in
+    let number : number_at s (start + at) ≡ Ok (f.v, start + f.next) = handed_on s start at ∙ ap (further start) f.number in
     rw f.number
     (more m s k base f.v _ (start + last) (told s k here number) (value s k here number)
     (address_answers m s start f.next (base + f.v + 1) size end last (suc k) f.others (after s k here number)))
@@ -60,7 +60,7 @@ address_answers (suc m) s start at base size end last k e here =
 -- ---- the whole notice
 
 module _ (s : List ℕ) (n m taken : ℕ) where
-  read_through : notice_of s ≡ Notice n m taken → ReadThrough s n m taken
+  read_through : notice_of s ≡ a_notice n m taken → ReadThrough s n m taken
   unfolding notice_of places
   read_through e =
       let o = opened_notice (dimension_at s) s n m taken e in

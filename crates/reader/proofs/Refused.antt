@@ -9,19 +9,20 @@ use native.Mathlib.Omega.{arith}
 use lib.Dec.{leb}
 use lib.ListN.{drop, get_or, length}
 use borrow.Author.Tests.{leb-true}
+use Rattle.std.specs.Prelude.{Ok, Err}
+use Rattle.cube.specs.declared.refusals.Refusal.{Refusal}
+use Rattle.cube.specs.declared.refusals.Refusal.TheVariants.{Address}
 use Rattle.cube.specs.Tables.{is_dimension, table_len}
 use Rattle.cube.proofs.Bools.{clash}
 use Rattle.groups.specs.Number.{further, number_at, value_in}
-use Rattle.groups.specs.declared.Number.TheVariants.{Value, Refused}
 use Rattle.groups.proofs.Groups.{no_value}
 use Rattle.groups.proofs.HandedOn.{handed_on}
 use Rattle.notice.specs.Addresses.{addresses_end}
 use Rattle.notice.specs.Notice.{dimension_at, noticed}
 use Rattle.notice.specs.Tests.{address_tests, tested}
-use Rattle.notice.specs.declared.Noticed.TheVariants as noticed
 use Rattle.notice.proofs.Addresses.{read_address}
 use Rattle.notice.proofs.Bad.{Bad, bad, bad_address, bad_count, bad_dimension, many, no_dimension, tested_bad, wrong_table}
-use Rattle.notice.proofs.Cases.{on-number}
+use Rattle.notice.proofs.Cases.{on-number, same_error}
 use Rattle.notice.proofs.Opened.{opened_dimension}
 use Rattle.reader.specs.Laws.{Names, RefusedThrough, Told, address_12, address_in, count_11, count_in, dimension_1, dimension_2, dimension_in, ill}
 use Rattle.reader.specs.Reading.{places, answers, values, addresses_from}
@@ -32,23 +33,23 @@ use Rattle.reader.proofs.Told.{after, refusal, stands, told, value}
 abbrev address_from : (s : List ℕ) (j base i : ℕ) → ℕ
 address_from s j base i = get_or (addresses_from base (values (suc i) s j)) i 0
 
--- what is wrong with one of them, with what the refusal k is: it is ill written, or read and too far
-abbrev Wrong : (s : List ℕ) (j size address k at : ℕ) → Type 0
-Wrong s j size address k at = (answers s j ≡ Refused k at) ⊎ ((k ≡ 12) × Told s j × (size ≤ address))
+-- what is wrong with one of them, with what the refusal r is: it is ill written, or read and too far
+abbrev Wrong : (s : List ℕ) (j size address : ℕ) (r : Refusal) (at : ℕ) → Type 0
+Wrong s j size address r at = (answers s j ≡ Err (r, at)) ⊎ ((r ≡ Address) × Told s j × (size ≤ address))
 
-record BadAddress (left : ℕ) (s : List ℕ) (j base size k at : ℕ) : Type 0 where
+record BadAddress (left : ℕ) (s : List ℕ) (j base size : ℕ) (r : Refusal) (at : ℕ) : Type 0 where
   others : ℕ
   few : others < left
   each : (i : ℕ) → i < others → Told s (j + i)
   below : (i : ℕ) → i < others → address_from s j base i < size
   comes : places s (j + others) ≡ at
-  names : Wrong s (j + others) size (address_from s j base others) k at
+  names : Wrong s (j + others) size (address_from s j base others) r at
 
 -- the first of them
-first_bad : (left : ℕ) (s : List ℕ) (j base size k at : ℕ) → places s j ≡ at
-    → Wrong s j size (base + value_in (answers s j)) k at → BadAddress (suc left) s j base size k at
+first_bad : (left : ℕ) (s : List ℕ) (j base size : ℕ) (r : Refusal) (at : ℕ) → places s j ≡ at
+    → Wrong s j size (base + value_in (answers s j)) r at → BadAddress (suc left) s j base size r at
 unfolding addresses_from values
-first_bad left s j base size k at here names =
+first_bad left s j base size r at here names =
     let z : j + 0 ≡ j = omega arith in
     record {
       others = 0;
@@ -68,9 +69,9 @@ later_address : (s : List ℕ) (j base v i : ℕ) → value_in (answers s j) ≡
 unfolding addresses_from values
 later_address s j base v i e = ap (λ (u : ℕ). get_or (addresses_from (base + u + 1) (values (suc i) s (suc j))) i 0) e
 
-later_bad : (left : ℕ) (s : List ℕ) (j base size v k at : ℕ) → Told s j → value_in (answers s j) ≡ v → base + v < size
-    → BadAddress left s (suc j) (base + v + 1) size k at → BadAddress (suc left) s j base size k at
-later_bad left s j base size v k at t e l g =
+later_bad : (left : ℕ) (s : List ℕ) (j base size v : ℕ) (r : Refusal) (at : ℕ) → Told s j → value_in (answers s j) ≡ v → base + v < size
+    → BadAddress left s (suc j) (base + v + 1) size r at → BadAddress (suc left) s j base size r at
+later_bad left s j base size v r at t e l g =
     let z : suc j + g.others ≡ j + suc g.others = omega arith in
     record {
       others = suc g.others;
@@ -89,32 +90,31 @@ later_bad left s j base size v k at t e l g =
     low zero h = omega (arith, first_address s j base v e)
     low (suc i) h = omega (arith, later_address s j base v i e, g.below i (omega arith))
 
-    named : Wrong s (suc j + g.others) size (address_from s (suc j) (base + v + 1) g.others) k at
-        → Wrong s (j + suc g.others) size (address_from s j base (suc g.others)) k at
+    named : Wrong s (suc j + g.others) size (address_from s (suc j) (base + v + 1) g.others) r at
+        → Wrong s (j + suc g.others) size (address_from s j base (suc g.others)) r at
     named w = let z : suc j + g.others ≡ j + suc g.others = omega arith in rw (later_address s j base v g.others e) (rw z at w)
 
 -- the address reader counts from the bytes behind the count, which begin at `start`
-address_bad : (left : ℕ) (s : List ℕ) (start at base size j k p : ℕ) → addresses_end left (drop start s) at base size ≡ Refused k p
+address_bad : (left : ℕ) (s : List ℕ) (start at base size j : ℕ) (k : Refusal) (p : ℕ) → addresses_end left (drop start s) at base size ≡ Err (k, p)
     → places s j ≡ start + at → BadAddress left s j base size k (start + p)
 unfolding addresses_end further
 address_bad zero s start at base size j k p = λ e here. absurd (no_value (sym e))
 address_bad (suc left) s start at base size j k p =
-    on-number (λ y. y ≡ Refused k p → places s j ≡ start + at → BadAddress (suc left) s j base size k (start + p))
+    on-number (λ y. y ≡ Err (k, p) → places s j ≡ start + at → BadAddress (suc left) s j base size k (start + p))
     (tested (address_tests base size) at (number_at (drop start s) at))
     (λ r q e f here.
-    let a : r ≡ k = cc in
-    let b : q ≡ p = cc in
-    tested_bad (λ v. leb size (base + v)) 12 at (number_at (drop start s) at) (BadAddress (suc left) s j base size k (start + p)) (rw (a, b) at e)
+    let a = same_error f in
+    tested_bad (λ v. leb size (base + v)) 12 at (number_at (drop start s) at) (BadAddress (suc left) s j base size k (start + p)) (rw (a.0, a.1) at e)
     (λ own.
-    let number : number_at s (start + at) ≡ Refused k (start + p) = handed_on s start at ∙ ap (further start) own in
+    let number : number_at s (start + at) ≡ Err (k, start + p) = handed_on s start at ∙ ap (further start) own in
     first_bad left s j base size k (start + p) (stands s j here number) (inl (refusal s j here number)))
     (λ v next own over c d.
-    let number : number_at s (start + at) ≡ Value v (start + next) = handed_on s start at ∙ ap (further start) own in
+    let number : number_at s (start + at) ≡ Ok (v, start + next) = handed_on s start at ∙ ap (further start) own in
     first_bad left s j base size k (start + p) (here ∙ ap (λ (i : ℕ). start + i) d)
     (inr (sym c, told s j here number, rw (value s j here number) (leb-true size (base + v) over)))))
     (λ v next e f here.
     let own = read_address (drop start s) at base size e in
-    let number : number_at s (start + at) ≡ Value v (start + next) = handed_on s start at ∙ ap (further start) own.0 in
+    let number : number_at s (start + at) ≡ Ok (v, start + next) = handed_on s start at ∙ ap (further start) own.0 in
     later_bad left s j base size v k (start + p) (told s j here number) (value s j here number) own.1
     (address_bad left s start next (base + v + 1) size (suc j) k p f (after s j here number)))
 
@@ -128,7 +128,7 @@ module _ (s t : List ℕ) where
     count : j ≡ 1 → count_in s ≤ 2 ^ dimension_in s
     address : (i : ℕ) → j ≡ 2 + i → address_in s i < 2 ^ dimension_in s
 
-  unnamed : (j r : ℕ) → Good j → ¬ (Names s t j r)
+  unnamed : (j : ℕ) (r : Refusal) → Good j → ¬ (Names s t j r)
   unnamed j r g (ill k place e) = no_value (sym e ∙ g.read)
   unnamed j r g (dimension_1 _ wrong) = clash (g.dimension refl).0 wrong
   unnamed j r g (dimension_2 _ _ w) = w (g.dimension refl).1
@@ -140,8 +140,8 @@ module _ (s t : List ℕ) where
   unfolding places
   front = refl
 
-  module _ {n at : ℕ} (d : dimension_at s ≡ Value n at) where
-    number : number_at s 0 ≡ Value n at
+  module _ {n at : ℕ} (d : dimension_at s ≡ Ok (n, at)) where
+    number : number_at s 0 ≡ Ok (n, at)
     number = (opened_dimension s n at d).number
 
     dimension : dimension_in s ≡ n
@@ -163,17 +163,17 @@ module _ (s t : List ℕ) where
         address = λ i z. absurd (omega arith);
       }
 
-      front_unnamed : (j r : ℕ) → j < 1 → ¬ (Names s t j r)
+      front_unnamed : (j : ℕ) (r : Refusal) → j < 1 → ¬ (Names s t j r)
       front_unnamed j r h = let z : 0 ≡ j = omega arith in unnamed j r (rw z at good_front)
 
-    module _ {m start : ℕ} (sized : length t ≡ table_len n) (c : number_at s at ≡ Value m start) where
+    module _ {m start : ℕ} (sized : length t ≡ table_len n) (c : number_at s at ≡ Ok (m, start)) where
       count : count_in s ≡ m
       count = value s 1 second c
 
       third : places s 2 ≡ start + 0
       third = after s 1 second c ∙ omega arith
 
-      address_through : {k place : ℕ} → m ≤ 2 ^ n → BadAddress m s 2 0 (2 ^ n) k place → RefusedThrough s t k place
+      address_through : {k : Refusal} {place : ℕ} → m ≤ 2 ^ n → BadAddress m s 2 0 (2 ^ n) k place → RefusedThrough s t k place
       address_through {k} {place} few b = record {
         before = 2 + b.others;
         told = each;
@@ -200,7 +200,7 @@ module _ (s t : List ℕ) where
           named (inl e) = ill k place e
           named (inr e) = rw e.0 (address_12 b.others e.1 (rw dimension e.2))
 
-  through : {k at : ℕ} → Bad s t k at → RefusedThrough s t k at
+  through : {k : Refusal} {at : ℕ} → Bad s t k at → RefusedThrough s t k at
   through {k} {at} (bad_dimension e) = record {
     before = 0;
     told = λ j h. absurd (omega arith);
@@ -241,8 +241,8 @@ module _ (s t : List ℕ) where
     due = omega arith;
     names = count_11 (told s 1 (second d) c) (rw (dimension d, count d sized c) over);
   }
-  through (bad_address {n} {m = m} {start} {k} {place} d sized c few e) =
+  through {k} (bad_address {n} {m = m} {start} {place = place} d sized c few e) =
       address_through d sized c few (address_bad m s start 0 0 (2 ^ n) 2 k place e (third d sized c))
 
-  pub refused_through : (k at : ℕ) → noticed s t ≡ noticed.Refused k at → RefusedThrough s t k at
-  refused_through k at e = through (bad s t e)
+  pub refused_through : (r : Refusal) (at : ℕ) → noticed s t ≡ Err (r, at) → RefusedThrough s t r at
+  refused_through r at e = through (bad s t e)

@@ -1,7 +1,6 @@
 -- Bytes read through a reader number by number, from the start: each answer is the number reader's at the place that the one before left.
 use Rattle.std.specs.Prelude.{List, [], ◌∷◌, ℕ, zero, suc, ◌+◌}
-use Rattle.groups.specs.Number.{number_at, value_in}
-use Rattle.groups.specs.declared.Number.{Number}
+use Rattle.groups.specs.Number.{Number, number_at, value_in}
 use Rattle.reader.specs.Reader.{place_after}
 
 -- the place after k answers

@@ -4,7 +4,7 @@
 
 ghost use Rattle.std.specs.Prelude.{◌≡◌};
 ghost use Rattle.groups.specs.Number.{number_at};
-ghost use Rattle.reader.specs.Reader.{next_place, place_after};
+ghost use Rattle.reader.specs.Reader.{place_after};
 
 use groups::{Number, number_at};
 
@@ -13,16 +13,6 @@ use groups::{Number, number_at};
 pub struct Reader<'a> {
     pub bytes: &'a [u8],
     pub at: usize,
-}
-
-// The place after an answer: the next one, or the same where it is a refusal.
-fn place_after(number: Number, at: usize) -> usize
-    ensures { result ≡ next_place number at }
-{
-    let Number::Value(_, next) = number else {
-        return at;
-    };
-    next
 }
 
 impl<'a> Reader<'a> {
@@ -40,9 +30,11 @@ impl<'a> Reader<'a> {
         ensures bytes { self.new.bytes ≡ self.old.bytes }
         ensures place { self.new.at ≡ place_after self.old.bytes.now self.old.at }
     {
-        let at = self.at;
-        let number = number_at(self.bytes, at);
-        self.at = place_after(number, at);
+        let number = number_at(self.bytes, self.at);
+        let Ok((_, next)) = number else {
+            return number;
+        };
+        self.at = next;
         number
     }
 }

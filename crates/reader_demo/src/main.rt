@@ -7,25 +7,13 @@ use groups::Number;
 use reader::next_at;
 use std::io;
 
-fn say(rt: &impl Print, text: &[u8]) -> io::Result<()> {
-    rt.write_all(text)
-}
-
-fn put(rt: &impl Print, n: usize) -> io::Result<()> {
-    rt.print(n)
-}
-
+// A number as its line shows it: its value, or its refusal and the place that it answers.
 fn put_number(rt: &impl Print, number: Number) -> io::Result<()> {
     match number {
-        Number::Value(v, _) => {
-            say(rt, b" value ")?;
-            put(rt, v)
-        }
-        Number::Refused(k, at) => {
-            say(rt, b" refused ")?;
-            put(rt, k as usize)?;
-            say(rt, b" ")?;
-            put(rt, at)
+        Ok((v, _)) => print!(rt; " value {v}"),
+        Err((refusal, at)) => {
+            let k = u32::from(refusal);
+            print!(rt; " refused {k} {at}")
         }
     }
 }
@@ -33,11 +21,9 @@ fn put_number(rt: &impl Print, number: Number) -> io::Result<()> {
 // Prints the number at a place, and gives the place after it.
 fn put_next(rt: &impl Print, bytes: &[u8], at: usize) -> io::Result<usize> {
     let step = next_at(bytes, at);
-    let number = step.number;
-    say(rt, b"place ")?;
-    put(rt, at)?;
-    put_number(rt, number)?;
-    say(rt, b"\n")?;
+    print!(rt; "place {at}")?;
+    put_number(rt, step.number)?;
+    println!(rt)?;
     Ok(step.at)
 }
 
@@ -45,10 +31,8 @@ fn put_next(rt: &impl Print, bytes: &[u8], at: usize) -> io::Result<usize> {
 fn main(rt: HostRuntime) -> io::Result<()> {
     let bytes = b"\x04\x04\x02\x01\x03\x06\x08\x02\xC8\x01\x05\x81\x00";
     let mut at = 0;
-    let mut i: usize = 0;
-    while i < 12 {
+    for _ in 0..12 {
         at = put_next(&rt, bytes, at)?;
-        i += 1;
     }
     Ok(())
 }
