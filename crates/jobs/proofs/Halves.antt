@@ -1,12 +1,12 @@
 -- The two halves, one by one: job 0's is the front of the buffer and job 1's the rest. Every law of them is then one of two lists in a row.
-use mathlib.Core.Path.{◌≡◌, refl, sym, ap, ap₂, ◌∙◌}
+use mathlib.Core.Path.{◌≡◌, refl, ap, ◌∙◌}
 use mathlib.Core.Bool.{true}
 use mathlib.Core.Logic.{◌⊎◌, inl, inr}
-use mathlib.Core.List.{List, [], ◌++◌, append-nil}
+use mathlib.Core.List.{List, ◌++◌, append-nil}
 use Prim.Native.Nat.{ℕ, zero, suc, ◌+◌, ◌-◌, ◌*◌, ◌^◌, ◌≤◌, ◌<◌}
 use native.Mathlib.Omega.{arith}
-use lib.ListN.{drop, length, length-drop, take, take-append-drop, drop_of_length-le}
-use lib.Seq.{length-take-le, take_all}
+use lib.ListN.{drop, length, length-drop, take, drop_of_length-le}
+use lib.Seq.{take_all}
 use borrow.Author.Tests.{lt-ltb, ltb-true}
 use Rattle.cube.proofs.Tables.{nodes_few}
 use Rattle.jobs.specs.Jobs.{Halved, half, is_job, label_bytes, with_half}

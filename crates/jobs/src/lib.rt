@@ -2,7 +2,8 @@
 // refuses: the crates above test what they are handed before they ask.
 #![tactic(auto)]
 
-ghost use Rattle.std.specs.Prelude.{◌+◌, ◌*◌, ◌<◌, ◌^◌, length, ◌≡◌};
+ghost use Rattle.std.specs.Prelude.{◌+◌, ◌*◌, ◌<◌, ◌≤◌, ◌^◌, length, ◌≡◌};
+ghost use Rattle.cube.specs.Tables.{label_in};
 ghost use Rattle.jobs.specs.Jobs.{Halved, half, is_job, label_bytes};
 
 use cube::nodes;
@@ -32,4 +33,36 @@ pub fn half(n: usize, job: usize, labels: &[u8]) -> &[u8]
     let from = job * size;
     let to = from + size;
     &labels[from..to]
+}
+
+// The labels of one job: a byte for each node of an n-cube.
+#[derive(Clone, Copy)]
+pub struct Labels<'a> {
+    pub n: usize,
+    pub bytes: &'a [u8],
+    ghost small: { n ≤ 12 },
+    ghost sized: { length bytes.now ≡ 2 ^ n },
+}
+
+impl<'a> Labels<'a> {
+    // Those of a job, by its half of the lent buffer.
+    pub fn of(n: usize, job: usize, labels: &'a [u8]) -> Labels<'a>
+        requires { Halved n job (length labels.now) }
+        ensures n { result.n ≡ n }
+        ensures bytes { result.bytes.now ≡ half job (2 ^ n) labels.now }
+    {
+        Labels {
+            n,
+            bytes: half(n, job, labels),
+        }
+    }
+
+    // The label of node x.
+    #[tactic(auto, unfolding(cube::specs::Tables::label_in))]
+    pub fn at(self, x: usize) -> u8
+        requires { x < 2 ^ self.n }
+        ensures { result ≡ label_in self.entry.bytes.now x }
+    {
+        self.bytes[x]
+    }
 }
