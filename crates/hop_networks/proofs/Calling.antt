@@ -1,25 +1,29 @@
 -- A call of FORWARD as the code makes it, block by block: a block looks at one set of dimensions, as the bits of a number; one that finds nothing is passed,
 -- and the first that finds a dimension makes its hop or ends the call.
 use mathlib.Core.Path.{◌≡◌, refl, sym, ap, ◌∙◌}
-use mathlib.Core.Logic.{⊎_elim}
+use mathlib.Core.Logic.{◌⊎◌, inl, inr, ⊎_elim}
 use mathlib.Core.Bool.{Bool, true, false, beq, cond, not, xor, ◌&&◌}
 use Prim.Native.Nat.{ℕ, suc, ◌-◌, ◌^◌, ◌≤◌, ◌<◌}
 use native.Mathlib.Omega.{arith}
 use lib.Bits.{bit_and, bit_xor, and_le_l, xor_lt}
 use lib.Dec.{leb, ltb}
 use lib.Pow.{ones_lt}
-use borrow.Author.Tests.{lt-ltb, le-ltb, ltb-true, ltb-false}
+use borrow.Author.Tests.{lt-ltb, le-ltb, ltb-true}
+use Rattle.std.specs.Prelude.{Some, None}
+use Rattle.std.specs.Bool.{then_some}
+use Rattle.std.proofs.lemmas.Bool.{cases_lt}
+use Rattle.std.proofs.lemmas.Option.{cond_some, none-some}
 use Rattle.cube.specs.Count.{least}
 use Rattle.cube.specs.Cube.{apart, bit, dist}
-use Rattle.cube.proofs.Bools.{beq_no, beq_yes, by_cases, either, xor_not}
+use Rattle.cube.proofs.Bools.{beq_no, beq_yes, by_cases, xor_not}
 use Rattle.cube.proofs.Count.{below_suc}
 use Rattle.cube.proofs.Cube.{bit-and, bit-xor}
 use Rattle.cube.proofs.Search.{least_is, least_none, least_same, the_least}
 use Rattle.hop.specs.Helpers.{in_set}
 use Rattle.hop.proofs.Sets.{full}
-use Rattle.blocks.specs.Blocks.{Block, block_at, block_of, call, eager, first_block, fits, lowest, may_sixth, no_block, on, turning}
+use Rattle.blocks.specs.Blocks.{Block, block_at, block_of, call, eager, first_block, fits, lowest, may_fourth, may_sixth, no_block, on, turning}
 use Rattle.blocks.specs.Phase.{down, turns}
-use Rattle.hop_networks.specs.Helpers.{on_set, side_set}
+use Rattle.hop_networks.specs.Helpers.{found, on_set, side_set}
 
 -- ---- the sets
 
@@ -83,6 +87,17 @@ module _ (n c d p : ℕ) (side : Bool) where
 
 -- ---- the blocks
 
+-- a dimension that was looked for
+pub found_some : (n x i : ℕ) → Some i ≡ found n x → (x < n) × (x ≡ i)
+found_some n x i e = let r = cond_some (ltb x n) x i (sym e) in (ltb-true x n r.0, r.1)
+
+pub found_none : (n x : ℕ) → None ≡ found n x → n ≤ x
+found_none n x e = go (cases_lt x n)
+  where
+    go : (x < n) ⊎ (n ≤ x) → n ≤ x
+    go (inl l) = absurd (none-some x (rw (lt-ltb x n l) at e))
+    go (inr l) = l
+
 module _ (n c d p own : ℕ) (near : ℕ → ℕ) (side : Bool) where
   abbrev low : ℕ → ℕ
   low = lowest n c d p own near side
@@ -126,48 +141,59 @@ module _ (n c d p own : ℕ) (near : ℕ → ℕ) (side : Bool) where
   pub past_none : Past 0
   past_none t h = absurd (omega arith)
 
-  pub pass : (s i : ℕ) → Past s → i ≡ low s → n ≤ i → Past (suc s)
-  pass s i q e l t h = ⊎_elim (λ (k : t ≡ s). omega (arith, ap low k)) (λ (k : t < s). q t k) (below_suc h)
+  pub pass : (s : ℕ) → Past s → n ≤ low s → Past (suc s)
+  pass s q l t h = ⊎_elim (λ (k : t ≡ s). omega (arith, ap low k)) (λ (k : t < s). q t k) (below_suc h)
 
   first_at : (s : ℕ) → s ≤ no_block → Past s → (s < no_block → low s < n) → first_block n c d p own near side ≡ s
   unfolding first_block
   first_at s h q g = least_is no_block (λ t. ltb (low t) n) s h (λ t l. le-ltb (low t) n (q t l)) (λ l. lt-ltb (low s) n (g l))
 
-  -- block s finds i, and makes the hop,
-  pub take : (s i : ℕ) → s < no_block → Past s → i ≡ low s → i < n → (row_at s).may ≡ true → i ≡ call n c d p own near side
+  abbrev called : ℕ
+  called = call n c d p own near side
+
+  -- block s finds a dimension, and makes the hop,
+  hops : (s : ℕ) → s < no_block → Past s → low s < n → (row_at s).may ≡ true → called ≡ low s
   unfolding call
-  take s i h q e l m = rw (first_at s (omega arith) q (λ _. omega arith), m) e
+  hops s h q l m = rw (first_at s (omega arith) q (λ _. l), m)
+
+  pub take : (s i : ℕ) → s < no_block → Past s → Some i ≡ found n (low s) → (row_at s).may ≡ true → Some i ≡ found n called
+  take s i h q e m = e ∙ ap (found n) (sym (hops s h q (found_some n (low s) i e).0 m))
 
   -- or ends the call
-  pub stop : (s i : ℕ) → s < no_block → Past s → i ≡ low s → i < n → (row_at s).may ≡ false → n ≡ call n c d p own near side
+  stop : (s : ℕ) → s < no_block → Past s → low s < n → (row_at s).may ≡ false → called ≡ n
   unfolding call
-  stop s i h q e l m = rw (first_at s (omega arith) q (λ _. omega arith), m)
+  stop s h q l m = rw (first_at s (omega arith) q (λ _. l), m)
 
   -- all of them find nothing
-  none : Past no_block → n ≡ call n c d p own near side
+  none : Past no_block → called ≡ n
   unfolding call
   none q = rw (first_at no_block (omega arith) q (λ l. absurd (omega arith)))
+
+  nothing : called ≡ n → None ≡ found n called
+  nothing e = rw (e, le-ltb n n (omega arith))
 
   low_within : (s : ℕ) → low s ≤ n
   unfolding lowest
   low_within s = (the_least n (fits c d p near side (row_at s))).within
 
+  -- the fourth block finds a dimension
+  pub fourth : (i : ℕ) → Past 3 → Some i ≡ found n (low 3) → then_some (may_fourth (dist c d) p) i ≡ found n called
+  fourth i q e = go (may_fourth (dist c d) p) refl
+    where
+      go : (b : Bool) → may_fourth (dist c d) p ≡ b → then_some b i ≡ found n called
+      go true m = take 3 i (omega arith) q e m
+      go false m = nothing (stop 3 (omega arith) q (found_some n (low 3) i e).0 m)
+
   -- four blocks find nothing, and no others are tried
-  pub shy : Past 4 → eager own (dist c d) ≡ false → n ≡ call n c d p own near side
-  shy q e = none (pass 5 (low 5) (pass 4 (low 4) q refl (omega (arith, shut 4 e))) refl (omega (arith, shut 5 e)))
+  pub shy : Past 4 → eager own (dist c d) ≡ false → None ≡ found n called
+  shy q e = nothing (none (pass 5 (pass 4 q (omega (arith, shut 4 e))) (omega (arith, shut 5 e))))
 
   -- the sixth block, found or not
-  pub last : Past 5 → may_sixth (dist c d) p ≡ true → low 5 ≡ call n c d p own near side
+  pub last : Past 5 → may_sixth (dist c d) p ≡ true → found n (low 5) ≡ found n called
   last q m =
-      ⊎_elim (λ (t : ltb (low 5) n ≡ true). take 5 (low 5) (omega arith) q refl (ltb-true (low 5) n t) m)
-      (λ (t : ltb (low 5) n ≡ false).
-      let l = ltb-false (low 5) n t in
-      let e : low 5 ≡ n = omega (arith, low_within 5) in
-      e ∙ none (pass 5 (low 5) q refl l))
-      (either (ltb (low 5) n))
+      ap (found n)
+      (⊎_elim (λ (l : low 5 < n). sym (hops 5 (omega arith) q l m)) (λ (l : n ≤ low 5). omega (arith, low_within 5, none (pass 5 q l))) (cases_lt (low 5) n))
 
-  pub last_not : Past 5 → may_sixth (dist c d) p ≡ false → n ≡ call n c d p own near side
+  pub last_not : Past 5 → may_sixth (dist c d) p ≡ false → None ≡ found n called
   last_not q m =
-      ⊎_elim (λ (t : ltb (low 5) n ≡ true). stop 5 (low 5) (omega arith) q refl (ltb-true (low 5) n t) m)
-      (λ (t : ltb (low 5) n ≡ false). none (pass 5 (low 5) q refl (ltb-false (low 5) n t)))
-      (either (ltb (low 5) n))
+      nothing (⊎_elim (λ (l : low 5 < n). stop 5 (omega arith) q l m) (λ (l : n ≤ low 5). none (pass 5 q l)) (cases_lt (low 5) n))

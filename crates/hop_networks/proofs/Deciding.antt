@@ -5,53 +5,56 @@ use mathlib.Core.Bool.{false}
 use Prim.Native.Nat.{ℕ, ◌+◌, ◌*◌, ◌/◌, ◌^◌, ◌≤◌, ◌<◌}
 use lib.Dec.{eqb}
 use borrow.Author.Tests.{le-leb, le-ltb, lt-leb, lt-ltb, ne_eqb}
+use Rattle.std.specs.Prelude.{Some, None, Result, Ok, Err}
+use Rattle.cube.specs.declared.refusals.Refusal.{Refusal}
+use Rattle.cube.specs.declared.refusals.Refusal.TheVariants.{Network}
 use Rattle.cube.specs.Cube.{dist}
 use Rattle.cube.proofs.Cube.{dist_self, dist_zero}
 use Rattle.hop.specs.declared.Decision.{Decision}
 use Rattle.hop.specs.declared.Decision.TheVariants.{Deliver, Hop, Halted}
-use Rattle.hop.specs.declared.Hopped.{Hopped}
-use Rattle.hop.specs.declared.Hopped.TheVariants.{Decided, Refused}
 use Rattle.blocks.specs.Blocks.{decide_in, pick}
 use Rattle.blocks.specs.Board.{beyond, numbered}
 use Rattle.blocks.specs.Phase.{after, channel_number}
 use Rattle.blocks.proofs.Picks.{decide_same}
-use Rattle.hop_networks.specs.Helpers.{decided_on}
+use Rattle.hop_networks.specs.Helpers.{decided_on, found}
+use Rattle.hop_networks.proofs.Calling.{found_none, found_some}
 
 module _ (n N c d p own : ℕ) (near : ℕ → ℕ) where
   abbrev decision : Decision
   decision = decide_in n c d p own near
 
-  abbrev answer : Hopped
+  abbrev answer : Result Decision Refusal
   answer = decided_on n N c d p own near
 
-  pub arrived : c ≡ d → Decided Deliver ≡ answer
+  pub arrived : c ≡ d → Ok Deliver ≡ answer
   unfolding decided_on decide_in beyond numbered
   arrived e = rw (e, dist_self)
 
-  module _ (hc : c < 2 ^ n) (hd : d < 2 ^ n) (far : c ≢ d) (i : ℕ) (e : i ≡ pick n c d p own near) where
+  module _ (hc : c < 2 ^ n) (hd : d < 2 ^ n) (far : c ≢ d) where
     apart : eqb (dist c d) 0 ≡ false
     apart = ne_eqb (dist c d) 0 (λ z. far (dist_zero n c d hc hd z))
 
-    pub halts : n ≤ i → decision ≡ Halted
+    pub halts : None ≡ found n (pick n c d p own near) → decision ≡ Halted
     unfolding decide_in
-    halts l = rw (apart, ← e, le-ltb i n l)
+    halts e = rw (apart, le-ltb (pick n c d p own near) n (found_none n (pick n c d p own near) e))
 
-    pub hops : i < n → decision ≡ Hop i
-    unfolding decide_in
-    hops l = rw (apart, ← e, lt-ltb i n l)
-
-    pub halted : n ≤ i → Decided Halted ≡ answer
+    pub halted : None ≡ found n (pick n c d p own near) → Ok Halted ≡ answer
     unfolding decided_on beyond numbered
-    halted l = rw (halts l)
+    halted e = rw (halts e)
 
-    module _ (l : i < n) (q : ℕ) (eq : q ≡ after p c i) where
-      pub refused : 2 * N ≤ q → Refused 16 ≡ answer
-      unfolding decided_on beyond
-      refused h = rw (hops l, ← eq, le-leb (2 * N) q h)
+    module _ (i : ℕ) (e : Some i ≡ found n (pick n c d p own near)) where
+      pub hops : decision ≡ Hop i
+      unfolding decide_in
+      hops = let f = found_some n (pick n c d p own near) i e in rw (apart, lt-ltb (pick n c d p own near) n f.0, f.1)
 
-      pub hopped : q < 2 * N → Decided (Hop (q / 2 * 16 + i)) ≡ answer
-      unfolding decided_on beyond numbered channel_number
-      hopped h = rw (hops l, ← eq, lt-leb (2 * N) q h)
+      module _ (q : ℕ) (eq : q ≡ after p c i) where
+        pub refused : 2 * N ≤ q → Err Network ≡ answer
+        unfolding decided_on beyond
+        refused h = rw (hops, ← eq, le-leb (2 * N) q h)
+
+        pub hopped : q < 2 * N → Ok (Hop (q / 2 * 16 + i)) ≡ answer
+        unfolding decided_on beyond numbered channel_number
+        hopped h = rw (hops, ← eq, lt-leb (2 * N) q h)
 
 -- it depends on the labels of c's n neighbours alone
 pub decided_same : (n N c d p own : ℕ) (near near' : ℕ → ℕ) → ((i : ℕ) → i < n → near i ≡ near' i) → decided_on n N c d p own near ≡ decided_on n N c d p own near'

@@ -5,15 +5,18 @@ use mathlib.Core.List.{List}
 use mathlib.Core.Path.{refl}
 use Prim.Native.Nat.{ℕ}
 use lib.ListN.{length}
+use Rattle.std.specs.Prelude.{Option, Result}
 use Rattle.cube.specs.Allowed.{AsksNothing, Function, Nothing}
 use Rattle.cube.specs.Cube.{flip}
+use Rattle.cube.specs.Refused.{answered}
+use Rattle.cube.specs.declared.refusals.Refusal.{Refusal}
 use Rattle.cube.specs.Tables.{label_in}
 use Rattle.cube.proofs.Contracts.{Says}
 use Rattle.jobs.specs.Jobs.{label_for}
-use Rattle.hop.specs.declared.Hopped.{Hopped}
+use Rattle.hop.specs.declared.Decision.{Decision}
 use Rattle.blocks.specs.Blocks as blocks
 use Rattle.blocks.specs.Phase as phases
-use Rattle.hop_networks.specs.Helpers.{board_refusal, list_refusal}
+use Rattle.hop_networks.specs.Helpers.{board_refusal, found, list_refusal}
 use Rattle.hop_networks.specs.Hopping.{hopped_in, is_board}
 use Rattle.hop_networks.specs.contracts.after as after-claims
 use Rattle.hop_networks.proofs.after.Reads as after-claims-reads
@@ -29,7 +32,7 @@ use Rattle.hop_networks.specs.contracts.pick_at
 use Rattle.hop_networks.proofs.pick_at.Reads as pick_at-reads
 
 -- handed the dimension, how many networks there are, the job, both nodes, the message's network and direction, and the labels
-abbrev pub hop-networks : Function hop_networks.ended (ℕ × ℕ × ℕ × ℕ × ℕ × ℕ × ℕ × List ℕ) Hopped Nothing
+abbrev pub hop-networks : Function hop_networks.ended (ℕ × ℕ × ℕ × ℕ × ℕ × ℕ × ℕ × List ℕ) (Result Decision Refusal) Nothing
 hop-networks =
     record {
       clauses = λ w. hop_networks.clauses w.𝓛 w.𝓜.mem w.𝓡.returns;
@@ -65,7 +68,7 @@ is_board_asks = record { asked = λ κs a. tt; empty = λ w κs a. (tt, refl) }
 pub is_board_says : Says is-board (λ i. is_board i) (λ i. tt)
 is_board_says = record { says = λ κs a r e p. (p, refl) }
 
-abbrev pub board-refusal : Function board_refusal.ended (ℕ × Bool) ℕ Nothing
+abbrev pub board-refusal : Function board_refusal.ended (ℕ × Bool) (Result Unit Refusal) Nothing
 board-refusal =
     record {
       clauses = λ w. board_refusal.clauses w.𝓛 w.𝓜.mem w.𝓡.returns;
@@ -79,11 +82,11 @@ board-refusal =
 pub board_refusal_asks : AsksNothing board-refusal
 board_refusal_asks = record { asked = λ κs a. tt; empty = λ w κs a. (tt, refl) }
 
-pub board_refusal_says : Says board-refusal (λ i. board_refusal i.0 i.1) (λ i. tt)
+pub board_refusal_says : Says board-refusal (λ i. answered (board_refusal i.0 i.1) tt) (λ i. tt)
 board_refusal_says = record { says = λ κs a r e p. (p, refl) }
 
 -- handed the dimension, the job, both nodes, the label buffer's length and whether a hop list is too short
-abbrev pub list-refusal : Function list_refusal.ended (ℕ × ℕ × ℕ × ℕ × ℕ × Bool) ℕ Nothing
+abbrev pub list-refusal : Function list_refusal.ended (ℕ × ℕ × ℕ × ℕ × ℕ × Bool) (Result Unit Refusal) Nothing
 list-refusal =
     record {
       clauses = λ w. list_refusal.clauses w.𝓛 w.𝓜.mem w.𝓡.returns;
@@ -94,7 +97,7 @@ list-refusal =
       left = λ κs e. tt;
     }
 
-pub list_refusal_says : Says list-refusal (λ i. list_refusal i.0 i.1 i.2 i.3 i.4 i.5) (λ i. tt)
+pub list_refusal_says : Says list-refusal (λ i. answered (list_refusal i.0 i.1 i.2 i.3 i.4 i.5) tt) (λ i. tt)
 list_refusal_says = record { says = λ κs a r e p. (p, refl) }
 
 -- handed the phase, the node and the dimension
@@ -113,7 +116,7 @@ pub after_says : Says after (λ i. phases.after i.0 i.1 i.2) (λ i. tt)
 after_says = record { says = λ κs a r e p. (p, refl) }
 
 -- handed the dimension, both nodes, the phase and the labels
-abbrev pub pick-at : Function pick_at.ended (ℕ × ℕ × ℕ × ℕ × List ℕ) ℕ Nothing
+abbrev pub pick-at : Function pick_at.ended (ℕ × ℕ × ℕ × ℕ × List ℕ) (Option ℕ) Nothing
 pick-at =
     record {
       clauses = λ w. pick_at.clauses w.𝓛 w.𝓜.mem w.𝓡.returns;
@@ -124,5 +127,5 @@ pick-at =
       left = λ κs e. tt;
     }
 
-pub pick_at_says : Says pick-at (λ i. blocks.pick i.0 i.1 i.2 i.3 (label_in i.4 i.1) (λ k. label_in i.4 (flip k i.1))) (λ i. tt)
+pub pick_at_says : Says pick-at (λ i. found i.0 (blocks.pick i.0 i.1 i.2 i.3 (label_in i.4 i.1) (λ k. label_in i.4 (flip k i.1)))) (λ i. tt)
 pick_at_says = record { says = λ κs a r e p. (p, refl) }

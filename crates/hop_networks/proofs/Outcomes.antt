@@ -1,17 +1,17 @@
 -- What an answer of the hop by networks may be: a refusal of 19 at most, or a decision whose number is small.
 use mathlib.Core.Path.{◌≡◌, refl}
-use mathlib.Core.Bool.{true, false}
+use mathlib.Core.Bool.{false}
 use Prim.Native.Nat.{ℕ, ◌*◌, ◌^◌, ◌≤◌, ◌<◌}
 use native.Mathlib.Omega.{arith}
-use lib.Dec.{eqb, leb}
-use borrow.Author.Tests.{eqb-true, leb-false, not-false}
-use Rattle.cube.proofs.Bools.{by_cases, or_false}
+use lib.Dec.{leb}
+use borrow.Author.Tests.{leb-false, not-false}
+use Rattle.std.specs.Prelude.{Ok}
+use Rattle.cube.proofs.Bools.{or_false}
 use Rattle.cube.proofs.Refusal.{first_le, first_none}
+use Rattle.cube.proofs.Refused.{accepted}
 use Rattle.hop.specs.Hop.{decision_value}
 use Rattle.hop.specs.declared.Decision.{Decision}
 use Rattle.hop.specs.declared.Decision.TheVariants.{Deliver, Hop, Halted}
-use Rattle.hop.specs.declared.Hopped.{Hopped}
-use Rattle.hop.specs.declared.Hopped.TheVariants.{Decided}
 use Rattle.blocks.specs.Blocks.{hop_in}
 use Rattle.blocks.specs.Board.{beyond, numbered}
 use Rattle.blocks.specs.Phase.{after, channel_number, phase_of}
@@ -61,30 +61,19 @@ module _ (n N j c d w g m : ℕ) (lab : ℕ → ℕ) (x : Decision) where
   abbrev made : Decision
   made = numbered (phase_of w g) c (hop_in n lab d (phase_of w g) c)
 
-  pub decision_of : hopped_in n N j c d w g m lab ≡ Decided x → (g ≤ 1) × (made ≡ x)
+  pub decision_of : hopped_in n N j c d w g m lab ≡ Ok x → (g ≤ 1) × (made ≡ x)
   unfolding hopped_in
-  decision_of =
-      by_cases (λ (a : Hopped). a ≡ Decided x → (g ≤ 1) × (made ≡ x)) (eqb k 0) (λ e q. ((board_of n N j c d w g m lab (eqb-true k 0 e)).direction, cc))
-      (λ e q. absurd (let z : ◌≡◌ {A = ℕ} 0 1 = cc in omega arith))
-    where
-      k : ℕ
-      k = hop_refusal_in n N j c d w g m lab
+  decision_of e = let a = accepted _ _ _ e in ((board_of n N j c d w g m lab a.0).direction, a.1)
 
 module _ (n N j c d w g m : ℕ) (lab : ℕ → ℕ) (h : ℕ) where
-  pub hop_of : hopped_in n N j c d w g m lab ≡ Decided (Hop h) → HopOf n N c d (phase_of w g) lab h
+  pub hop_of : hopped_in n N j c d w g m lab ≡ Ok (Hop h) → HopOf n N c d (phase_of w g) lab h
   unfolding hopped_in hop_refusal_in numbered beyond
-  hop_of =
-      by_cases (λ (a : Hopped). a ≡ Decided (Hop h) → HopOf n N c d (phase_of w g) lab h) (eqb k 0) (λ e q. taken e (hop_in n lab d (phase_of w g) c) refl q)
-      (λ e q. absurd (let z : ◌≡◌ {A = ℕ} 0 1 = cc in omega arith))
+  hop_of e = let a = accepted _ _ _ e in taken a.0 (hop_in n lab d (phase_of w g) c) refl a.1
     where
-      k : ℕ
-      k = hop_refusal_in n N j c d w g m lab
-
-      taken : eqb k 0 ≡ true → (x : Decision) → hop_in n lab d (phase_of w g) c ≡ x → Decided (numbered (phase_of w g) c x) ≡ Decided (Hop h)
+      taken : hop_refusal_in n N j c d w g m lab ≡ 0 → (x : Decision) → hop_in n lab d (phase_of w g) c ≡ x → numbered (phase_of w g) c x ≡ Hop h
           → HopOf n N c d (phase_of w g) lab h
-      taken e Deliver q z = absurd (let y : ◌≡◌ {A = ℕ} 0 1 = cc in omega arith)
-      taken e (Hop i) q z =
-          let ok = eqb-true k 0 e in
+      taken ok Deliver q z = absurd (let y : ◌≡◌ {A = ℕ} 0 1 = cc in omega arith)
+      taken ok (Hop i) q z =
           let b = board_of n N j c d w g m lab ok in
           let t = first_none 19 (hop_tests_in n N j c d w g m lab) refl ok in
           let r = or_false (leb (2 ^ n) c) (leb (2 ^ n) d) t.1.1.1.1.0 in
@@ -97,4 +86,4 @@ module _ (n N j c d w g m : ℕ) (lab : ℕ → ℕ) (h : ℕ) where
             below = dim_lt n lab d (phase_of w g) c i q;
             number = cc;
           }
-      taken e Halted q z = absurd (let y : ◌≡◌ {A = ℕ} 0 1 = cc in omega arith)
+      taken ok Halted q z = absurd (let y : ◌≡◌ {A = ℕ} 0 1 = cc in omega arith)

@@ -6,18 +6,21 @@ use mathlib.Core.Bool.{Bool, true, false}
 use mathlib.Core.List.{List, [], ◌∷◌, ◌++◌}
 use Prim.Native.Nat.{ℕ, ◌^◌, ◌≤◌, ◌<◌}
 use lib.Dec.{leb, ltb}
-use borrow.Author.Tests.{eqb-true, leb-false, leb-true, ltb-false, ltb-true, ne_eqb, not-false}
+use borrow.Author.Tests.{eqb-true, leb-false, leb-true, ltb-false, ltb-true, not-false}
+use Rattle.std.specs.Prelude.{Err}
+use Rattle.cube.specs.declared.refusals.Refusal.{Refusal}
 use Rattle.cube.specs.Cube.{flip}
 use Rattle.cube.specs.Refusal.{Test, first, ◌⇒◌}
+use Rattle.cube.specs.Refused.{answered}
 use Rattle.cube.specs.Tables.{is_dimension}
 use Rattle.cube.proofs.Bools.{and_true, either, or_false}
-use Rattle.cube.proofs.Refusal.{first_none, first_passes, first_stops}
+use Rattle.cube.proofs.Refusal.{first_none, first_passes}
 use Rattle.cube.proofs.Tables.{dimension_is}
 use Rattle.jobs.specs.Jobs.{is_job, label_bytes}
 use Rattle.hop.specs.Helpers.{Asked}
 use Rattle.hop.specs.Hop.{job_tests, near_tests, node_tests}
 use Rattle.hop.specs.declared.Decision.{Decision}
-use Rattle.hop.specs.declared.Hopped.TheVariants.{Refused}
+use Rattle.hop.proofs.Refusals.{refuses_first}
 use Rattle.blocks.specs.Blocks.{decide_in, hop_in}
 use Rattle.blocks.specs.Board.{beyond}
 use Rattle.blocks.specs.Phase.{phase_of}
@@ -65,18 +68,20 @@ list_good n j a b m short small e =
 -- ---- a row of tests, part by part
 
 module _ (n : ℕ) (lacking : Bool) (more : List Test) where
-  pub board_stops : (k : ℕ) → k ≡ board_refusal n lacking → (k ≡ 0 → ⊥) → first (board_tests n lacking ++ more) ≡ k
+  pub board_stops : {A B : Type 0} (x : A) (y : B) (r : Refusal) → answered (board_refusal n lacking) x ≡ Err r
+      → answered (first (board_tests n lacking ++ more)) y ≡ Err r
   unfolding board_refusal
-  board_stops k e h = first_stops (board_tests n lacking) more (λ z. h (e ∙ z)) ∙ sym e
+  board_stops x y r e = refuses_first (board_tests n lacking) more x y r e
 
   pub board_passes : board_refusal n lacking ≡ 0 → first (board_tests n lacking ++ more) ≡ first more
   unfolding board_refusal
   board_passes e = first_passes (board_tests n lacking) more (first_none 19 (board_tests n lacking) refl e)
 
 module _ (n j a b m : ℕ) (short : Bool) (more : List Test) where
-  pub list_stops : (k : ℕ) → k ≡ list_refusal n j a b m short → (k ≡ 0 → ⊥) → first (list_tests n j a b m short ++ more) ≡ k
+  pub list_stops : {A B : Type 0} (x : A) (y : B) (r : Refusal) → answered (list_refusal n j a b m short) x ≡ Err r
+      → answered (first (list_tests n j a b m short ++ more)) y ≡ Err r
   unfolding list_refusal
-  list_stops k e h = first_stops (list_tests n j a b m short) more (λ z. h (e ∙ z)) ∙ sym e
+  list_stops x y r e = refuses_first (list_tests n j a b m short) more x y r e
 
   pub list_passes : list_refusal n j a b m short ≡ 0 → first (list_tests n j a b m short ++ more) ≡ first more
   unfolding list_refusal
@@ -91,13 +96,9 @@ module _ (n N j c d w g m : ℕ) (lab : ℕ → ℕ) where
   abbrev sixteen : List Test
   sixteen = beyond N (phase_of w g) c (hop_in n lab d (phase_of w g) c) ⇒ 16 ∷ []
 
-  stops_with : (k : ℕ) → (k ≡ 0 → ⊥) → hop_refusal_in n N j c d w g m lab ≡ k → Refused k ≡ hopped_in n N j c d w g m lab
-  unfolding hopped_in
-  stops_with k h e = rw (e, ne_eqb k 0 h)
-
-  pub hop_unboarded : (k : ℕ) → k ≡ board_refusal n (lacks N w g) → (k ≡ 0 → ⊥) → Refused k ≡ hopped_in n N j c d w g m lab
-  unfolding hop_refusal_in
-  hop_unboarded k e h = stops_with k h (board_stops n (lacks N w g) ((job_tests n j m ++ node_tests n c d) ++ (near ++ sixteen)) k e h)
+  pub hop_unboarded : {A : Type 0} (x : A) (r : Refusal) → answered (board_refusal n (lacks N w g)) x ≡ Err r → Err r ≡ hopped_in n N j c d w g m lab
+  unfolding hop_refusal_in hopped_in
+  hop_unboarded x r e = sym (board_stops n (lacks N w g) ((job_tests n j m ++ node_tests n c d) ++ (near ++ sixteen)) x _ r e)
 
   module _ (board : board_refusal n (lacks N w g) ≡ 0) where
     -- a hop has no list that could be too short
@@ -105,15 +106,17 @@ module _ (n N j c d w g m : ℕ) (lab : ℕ → ℕ) where
     unfolding hop_refusal_in first
     past_board = board_passes n (lacks N w g) ((job_tests n j m ++ node_tests n c d) ++ (near ++ sixteen)) board
 
-    pub hop_unlisted : (k : ℕ) → k ≡ list_refusal n j c d m false → (k ≡ 0 → ⊥) → Refused k ≡ hopped_in n N j c d w g m lab
-    hop_unlisted k e h = stops_with k h (past_board ∙ list_stops n j c d m false (near ++ sixteen) k e h)
+    pub hop_unlisted : {A : Type 0} (x : A) (r : Refusal) → answered (list_refusal n j c d m false) x ≡ Err r → Err r ≡ hopped_in n N j c d w g m lab
+    unfolding hopped_in
+    hop_unlisted x r e = rw past_board (sym (list_stops n j c d m false (near ++ sixteen) x _ r e))
 
     module _ (listed : list_refusal n j c d m false ≡ 0) where
       past_list : hop_refusal_in n N j c d w g m lab ≡ first (near ++ sixteen)
       past_list = past_board ∙ list_passes n j c d m false (near ++ sixteen) listed
 
-      pub hop_unlabelled : (k : ℕ) → k ≡ first near → (k ≡ 0 → ⊥) → Refused k ≡ hopped_in n N j c d w g m lab
-      hop_unlabelled k e h = stops_with k h (past_list ∙ first_stops near sixteen (λ z. h (e ∙ z)) ∙ sym e)
+      pub hop_unlabelled : {A : Type 0} (x : A) (r : Refusal) → answered (first near) x ≡ Err r → Err r ≡ hopped_in n N j c d w g m lab
+      unfolding hopped_in
+      hop_unlabelled x r e = rw past_list (sym (refuses_first near sixteen x _ r e))
 
       pub hop_decided : first near ≡ 0 → decided_on n N c d (phase_of w g) (lab c) (λ i. lab (flip i c)) ≡ hopped_in n N j c d w g m lab
       unfolding hopped_in decided_on hop_in first

@@ -1,13 +1,14 @@
 -- One hop by networks (RULES, Virtual networks, Refusal numbers): the decision that Algorithm ROUTE_C takes at node c, for a message to d in phase p, on a
 -- board with N networks, and its refusals. The question `hopped_in` is asked of a message that is in network w and goes up or, where g is 1, down. m is the
 -- label buffer's length, j the job, and lab x the byte of node x in the job's half.
-use Rattle.std.specs.Prelude.{Bool, cond, not, ◌&&◌, ◌||◌, List, [], ◌∷◌, ◌++◌, ℕ, eqb, leb, ltb}
+use Rattle.std.specs.Prelude.{Bool, not, ◌&&◌, ◌||◌, List, [], ◌∷◌, ◌++◌, ℕ, leb, ltb, Result}
 use Rattle.cube.specs.Cube.{flip}
 use Rattle.cube.specs.Refusal.{Test, first, ◌⇒◌}
+use Rattle.cube.specs.Refused.{answered}
+use Rattle.cube.specs.declared.refusals.Refusal.{Refusal}
 use Rattle.cube.specs.Tables.{is_dimension}
 use Rattle.hop.specs.Hop.{job_tests, near_tests, node_tests}
-use Rattle.hop.specs.declared.Hopped.{Hopped}
-use Rattle.hop.specs.declared.Hopped.TheVariants.{Decided, Refused}
+use Rattle.hop.specs.declared.Decision.{Decision}
 use Rattle.blocks.specs.Blocks.{hop_in}
 use Rattle.blocks.specs.Board.{beyond, numbered}
 use Rattle.blocks.specs.Phase.{phase_of}
@@ -36,7 +37,5 @@ unfoldable pub hop_refusal_in : (n N j c d w g m : ℕ) (lab : ℕ → ℕ) → 
 hop_refusal_in n N j c d w g m lab = first (hop_tests_in n N j c d w g m lab)
 
 -- the answer: the decision, with the number of its hop, or the refusal
-unfoldable pub hopped_in : (n N j c d w g m : ℕ) (lab : ℕ → ℕ) → Hopped
-hopped_in n N j c d w g m lab =
-    cond (eqb (hop_refusal_in n N j c d w g m lab) 0) (Decided (numbered (phase_of w g) c (hop_in n lab d (phase_of w g) c)))
-    (Refused (hop_refusal_in n N j c d w g m lab))
+unfoldable pub hopped_in : (n N j c d w g m : ℕ) (lab : ℕ → ℕ) → Result Decision Refusal
+hopped_in n N j c d w g m lab = answered (hop_refusal_in n N j c d w g m lab) (numbered (phase_of w g) c (hop_in n lab d (phase_of w g) c))

@@ -6,14 +6,19 @@ ghost use Rattle.std.specs.Prelude.{◌<◌, ◌≤◌, ◌^◌, get_or, length,
 ghost use Rattle.blocks.specs.Blocks as blocks;
 ghost use Rattle.blocks.specs.Phase as phases;
 ghost use Rattle.cube.specs.Cube.{flip};
+ghost use Rattle.cube.specs.Refused.{answered};
 ghost use Rattle.cube.specs.Tables.{label_in};
 ghost use Rattle.hop.specs.Helpers.{Placed};
-ghost use Rattle.hop_networks.specs.Helpers.{board_refusal, decided_on, list_refusal, on_set, side_set};
+ghost use Rattle.hop_networks.specs.Helpers.{board_refusal, decided_on, found, is_forward, list_refusal, on_set, side_set};
 ghost use Rattle.hop_networks.specs.Hopping.{hopped_in, is_board};
 ghost use Rattle.jobs.specs.Jobs.{label_for};
+ghost use Rattle.cube.specs.Count;
+ghost use Rattle.scans.specs.Scans;
+ghost use Rattle.hop.specs.Helpers;
 
+use cube::refusals::Refusal;
 use cube::{distance, is_dimension, nodes};
-use hop::{Decision, Hopped, gather, last_hop, lowest, near_refusal};
+use hop::{Decision, gather, near_refusal};
 use jobs::{half, is_job, label_bytes};
 
 // Whether a board may have so many networks.
@@ -23,38 +28,47 @@ pub fn is_board(networks: usize) -> bool
     (1 <= networks) & (networks <= 5)
 }
 
-// The refusals of the dimension and the board, 0 for none: lacking says that the board is none, or has not what is asked of it.
-pub fn board_refusal(n: usize, lacking: bool) -> u32
-    ensures { result ≡ board_refusal n lacking }
+// The refusals of the dimension and the board: lacking says that the board is none, or has not what is asked of it.
+#[tactic(auto, unfolding(crate::specs::Helpers::board_refusal, cube::specs::Refusal::first))]
+pub fn board_refusal(n: usize, lacking: bool) -> Result<(), Refusal>
+    ensures { result ≡ answered (board_refusal n lacking) tt }
 {
     if !is_dimension(n) {
-        return 1;
+        return Err(Refusal::Dimension);
     }
     if lacking {
-        return 15;
+        return Err(Refusal::Board);
     }
-    0
+    Ok(())
 }
 
-// The refusals behind these that need no label, 0 for none: of a job, a label buffer of len bytes, a hop list that may be too short, and two nodes.
-pub fn list_refusal(n: usize, job: usize, a: usize, b: usize, len: usize, short: bool) -> u32
+// The refusals behind these that need no label: of a job, a label buffer of len bytes, a hop list that may be too short, and two nodes.
+#[tactic(auto, unfolding(crate::specs::Helpers::list_refusal, cube::specs::Refusal::first))]
+pub fn list_refusal(
+    n: usize,
+    job: usize,
+    a: usize,
+    b: usize,
+    len: usize,
+    short: bool,
+) -> Result<(), Refusal>
     requires { n ≤ 12 }
-    ensures { result ≡ list_refusal n job a b len short }
+    ensures { result ≡ answered (list_refusal n job a b len short) tt }
 {
     if !is_job(job) {
-        return 19;
+        return Err(Refusal::Job);
     }
     if len != label_bytes(n) {
-        return 2;
+        return Err(Refusal::Length);
     }
     if short {
-        return 13;
+        return Err(Refusal::Room);
     }
     let size = nodes(n);
     if (size <= a) | (size <= b) {
-        return 5;
+        return Err(Refusal::Node);
     }
-    0
+    Ok(())
 }
 
 // The phase in which the hop from c across dimension i is made: one on, where bit i of c is not that of the phase.
@@ -65,15 +79,24 @@ pub fn after(phase: usize, c: usize, i: usize) -> usize
     phase + (((c >> i) ^ phase) & 1)
 }
 
-// The dimensions of one side: those in which c and d differ, or the others.
-fn side_set(n: usize, c: usize, d: usize, side: bool) -> usize
-    requires { n ≤ 12 }
-    ensures { result ≡ side_set n c d side }
-{
-    if side {
-        return c ^ d;
+// The dimensions that a call of FORWARD looks at: those in which the node and the destination differ, or the others.
+#[derive(Clone, Copy)]
+enum Side {
+    Forward,
+    Spare,
+}
+
+impl Side {
+    // Its dimensions at c, as the bits of a number.
+    fn set(self, n: usize, c: usize, d: usize) -> usize
+        requires { n ≤ 12 }
+        ensures { result ≡ side_set n c d (is_forward self) }
+    {
+        match self {
+            Side::Forward => c ^ d,
+            Side::Spare => c ^ d ^ (nodes(n) - 1),
+        }
     }
-    c ^ d ^ (nodes(n) - 1)
 }
 
 // The dimensions in which a hop from c goes on in the phase's direction: going down the bits of c that are 1, going up those that are 0.
@@ -108,63 +131,55 @@ fn may_sixth(l: u32, phase: usize) -> bool
     (phase % 2 != 1) | (l <= 2)
 }
 
-// One call of FORWARD, for the dimensions of one side: the dimension of its hop, n where it makes none. on are those of the phase's direction, turning the
-// others.
-fn call(n: usize, c: usize, d: usize, phase: usize, own: u8, near: &[u8; 12], side: bool) -> usize
+// One call of FORWARD, for the dimensions of one side: the dimension of its hop. on are those of the phase's direction, turning the others.
+fn call(
+    n: usize,
+    c: usize,
+    d: usize,
+    phase: usize,
+    own: u8,
+    near: &[u8; 12],
+    side: Side,
+) -> Option<usize>
     requires { (n ≤ 12) × (c < 2 ^ n) × (d < 2 ^ n) }
-    ensures { result ≡ blocks.call n c d phase own (λ i. get_or near.now i 0) side }
+    ensures { result ≡ found n (blocks.call n c d phase own (λ i. get_or near.now i 0) (is_forward side)) }
 {
-    let set = side_set(n, c, d, side);
+    let set = side.set(n, c, d);
     let on = set & on_set(n, c, phase);
     let turning = set ^ on;
-    let i1 = lowest(n, on, near, 0);
-    if i1 < n {
-        return i1;
+    if let Some(i) = lowest(n, on, near, 0) {
+        return Some(i);
     }
-    let i2 = lowest(n, turning, near, 0);
-    if i2 < n {
-        return i2;
+    if let Some(i) = lowest(n, turning, near, 0) {
+        return Some(i);
     }
-    let i3 = lowest(n, on, near, 1);
-    if i3 < n {
-        return i3;
+    if let Some(i) = lowest(n, on, near, 1) {
+        return Some(i);
     }
     let l = distance(c, d);
-    let i4 = lowest(n, turning, near, 1);
-    if i4 < n {
-        if may_fourth(l, phase) {
-            return i4;
-        }
-        return n;
+    if let Some(i) = lowest(n, turning, near, 1) {
+        return may_fourth(l, phase).then_some(i);
     }
     if !eager(own, l) {
-        return n;
+        return None;
     }
-    let i5 = lowest(n, on, near, 2);
-    if i5 < n {
-        return i5;
+    if let Some(i) = lowest(n, on, near, 2) {
+        return Some(i);
     }
     if may_sixth(l, phase) {
         return lowest(n, turning, near, 2);
     }
-    n
+    None
 }
 
-// The dimension of the hop at c, away from the destination: to d itself where it drains next door, else by the forward dimensions, else by the spare ones; n
-// where there is none.
-fn pick(n: usize, c: usize, d: usize, phase: usize, own: u8, near: &[u8; 12]) -> usize
+// The dimension of the hop at c, away from the destination: to d itself where it drains next door, else by the forward dimensions, else by the spare ones.
+fn pick(n: usize, c: usize, d: usize, phase: usize, own: u8, near: &[u8; 12]) -> Option<usize>
     requires { (n ≤ 12) × (c < 2 ^ n) × (d < 2 ^ n) × (c ≢ d) }
-    ensures { result ≡ blocks.pick n c d phase own (λ i. get_or near.now i 0) }
+    ensures { result ≡ found n (blocks.pick n c d phase own (λ i. get_or near.now i 0)) }
 {
-    let h = last_hop(n, c, d, near);
-    if h < n {
-        return h;
-    }
-    let i = call(n, c, d, phase, own, near, true);
-    if i < n {
-        return i;
-    }
-    call(n, c, d, phase, own, near, false)
+    last_hop(n, c, d, near)
+        .or_else(|| call(n, c, d, phase, own, near, Side::Forward))
+        .or_else(|| call(n, c, d, phase, own, near, Side::Spare))
 }
 
 // The decision at c on a board, with the number of its hop: network * 16 + dimension. 16 where the board lacks that network.
@@ -176,28 +191,27 @@ fn decided(
     phase: usize,
     own: u8,
     near: &[u8; 12],
-) -> Hopped
+) -> Result<Decision, Refusal>
     requires { (n ≤ 12) × (c < 2 ^ n) × (d < 2 ^ n) × (networks ≤ 5) × (phase < 64) }
     ensures { result ≡ decided_on n networks c d phase own (λ i. get_or near.now i 0) }
 {
     if c == d {
-        return Hopped::Decided(Decision::Deliver);
+        return Ok(Decision::Deliver);
     }
-    let i = pick(n, c, d, phase, own, near);
-    if n <= i {
-        return Hopped::Decided(Decision::Halted);
-    }
+    let Some(i) = pick(n, c, d, phase, own, near) else {
+        return Ok(Decision::Halted);
+    };
     let next = after(phase, c, i);
     if 2 * networks <= next {
-        return Hopped::Refused(16);
+        return Err(Refusal::Network);
     }
-    Hopped::Decided(Decision::Hop(next / 2 * 16 + i))
+    Ok(Decision::Hop(next / 2 * 16 + i))
 }
 
 // The dimension of the hop at c, by a label table that was tested: what a walk asks at each node.
-pub fn pick_at(n: usize, c: usize, d: usize, phase: usize, labels: &[u8]) -> usize
+pub fn pick_at(n: usize, c: usize, d: usize, phase: usize, labels: &[u8]) -> Option<usize>
     requires { Placed n c d (length labels.now) × (c ≢ d) }
-    ensures { result ≡ blocks.pick n c d phase (label_in labels.now c) (λ i. label_in labels.now (flip i c)) }
+    ensures { result ≡ found n (blocks.pick n c d phase (label_in labels.now c) (λ i. label_in labels.now (flip i c))) }
 {
     let own = labels[c];
     let mut near = [0u8; 12];
@@ -216,27 +230,41 @@ pub fn hop_networks(
     network: usize,
     down: usize,
     labels: &[u8],
-) -> Hopped
+) -> Result<Decision, Refusal>
     ensures { result ≡ hopped_in n networks job c d network down (length labels.now) (label_for n job labels.now) }
 {
-    let by_board = board_refusal(
+    board_refusal(
         n,
         !is_board(networks) | ((networks <= network) | (1 < down)),
-    );
-    if by_board != 0 {
-        return Hopped::Refused(by_board);
-    }
-    let by_place = list_refusal(n, job, c, d, labels.len(), false);
-    if by_place != 0 {
-        return Hopped::Refused(by_place);
-    }
+    )?;
+    list_refusal(n, job, c, d, labels.len(), false)?;
     let table = half(n, job, labels);
     let own = table[c];
     let mut near = [0u8; 12];
     let high = gather(n, table, c, &mut near);
-    let by_labels = near_refusal(c, d, own, high);
-    if by_labels != 0 {
-        return Hopped::Refused(by_labels);
-    }
+    near_refusal(c, d, own, high)?;
     decided(n, networks, c, d, 2 * network + down, own, &near)
+}
+
+// hop's searches, with what they find.
+fn lowest(n: usize, set: usize, near: &[u8; 12], top: u8) -> Option<usize>
+    requires { (n ≤ 12) × (set < 2 ^ n) }
+    ensures { result ≡ found n (Rattle.cube.specs.Count.least n (Rattle.hop.specs.Helpers.in_set set (λ i. get_or near.now i 0) top)) }
+{
+    let i = hop::lowest(n, set, near, top);
+    if i < n {
+        return Some(i);
+    }
+    None
+}
+
+fn last_hop(n: usize, c: usize, d: usize, near: &[u8; 12]) -> Option<usize>
+    requires { (n ≤ 12) × (c < 2 ^ n) × (d < 2 ^ n) × (c ≢ d) }
+    ensures { result ≡ found n (Rattle.scans.specs.Scans.lowest n c d 0 (λ i. get_or near.now i 0) 0) }
+{
+    let i = hop::last_hop(n, c, d, near);
+    if i < n {
+        return Some(i);
+    }
+    None
 }

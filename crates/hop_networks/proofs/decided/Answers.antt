@@ -5,19 +5,19 @@ use Rattle.hop_networks.proofs.decided.Goals as goal
 pub returns-then-c-d : goal.returns-then-c-d
 returns-then-c-d c = arrived _ _ _ _ _ _ _ c.if-c-d.true
 
-pub returns-then-n-i : goal.returns-then-n-i
-returns-then-n-i c =
+pub returns-in_default : goal.returns-in_default
+returns-in_default c =
     let s = c.requires in
-    halted _ _ _ _ _ _ _ s.1 s.2 c.if-c-d.false _ c.pick-i.ensures c.if-n-i.true
+    halted _ _ _ _ _ _ _ s.1 s.2 c.if-c-d.false c.in_default.ensures
 
 -- where the board lacks the network of the hop that is picked,
 -- no other block is asked for another hop
 pub returns-then-networks-next : goal.returns-then-networks-next
 returns-then-networks-next c =
     let s = c.requires in
-    refused _ _ _ _ _ _ _ s.1 s.2 c.if-c-d.false _ c.pick-i.ensures c.if-n-i.false _ c.after-next.ensures c.if-networks-next.true
+    refused _ _ _ _ _ _ _ s.1 s.2 c.if-c-d.false _ c.in-Some.ensures _ c.after-next.ensures c.if-networks-next.true
 
 pub returns : goal.returns
 returns c =
     let s = c.requires in
-    hopped _ _ _ _ _ _ _ s.1 s.2 c.if-c-d.false _ c.pick-i.ensures c.if-n-i.false _ c.after-next.ensures c.if-networks-next.false
+    hopped _ _ _ _ _ _ _ s.1 s.2 c.if-c-d.false _ c.in-Some.ensures _ c.after-next.ensures c.if-networks-next.false
