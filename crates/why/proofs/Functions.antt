@@ -4,6 +4,8 @@ use mathlib.Core.List.{List}
 use mathlib.Core.Path.{refl}
 use Prim.Native.Nat.{ℕ}
 use lib.ListN.{length}
+use Rattle.std.specs.Prelude.{Result}
+use Rattle.cube.specs.declared.refusals.Refusal.{Refusal}
 use Rattle.cube.specs.Allowed.{AsksNothing, Function, Nothing}
 use Rattle.cube.proofs.Contracts.{Says}
 use Rattle.jobs.specs.Jobs.{label_for}
@@ -18,7 +20,7 @@ use Rattle.why.specs.contracts.why_node
 use Rattle.why.proofs.why_node.Reads as why_node-reads
 
 -- handed what labelling is, and between the job and the tables the node
-abbrev pub why-node : Function why_node.ended (ℕ × ℕ × ℕ × ℕ × List ℕ × List ℕ × List ℕ × List ℕ) NodeReason (List ℕ)
+abbrev pub why-node : Function why_node.ended (ℕ × ℕ × ℕ × ℕ × List ℕ × List ℕ × List ℕ × List ℕ) (Result NodeReason Refusal) (List ℕ)
 why-node =
     record {
       clauses = λ w. why_node.clauses w.𝓛 w.𝓜.mem w.𝓡.returns;
@@ -38,7 +40,7 @@ pub why_node_says : Says why-node
     (λ i. labels_left (cabinet i.0 i.1 i.4 i.5 i.6) i.2 i.3 i.7)
 why_node_says = record { says = λ κs a r e p. (p.0, p.1) }
 
-abbrev pub why-hop : Function why_hop.ended (ℕ × ℕ × ℕ × ℕ × List ℕ) HopReason Nothing
+abbrev pub why-hop : Function why_hop.ended (ℕ × ℕ × ℕ × ℕ × List ℕ) (Result HopReason Refusal) Nothing
 why-hop =
     record {
       clauses = λ w. why_hop.clauses w.𝓛 w.𝓜.mem w.𝓡.returns;

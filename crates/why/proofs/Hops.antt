@@ -1,52 +1,60 @@
 -- Why a hop is taken, beside the hop question: both go by the same tests, and away from the destination by what the scans pick, the scan and its dimension in
 -- one number.
-use mathlib.Core.Path.{◌≡◌, sym, ap, ◌∙◌}
+use mathlib.Core.Path.{◌≡◌, refl, sym, ap, ◌∙◌}
 use mathlib.Core.Logic.{◌⊎◌, inl, inr, ⊎_elim, ◌≢◌}
 use mathlib.Core.Bool.{true, false, cond}
-use Prim.Native.Nat.{ℕ, ◌+◌, ◌*◌, ◌/◌, ◌%◌, ◌^◌, ◌≤◌, ◌<◌}
+use Prim.Native.Nat.{ℕ, zero, suc, ◌+◌, ◌*◌, ◌/◌, ◌%◌, ◌^◌, ◌≤◌, ◌<◌}
 use native.Mathlib.Omega.{arith}
 use lib.Dec.{eqb, ltb}
-use borrow.Author.Tests.{eq-eqb, le-ltb, lt-ltb, ltb-false, ltb-true, ne_eqb}
+use borrow.Author.Tests.{le-ltb, lt-ltb, ltb-false, ltb-true, ne_eqb}
+use Rattle.std.specs.Prelude.{Ok}
 use Rattle.cube.specs.Cube.{dist, flip}
 use Rattle.cube.proofs.Bools.{either}
 use Rattle.cube.proofs.Cube.{dist_self, dist_zero}
+use Rattle.cube.specs.Refused.{answered}
 use Rattle.scans.specs.Scans.{first_scan, lowest, no_scan}
 use Rattle.scans.proofs.Local.{first_same, lowest_same}
 use Rattle.hop.specs.Helpers.{chosen}
 use Rattle.hop.specs.Hop as H
+use Rattle.hop.specs.declared.Decision.{Decision}
 use Rattle.hop.specs.declared.Decision.TheVariants as decision
-use Rattle.hop.specs.declared.Hopped.TheVariants as hopped
 use Rattle.hop.proofs.Local.{refusal_same}
 use Rattle.hop.proofs.Scanning.{lowest_within}
 use Rattle.why.specs.Helpers.{taken}
 use Rattle.why.specs.HopReasons.{answer, explain, hop_reason, without_scan}
-use Rattle.why.specs.declared.HopReason.TheVariants.{Deliver, Hop, Halted, Refused}
+use Rattle.why.specs.declared.HopReason.{HopReason}
+use Rattle.why.specs.declared.HopReason.TheVariants.{Deliver, Hop, Halted}
 
 -- ---- one answer beside the other
 
 module _ (l s i : ℕ) where
   -- what is decided: to deliver, a hop, or to halt
-  data Answered : Type 0 where
-    delivers : H.answer l s i ≡ decision.Deliver → answer l s i ≡ Deliver → Answered
-    hops : H.answer l s i ≡ decision.Hop i → answer l s i ≡ Hop s i → Answered
-    halts : H.answer l s i ≡ decision.Halted → answer l s i ≡ Halted → Answered
+  data Decided : Type 0 where
+    delivers : H.answer l s i ≡ decision.Deliver → answer l s i ≡ Deliver → Decided
+    hops : H.answer l s i ≡ decision.Hop i → answer l s i ≡ Hop s i → Decided
+    halts : H.answer l s i ≡ decision.Halted → answer l s i ≡ Halted → Decided
 
-  answered : Answered
+  decided : Decided
   unfolding H.answer answer
-  answered = go (either (eqb l 0)) (either (ltb s no_scan))
+  decided = go (either (eqb l 0)) (either (ltb s no_scan))
     where
-      go : (eqb l 0 ≡ true) ⊎ (eqb l 0 ≡ false) → (ltb s no_scan ≡ true) ⊎ (ltb s no_scan ≡ false) → Answered
+      go : (eqb l 0 ≡ true) ⊎ (eqb l 0 ≡ false) → (ltb s no_scan ≡ true) ⊎ (ltb s no_scan ≡ false) → Decided
       go (inl a) _ = delivers (rw a) (rw a)
       go (inr a) (inl b) = hops (rw (a, b)) (rw (a, b))
       go (inr a) (inr b) = halts (rw (a, b)) (rw (a, b))
 
-  same_decision : without_scan (answer l s i) ≡ hopped.Decided (H.answer l s i)
-  same_decision = go answered
+  same_decision : without_scan (Ok (answer l s i)) ≡ Ok (H.answer l s i)
+  same_decision = go decided
     where
-      go : Answered → without_scan (answer l s i) ≡ hopped.Decided (H.answer l s i)
+      go : Decided → without_scan (Ok (answer l s i)) ≡ Ok (H.answer l s i)
       go (delivers a b) = rw (a, b)
       go (hops a b) = rw (a, b)
       go (halts a b) = rw (a, b)
+
+-- refused or not
+without_refused : (k : ℕ) (x : HopReason) (y : Decision) → without_scan (Ok x) ≡ Ok y → without_scan (answered k x) ≡ answered k y
+without_refused zero x y e = e
+without_refused (suc k) x y e = refl
 
 -- the scan and its dimension, taken apart again
 apart_again : (s i : ℕ) → i < 16 → taken (s * 16 + i) ≡ cond (ltb s no_scan) (Hop s i) Halted
@@ -72,16 +80,12 @@ module _ (n j c d m : ℕ) (lab : ℕ → ℕ) where
   -- "kind and dimension are those of the hop decision", and so are the refusals
   pub same_hop : without_scan (hop_reason n j c d m lab) ≡ H.hopped n j c d m lab
   unfolding hop_reason H.hopped H.hop H.decide explain
-  same_hop = go (either (eqb (H.hop_refusal n j c d m lab) 0))
-    where
-      go : (eqb (H.hop_refusal n j c d m lab) 0 ≡ true) ⊎ (eqb (H.hop_refusal n j c d m lab) 0 ≡ false)
-          → without_scan (hop_reason n j c d m lab) ≡ H.hopped n j c d m lab
-      go (inl a) = rw a (same_decision (dist c d) scan (lowest n c d own near scan))
-      go (inr a) = rw a
+  same_hop =
+      without_refused (H.hop_refusal n j c d m lab) _ _ (same_decision (dist c d) scan (lowest n c d own near scan))
 
-  pub refused_is : (k : ℕ) → (k ≡ 0 → ⊥) → H.hop_refusal n j c d m lab ≡ k → Refused k ≡ hop_reason n j c d m lab
+  pub reasons : (x : HopReason) → H.hop_refusal n j c d m lab ≡ 0 → x ≡ explain n c d own near → Ok x ≡ hop_reason n j c d m lab
   unfolding hop_reason
-  refused_is k h e = rw (e, ne_eqb k 0 h)
+  reasons x e ex = rw (e, ex)
 
   -- it goes by the label of c and those of its neighbours, as the hop does
   pub reason_same : (lab' : ℕ → ℕ) → lab c ≡ lab' c → ((i : ℕ) → i < n → lab (flip i c) ≡ lab' (flip i c))
@@ -98,17 +102,16 @@ module _ (n j c d m : ℕ) (lab : ℕ → ℕ) where
   -- ---- from what the code has, where nothing is refused
 
   module _ (good : H.hop_refusal n j c d m lab ≡ 0) where
-    explained : hop_reason n j c d m lab ≡ explain n c d own near
-    unfolding hop_reason
-    explained = rw (eq-eqb (H.hop_refusal n j c d m lab) 0 good)
-
-    pub delivers_is : c ≡ d → Deliver ≡ hop_reason n j c d m lab
+    pub delivers_is : c ≡ d → Ok Deliver ≡ hop_reason n j c d m lab
     unfolding explain answer
-    delivers_is e = sym (explained ∙ rw (e, dist_self))
+    delivers_is e = reasons Deliver good (rw (e, dist_self))
 
     -- away from the destination, by what the scans picked
-    pub taken_is : n ≤ 12 → c < 2 ^ n → d < 2 ^ n → c ≢ d → (p : ℕ) → p ≡ chosen n c d own near → taken p ≡ hop_reason n j c d m lab
+    pub taken_is : n ≤ 12 → c < 2 ^ n → d < 2 ^ n → c ≢ d → (p : ℕ) → p ≡ chosen n c d own near → Ok (taken p) ≡ hop_reason n j c d m lab
     unfolding explain answer chosen
     taken_is small hc hd far p e =
+        reasons (taken p) good
+        (
         ap taken e ∙ apart_again scan (lowest n c d own near scan) (omega (arith, lowest_within n c d own near scan))
-        ∙ sym (explained ∙ rw (ne_eqb (dist c d) 0 (λ z. far (dist_zero n c d hc hd z))))
+        ∙ sym (rw (ne_eqb (dist c d) 0 (λ z. far (dist_zero n c d hc hd z))))
+        )

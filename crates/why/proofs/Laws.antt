@@ -8,7 +8,7 @@ use lib.Dec.{eqb, ltb}
 use borrow.Author.Tests.{eqb-true, eqb-false, ltb-true, ltb-false}
 use Rattle.cube.specs.Cube.{dist, flip}
 use Rattle.cube.specs.Tables.{label_in}
-use Rattle.cube.proofs.Bools.{by_cases, clash, either}
+use Rattle.cube.proofs.Bools.{clash, either}
 use Rattle.rule.specs.Cabinet.{Cabinet, labels_of, out, out_byte}
 use Rattle.rule.specs.Rule.{label, label_of, marked, rounds, safe}
 use Rattle.rule.proofs.Bytes.{Label, four}
@@ -17,12 +17,9 @@ use Rattle.rule.proofs.Cabinet.{is_zero, label-in, out_high}
 use Rattle.causes.proofs.Down.{cause_laws}
 use Rattle.scans.specs.Scans.{no_scan}
 use Rattle.scans.proofs.Picking.{first_picks, first_scan_at, lowest_at, none_picks}
-use Rattle.why.specs.HopReasons as X
 use Rattle.why.specs.HopReasons.{answer, explain}
 use Rattle.why.specs.Laws.{HopExplained, NodeExplained, WhyLaws, arrived, is-out, is_safe, is-unsafe, stopped, took}
-use Rattle.why.specs.NodeReasons as Y
 use Rattle.why.specs.NodeReasons.{reason_of}
-use Rattle.why.specs.declared.HopReason.{HopReason}
 use Rattle.why.proofs.Hops.{same_hop}
 use Rattle.why.proofs.Reasons.{near_not_safe}
 
@@ -94,22 +91,6 @@ module _ (n : ℕ) (lab : ℕ → ℕ) (c d : ℕ) where
       go (inl a) _ = rw a (arrived (eqb-true (dist c d) 0 a))
       go (inr a) (inl b) = rw (a, b) (took (far a) (first_picks n lab c d (ltb-true first no_scan b)))
       go (inr a) (inr b) = rw (a, b) (stopped (far a) (none_picks n lab c d (ltb-false first no_scan b)))
-
--- ---- what is explained is not refused
-
-pub explained_none : (n : ℕ) (lab : ℕ → ℕ) (c d : ℕ) → X.refusal_of (explain n c d (lab c) (λ i. lab (flip i c))) ≡ 0
-explained_none n lab c d = go (hop_explained n lab c d)
-  where
-    go : {a : HopReason} → HopExplained n lab c d a → X.refusal_of a ≡ 0
-    go (arrived _) = refl
-    go (took _ _) = refl
-    go (stopped _ _) = refl
-
-pub reason_none : (K : Cabinet) (x : ℕ) → Y.refusal_of (reason_of K x) ≡ 0
-unfolding reason_of
-reason_none K x =
-    by_cases (λ a. Y.refusal_of a ≡ 0) (out K x) (λ _. refl)
-    (λ _. by_cases (λ a. Y.refusal_of a ≡ 0) (safe K.n K.rule (out K) x) (λ _. refl) (λ _. refl))
 
 pub why_laws : WhyLaws
 why_laws = record { node = node_explained; hop = hop_explained; same_hop = same_hop }

@@ -19,10 +19,9 @@ use Rattle.rule.specs.Rule.{label, label_of, marked, rounds, safe}
 use Rattle.rule.proofs.Bytes.{Label, four, is-ordinary, is-out, is_safe, is_strong, out-byte}
 use Rattle.rule.proofs.Cabinet.{label-in, out_high}
 use Rattle.rule.proofs.Rounds.{marks_work}
-use Rattle.why.specs.Helpers.{reason_by, unmarked, watched_after, watched_of}
+use Rattle.why.specs.Helpers.{Watched, reason_by, unmarked, watched_after, watched_of}
 use Rattle.why.specs.NodeReasons.{reason_of}
 use Rattle.why.specs.declared.NodeReason.{NodeReason}
-use Rattle.why.specs.declared.Watched.{Watched}
 
 module _ (K : Cabinet) where
   abbrev n : ℕ

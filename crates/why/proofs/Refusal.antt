@@ -9,20 +9,27 @@ use lib.Dec.{eqb, leb}
 use lib.ListN.{length}
 use native.Mathlib.Omega.{arith}
 use borrow.Author.Tests.{eq-eqb, eqb-false, eqb-true, le-leb, lt-leb, ne_eqb}
+use Rattle.std.specs.Prelude.{Ok, Err}
+use Rattle.cube.specs.declared.refusals.Refusal.{Refusal}
 use Rattle.cube.specs.Refusal.{first, ◌⇒◌}
+use Rattle.cube.specs.Refused.{answered}
 use Rattle.cube.proofs.Bools.{either}
 use Rattle.cube.proofs.Refusal.{first_le, first_none, first_passes, first_stops}
+use Rattle.cube.proofs.Refused.{accepts, passed_on, refusing}
 use Rattle.jobs.specs.Jobs.{with_half}
 use Rattle.rule.specs.Cabinet.{Cabinet, labels_of}
 use Rattle.labels.specs.Labelling.{label_refusal, label_tests, labels_after}
 use Rattle.why.specs.NodeReasons.{labels_left, node_reason, node_refusal, node_tests, reason_of}
 use Rattle.why.specs.declared.NodeReason.{NodeReason}
-use Rattle.why.specs.declared.NodeReason.TheVariants.{Refused}
 
 module _ (K : Cabinet) (j m x : ℕ) where
   pub refuses_first : (k : ℕ) → k ≡ label_refusal K j m → (k ≡ 0 → ⊥) → k ≡ node_refusal K j m x
   unfolding label_refusal node_refusal
   refuses_first k e h = e ∙ sym (first_stops (label_tests K j m) (leb (2 ^ K.n) x ⇒ 5 ∷ []) (λ z. h (e ∙ z)))
+
+  pub refuses_as_labelling : (r : Refusal) → answered {A = Unit {0}} (label_refusal K j m) tt ≡ Err r → Err r ≡ answered {A = Unit {0}} (node_refusal K j m x) tt
+  refuses_as_labelling r e =
+      sym e ∙ ap (λ (k : ℕ). answered {A = Unit {0}} k tt) (refuses_first (label_refusal K j m) refl (refusing (label_refusal K j m) tt r e))
 
   passes : label_refusal K j m ≡ 0 → node_refusal K j m x ≡ first (leb (2 ^ K.n) x ⇒ 5 ∷ [])
   unfolding label_refusal node_refusal
@@ -56,17 +63,25 @@ module _ (K : Cabinet) (j m x : ℕ) where
 -- ---- the answer and the buffer, from what the code has
 
 module _ (K : Cabinet) (j x : ℕ) (before : List ℕ) where
-  pub says_refused : (k : ℕ) → k ≡ node_refusal K j (length before) x → (k ≡ 0 → ⊥)
-      → (Refused k ≡ node_reason K j (length before) x) × (before ≡ labels_left K j x before)
-  unfolding node_reason labels_left
-  says_refused k e h = let z = ne_eqb (node_refusal K j (length before) x) 0 (λ q. h (e ∙ q)) in (rw z (ap Refused e), rw z)
+  pub kept : (node_refusal K j (length before) x ≡ 0 → ⊥) → before ≡ labels_left K j x before
+  unfolding labels_left
+  kept d = rw (ne_eqb (node_refusal K j (length before) x) 0 d)
 
-  pub says_reason : (table after : List ℕ) (k : ℕ) (r : NodeReason) → k ≡ node_refusal K j (length before) x → k ≡ 0 → r ≡ reason_of K x
+  pub says_refused : (r : Refusal) → answered {A = Unit {0}} (node_refusal K j (length before) x) tt ≡ Err r
+      → (Err r ≡ node_reason K j (length before) x) × (before ≡ labels_left K j x before)
+  unfolding node_reason
+  says_refused r e = (
+    sym (passed_on (node_refusal K j (length before) x) tt (reason_of K x) r e),
+    kept (refusing (node_refusal K j (length before) x) tt r e),
+  )
+
+  pub says_reason : (table after : List ℕ) (r : NodeReason) → node_refusal K j (length before) x ≡ 0 → r ≡ reason_of K x
       → table ≡ labels_of K → after ≡ with_half j (2 ^ K.n) table before
-      → (r ≡ node_reason K j (length before) x) × (after ≡ labels_left K j x before)
+      → (Ok r ≡ node_reason K j (length before) x) × (after ≡ labels_left K j x before)
   unfolding node_reason labels_left labels_after
-  says_reason table after k r e h er et ea =
-      let q = sym e ∙ h in
+  says_reason table after r q er et ea =
       let z = eq-eqb (node_refusal K j (length before) x) 0 q in
-      let y = eq-eqb (label_refusal K j (length before)) 0 (accepted K j (length before) x q).0 in
-      (rw z er, rw (z, y) (ea ∙ ap (λ (t : List ℕ). with_half j (2 ^ K.n) t before) et))
+      let y = eq-eqb (label_refusal K j (length before)) 0 (accepted K j (length before) x q).0 in (
+        ap Ok er ∙ sym (accepts (node_refusal K j (length before) x) (reason_of K x) q),
+        rw (z, y) (ea ∙ ap (λ (t : List ℕ). with_half j (2 ^ K.n) t before) et),
+      )

@@ -24,9 +24,8 @@ use Rattle.passes.specs.Passes.{fresh, mark_in, out_in, swept}
 use Rattle.passes.proofs.Marking.{swept_alike, swept_new, swept_old}
 use Rattle.passes.proofs.Standing.{Kind, Stands, fresh_is, is_mark, is-out, is_plain, kind, mark_is, marks, new, out_is}
 use Rattle.labels.proofs.Loop.{Turn, end_rounds, still_loud, swept_byte}
-use Rattle.why.specs.Helpers.{watched_after, watched_of, watched_on}
-use Rattle.why.specs.declared.Watched.{Watched}
-use Rattle.why.specs.declared.Watched.TheVariants.{Unmarked, Marked}
+use Rattle.std.specs.Prelude.{Some, None}
+use Rattle.why.specs.Helpers.{Watched, watched_after, watched_of, watched_on}
 
 -- where a turn of the loop begins
 pub record Watch (K : Cabinet) (x : ℕ) (l : List ℕ) (w : Watched) (round : ℕ) : Type 0 where
@@ -39,7 +38,7 @@ loud_few n k F r f =
     let late : ¬ (rounds n k F < r) = λ l. clash (rest n k F) (f (rounds n k F) l) in
     omega (arith, late)
 
-pub watched_first : (K : Cabinet) (x : ℕ) → Unmarked ≡ watched_after K x 0
+pub watched_first : (K : Cabinet) (x : ℕ) → None ≡ watched_after K x 0
 unfolding watched_after
 watched_first K x = rw (marked_zero K.n K.rule (out K) x)
 
@@ -92,14 +91,14 @@ module _ (K : Cabinet) (l : List ℕ) (r : ℕ) (T : Stands K l r) where
         marks_on = rw (add-one r) (marked_suc n K.rule F r x)
 
         -- the round marked it
-        seen_now : new K r x ≡ true → (w : Watched) → watched_on n K.rule l₁ x (r + 1) w ≡ Marked (r + 1) (cause_with n K.rule F (marks K r) x)
+        seen_now : new K r x ≡ true → (w : Watched) → watched_on n K.rule l₁ x (r + 1) w ≡ Some (r + 1, cause_with n K.rule F (marks K r) x)
         unfolding watched_on
         seen_now t w = rw (eq-eqb (label_in l₁ x) 128 (marked_now t), cause_now)
 
-        to_see : new K r x ≡ true → watched_after K x (r + 1) ≡ Marked (r + 1) (cause_with n K.rule F (marks K r) x)
+        to_see : new K r x ≡ true → watched_after K x (r + 1) ≡ Some (r + 1, cause_with n K.rule F (marks K r) x)
         unfolding watched_after round_of cause_of
         to_see t =
-            rw (marks_on ∙ or_right (marks K r x) t) (ap (λ (e : ℕ). Marked (e + 1) (cause_with n K.rule F (marks K e) x)) (is_earlier t))
+            rw (marks_on ∙ or_right (marks K r x) t) (ap (λ (e : ℕ). Some (e + 1, cause_with n K.rule F (marks K e) x)) (is_earlier t))
 
         -- or did not
         not_seen : new K r x ≡ false → (w : Watched) → watched_on n K.rule l₁ x (r + 1) w ≡ w

@@ -1,9 +1,11 @@
 -- Why a node has its label (RULES, Why a node has its label, Refusal numbers), for any cabinet K, job j and node x: m is the length of the lent label buffer,
 -- `before` the buffer itself.
-use Rattle.std.specs.Prelude.{cond, not, List, [], ◌∷◌, ◌++◌, ℕ, ◌^◌, eqb, leb, length}
+use Rattle.std.specs.Prelude.{cond, not, List, [], ◌∷◌, ◌++◌, ℕ, ◌^◌, eqb, leb, length, Result, Ok, Err}
 use Rattle.cube.specs.Count.{count}
 use Rattle.cube.specs.Cube.{flip}
+use Rattle.cube.specs.declared.refusals.Refusal.{Refusal}
 use Rattle.cube.specs.Refusal.{Test, first, ◌⇒◌}
+use Rattle.cube.specs.Refused.{answered}
 use Rattle.rule.specs.Cabinet.{Cabinet, out, out_byte}
 use Rattle.rule.specs.Rule.{label, safe}
 use Rattle.causes.specs.Cause.{cause_of, round_of}
@@ -11,7 +13,7 @@ use Rattle.causes.specs.declared.Cause.{Cause}
 use Rattle.causes.specs.declared.Cause.TheVariants as cause
 use Rattle.labels.specs.Labelling.{label_tests, labels_after}
 use Rattle.why.specs.declared.NodeReason.{NodeReason}
-use Rattle.why.specs.declared.NodeReason.TheVariants.{Safe, Unsafe, Out, Refused}
+use Rattle.why.specs.declared.NodeReason.TheVariants.{Safe, Unsafe, Out}
 
 -- the refusals: those of labelling, then 5 for the node
 abbrev pub node_tests : (K : Cabinet) (j m x : ℕ) → List Test
@@ -31,31 +33,25 @@ reason_of K x =
     (Unsafe (label K.n K.rule (out K) (out_byte K) x) (round_of K.n K.rule (out K) x) (cause_of K.n K.rule (out K) x)))
 
 -- the answer
-unfoldable pub node_reason : (K : Cabinet) (j m x : ℕ) → NodeReason
-node_reason K j m x = cond (eqb (node_refusal K j m x) 0) (reason_of K x) (Refused (node_refusal K j m x))
+unfoldable pub node_reason : (K : Cabinet) (j m x : ℕ) → Result NodeReason Refusal
+node_reason K j m x = answered (node_refusal K j m x) (reason_of K x)
 
 -- the label buffer afterwards: what labelling leaves there, or every byte kept
 unfoldable pub labels_left : (K : Cabinet) (j x : ℕ) (before : List ℕ) → List ℕ
 labels_left K j x before = cond (eqb (node_refusal K j (length before) x) 0) (labels_after K j before) before
 
--- the numbers for the cases (RULES, To C): the kind is the label, the value the round; a field that a case has not is 0
-abbrev pub refusal_of : NodeReason → ℕ
-refusal_of (Safe a b) = 0
-refusal_of (Unsafe l r c) = 0
-refusal_of (Out l) = 0
-refusal_of (Refused k) = k
+-- the numbers for the cases (RULES, To C), beside the refusal number: the kind is the label, the value the round; a field that a case has not is 0
+abbrev pub kind_of : Result NodeReason Refusal → ℕ
+kind_of (Ok (Safe a b)) = 0
+kind_of (Ok (Unsafe l r c)) = l
+kind_of (Ok (Out l)) = l
+kind_of (Err r) = 0
 
-abbrev pub kind_of : NodeReason → ℕ
-kind_of (Safe a b) = 0
-kind_of (Unsafe l r c) = l
-kind_of (Out l) = l
-kind_of (Refused k) = 0
-
-abbrev pub value_of : NodeReason → ℕ
-value_of (Safe a b) = 0
-value_of (Unsafe l r c) = r
-value_of (Out l) = 0
-value_of (Refused k) = 0
+abbrev pub value_of : Result NodeReason Refusal → ℕ
+value_of (Ok (Safe a b)) = 0
+value_of (Ok (Unsafe l r c)) = r
+value_of (Ok (Out l)) = 0
+value_of (Err r) = 0
 
 -- of a cause: its number, and the dimensions that it names
 abbrev pub cause_number : Cause → ℕ
@@ -79,26 +75,26 @@ third_named (cause.Two a b) = 0
 third_named (cause.Three a b c) = c
 
 -- and of a reason: first counts a safe node's neighbours that do not work, second those that are not safe
-abbrev pub cause_in : NodeReason → ℕ
-cause_in (Safe a b) = 0
-cause_in (Unsafe l r c) = cause_number c
-cause_in (Out l) = 0
-cause_in (Refused k) = 0
+abbrev pub cause_in : Result NodeReason Refusal → ℕ
+cause_in (Ok (Safe a b)) = 0
+cause_in (Ok (Unsafe l r c)) = cause_number c
+cause_in (Ok (Out l)) = 0
+cause_in (Err r) = 0
 
-abbrev pub first_of : NodeReason → ℕ
-first_of (Safe a b) = a
-first_of (Unsafe l r c) = first_named c
-first_of (Out l) = 0
-first_of (Refused k) = 0
+abbrev pub first_of : Result NodeReason Refusal → ℕ
+first_of (Ok (Safe a b)) = a
+first_of (Ok (Unsafe l r c)) = first_named c
+first_of (Ok (Out l)) = 0
+first_of (Err r) = 0
 
-abbrev pub second_of : NodeReason → ℕ
-second_of (Safe a b) = b
-second_of (Unsafe l r c) = second_named c
-second_of (Out l) = 0
-second_of (Refused k) = 0
+abbrev pub second_of : Result NodeReason Refusal → ℕ
+second_of (Ok (Safe a b)) = b
+second_of (Ok (Unsafe l r c)) = second_named c
+second_of (Ok (Out l)) = 0
+second_of (Err r) = 0
 
-abbrev pub third_of : NodeReason → ℕ
-third_of (Safe a b) = 0
-third_of (Unsafe l r c) = third_named c
-third_of (Out l) = 0
-third_of (Refused k) = 0
+abbrev pub third_of : Result NodeReason Refusal → ℕ
+third_of (Ok (Safe a b)) = 0
+third_of (Ok (Unsafe l r c)) = third_named c
+third_of (Ok (Out l)) = 0
+third_of (Err r) = 0

@@ -4,6 +4,7 @@
 #![tactic(auto)]
 
 ghost use Rattle.std.specs.Prelude.{◌≤◌, ◌<◌, leb, length, ◌≡◌};
+ghost use Rattle.cube.specs.Refused.{answered};
 ghost use Rattle.causes.specs.Cause.{bad_cause, cause_with, from};
 ghost use Rattle.cube.specs.Count.{count};
 ghost use Rattle.cube.specs.Cube.{flip};
@@ -16,6 +17,7 @@ ghost use Rattle.why.specs.HopReasons.{hop_reason};
 ghost use Rattle.why.specs.NodeReasons.{labels_left, node_reason, node_refusal, reason_of};
 
 use causes::Cause;
+use cube::refusals::Refusal;
 use cube::{neighbour, nodes};
 use hop::{NO_CHOICE, chosen, gather, near_refusal, place_refusal};
 use jobs::half;
@@ -28,7 +30,6 @@ pub enum NodeReason {
     Safe(usize, usize), // how many neighbours do not work, and how many are not safe
     Unsafe(u8, usize, Cause), // its label, the round that marked it, and its cause
     Out(u8), // its label: it does not work
-    Refused(u32),
 }
 
 // Why a hop is taken: the scan, and the dimension.
@@ -37,14 +38,6 @@ pub enum HopReason {
     Deliver,
     Hop(usize, usize),
     Halted,
-    Refused(u32),
-}
-
-// What was seen of the watched node: no mark so far, or the round that marked it and its cause.
-#[derive(Drop)]
-enum Watched {
-    Unmarked,
-    Marked(usize, Cause),
 }
 
 // ---- a node
@@ -100,13 +93,20 @@ fn cause(n: usize, rule: usize, labels: &[u8], x: usize) -> Cause
     bad_cause(n, rule, labels, x)
 }
 
-// What is seen of x once this round has marked its nodes, and before they are settled.
-fn watch(n: usize, rule: usize, labels: &[u8], x: usize, round: usize, before: Watched) -> Watched
+// What is seen of x once this round has marked its nodes, and before they are settled: the round that marked x, and its cause.
+fn watch(
+    n: usize,
+    rule: usize,
+    labels: &[u8],
+    x: usize,
+    round: usize,
+    before: Option<(usize, Cause)>,
+) -> Option<(usize, Cause)>
     requires { NodeOf n labels.now x }
     ensures { result ≡ watched_on n rule labels.now x round before }
 {
     if labels[x] == NEW {
-        return Watched::Marked(round, cause(n, rule, labels, x));
+        return Some((round, cause(n, rule, labels, x)));
     }
     before
 }
@@ -142,13 +142,13 @@ fn unmarked_reason(n: usize, labels: &[u8], x: usize) -> NodeReason
 }
 
 // Why x has its label, by the final labels and by what was seen of it.
-fn reason(n: usize, labels: &[u8], x: usize, watched: Watched) -> NodeReason
+fn reason(n: usize, labels: &[u8], x: usize, watched: Option<(usize, Cause)>) -> NodeReason
     requires { NodeOf n labels.now x }
     ensures { result ≡ reason_by n (label_in labels.now) x watched }
 {
     match watched {
-        Watched::Marked(round, cause) => NodeReason::Unsafe(labels[x], round, cause),
-        Watched::Unmarked => unmarked_reason(n, labels, x),
+        Some((round, cause)) => NodeReason::Unsafe(labels[x], round, cause),
+        None => unmarked_reason(n, labels, x),
     }
 }
 
@@ -171,7 +171,7 @@ fn label_watching(
     ensures labels { labels.new ≡ labels_of (cabinet n rule faults.now draining.now closed.now) }
 {
     start(n, faults, draining, closed, labels);
-    let mut watched = Watched::Unmarked;
+    let mut watched = None;
     let mut round: usize = 1;
     loop {
         let marked = sweep(n, rule, labels);
@@ -196,17 +196,14 @@ fn node_refusal(
     draining: &[u8],
     closed: &[u8],
     m: usize,
-) -> u32
-    ensures { result ≡ node_refusal (cabinet n rule faults.now draining.now closed.now) job m x }
+) -> Result<(), Refusal>
+    ensures { result ≡ answered (node_refusal (cabinet n rule faults.now draining.now closed.now) job m x) tt }
 {
-    let refusal = label_refusal(n, rule, job, faults, draining, closed, m);
-    if refusal != 0 {
-        return refusal;
-    }
+    label_refusal(n, rule, job, faults, draining, closed, m)?;
     if nodes(n) <= x {
-        return 5;
+        return Err(Refusal::Node);
     }
-    0
+    Ok(())
 }
 
 // Why node x has its label, for a job. The label buffer is left as labelling leaves it, or refused, as it was.
@@ -219,18 +216,15 @@ pub fn why_node(
     draining: &[u8],
     closed: &[u8],
     labels: &mut [u8],
-) -> NodeReason
+) -> Result<NodeReason, Refusal>
     ensures answer { result ≡ node_reason (cabinet n rule faults.now draining.now closed.now) job (length labels.old) x }
     ensures labels { labels.new ≡ labels_left (cabinet n rule faults.now draining.now closed.now) job x labels.old }
 {
-    let refusal = node_refusal(n, rule, job, x, faults, draining, closed, labels.len());
-    if refusal != 0 {
-        return NodeReason::Refused(refusal);
-    }
+    node_refusal(n, rule, job, x, faults, draining, closed, labels.len())?;
     let size = nodes(n);
     let from = job * size;
     let to = from + size;
-    label_watching(n, rule, x, faults, draining, closed, &mut labels[from..to])
+    Ok(label_watching(n, rule, x, faults, draining, closed, &mut labels[from..to]))
 }
 
 // ---- a hop
@@ -246,23 +240,23 @@ fn taken(picked: usize) -> HopReason
 }
 
 // Why the hop at c on the way to d is taken, for a job. It is asked as the hop is, and reads the same labels: of the job's half c's and each neighbour's once.
-pub fn why_hop(n: usize, job: usize, c: usize, d: usize, labels: &[u8]) -> HopReason
+pub fn why_hop(
+    n: usize,
+    job: usize,
+    c: usize,
+    d: usize,
+    labels: &[u8],
+) -> Result<HopReason, Refusal>
     ensures { result ≡ hop_reason n job c d (length labels.now) (label_for n job labels.now) }
 {
-    let k = place_refusal(n, job, c, d, labels.len(), false);
-    if k != 0 {
-        return HopReason::Refused(k);
-    }
+    place_refusal(n, job, c, d, labels.len(), false)?;
     let table = half(n, job, labels);
     let own = table[c];
     let mut near = [0u8; 12];
     let high = gather(n, table, c, &mut near);
-    let by_labels = near_refusal(c, d, own, high);
-    if by_labels != 0 {
-        return HopReason::Refused(by_labels);
-    }
+    near_refusal(c, d, own, high)?;
     if c != d {
-        return taken(chosen(n, c, d, own, &near));
+        return Ok(taken(chosen(n, c, d, own, &near)));
     }
-    HopReason::Deliver
+    Ok(HopReason::Deliver)
 }

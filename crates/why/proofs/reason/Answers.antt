@@ -2,6 +2,6 @@
 use Rattle.cube.specs.Tables.{label_in}
 use Rattle.why.proofs.reason.Goals as goal
 
-pub returns-in-Marked : goal.returns-in-Marked
+pub returns-in-Some : goal.returns-in-Some
 unfolding label_in
-returns-in-Marked c = rw c.in-Marked.is
+returns-in-Some c = rw c.in-Some.is
