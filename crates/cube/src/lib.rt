@@ -76,13 +76,5 @@ pub fn unused_set(n: usize, t: &[u8]) -> bool
 pub fn count_of(labels: &[u8], label: u8) -> usize
     ensures { result ≡ label_count labels.now label }
 {
-    let mut count: usize = 0;
-    let mut x: usize = 0;
-    while x < labels.len() {
-        if labels[x] == label {
-            count += 1;
-        }
-        x += 1;
-    }
-    count
+    labels.iter().filter(|l| **l == label).count()
 }
