@@ -6,7 +6,7 @@ use mathlib.Core.Path.{refl}
 use Prim.Native.Nat.{ℕ}
 use lib.Dec.{ltb}
 use lib.ListN.{get_or, length}
-use Rattle.std.specs.Prelude.{Result}
+use Rattle.std.specs.Prelude.{Option, Result}
 use Rattle.cube.specs.Allowed.{AsksNothing, Function, Nothing}
 use Rattle.cube.proofs.Contracts.{Says}
 use Rattle.cube.specs.Count.{least, some}
@@ -16,7 +16,7 @@ use Rattle.cube.specs.Tables.{highest, label_in}
 use Rattle.jobs.specs.Jobs.{label_for}
 use Rattle.scans.specs.Scans as scans
 use Rattle.hop.specs.Helpers as helpers
-use Rattle.hop.specs.Helpers.{gathered, in_set, near_refusal, place_refusal}
+use Rattle.hop.specs.Helpers.{found, gathered, in_set, near_refusal, place_refusal}
 use Rattle.hop.specs.Hop as spec
 use Rattle.hop.specs.declared.Decision.{Decision}
 use Rattle.cube.specs.declared.refusals.Refusal.{Refusal}
@@ -118,7 +118,7 @@ pub gather_says : Says gather (λ i. some i.0 (λ k. ltb highest (label_in i.1 (
 gather_says = record { says = λ κs a r e p. (p.1, p.0) }
 
 -- handed the dimension, both nodes, the label of the first and those of its neighbours
-abbrev pub chosen : Function chosen-claims.ended (ℕ × ℕ × ℕ × ℕ × List ℕ) ℕ Nothing
+abbrev pub chosen : Function chosen-claims.ended (ℕ × ℕ × ℕ × ℕ × List ℕ) (Option (ℕ × ℕ)) Nothing
 chosen =
     record {
       clauses = λ w. chosen-claims.clauses w.𝓛 w.𝓜.mem w.𝓡.returns;
@@ -133,7 +133,7 @@ pub chosen_says : Says chosen (λ i. helpers.chosen i.0 i.1 i.2 i.3 (λ k. get_o
 chosen_says = record { says = λ κs a r e p. (p, refl) }
 
 -- handed the dimension, a set of dimensions, the labels across them and the highest that will do
-abbrev pub lowest : Function lowest-claims.ended (ℕ × ℕ × List ℕ × ℕ) ℕ Nothing
+abbrev pub lowest : Function lowest-claims.ended (ℕ × ℕ × List ℕ × ℕ) (Option ℕ) Nothing
 lowest =
     record {
       clauses = λ w. lowest-claims.clauses w.𝓛 w.𝓜.mem w.𝓡.returns;
@@ -144,11 +144,11 @@ lowest =
       left = λ κs e. tt;
     }
 
-pub lowest_says : Says lowest (λ i. least i.0 (in_set i.1 (λ k. get_or i.2 k 0) i.3)) (λ i. tt)
+pub lowest_says : Says lowest (λ i. found i.0 (least i.0 (in_set i.1 (λ k. get_or i.2 k 0) i.3))) (λ i. tt)
 lowest_says = record { says = λ κs a r e p. (p, refl) }
 
 -- handed the dimension, both nodes and the labels of the first's neighbours
-abbrev pub last-hop : Function last_hop.ended (ℕ × ℕ × ℕ × List ℕ) ℕ Nothing
+abbrev pub last-hop : Function last_hop.ended (ℕ × ℕ × ℕ × List ℕ) (Option ℕ) Nothing
 last-hop =
     record {
       clauses = λ w. last_hop.clauses w.𝓛 w.𝓜.mem w.𝓡.returns;
@@ -159,5 +159,5 @@ last-hop =
       left = λ κs e. tt;
     }
 
-pub last_hop_says : Says last-hop (λ i. scans.lowest i.0 i.1 i.2 0 (λ k. get_or i.3 k 0) 0) (λ i. tt)
+pub last_hop_says : Says last-hop (λ i. found i.0 (scans.lowest i.0 i.1 i.2 0 (λ k. get_or i.3 k 0) 0)) (λ i. tt)
 last_hop_says = record { says = λ κs a r e p. (p, refl) }

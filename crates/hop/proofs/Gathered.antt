@@ -8,6 +8,7 @@ use native.Mathlib.Omega.{arith}
 use borrow.Author.Tests.{lt-ltb}
 use lib.Dec.{ltb}
 use lib.ListN.{get_or}
+use Rattle.std.specs.Prelude.{Option}
 use Rattle.cube.specs.Cube.{flip}
 use Rattle.cube.proofs.Front.{get_d_tab}
 use Rattle.scans.proofs.Local.{first_same, lowest_same}
@@ -17,10 +18,10 @@ use Rattle.hop.specs.declared.Decision.TheVariants.{Deliver}
 use Rattle.hop.proofs.Scanning.{deliver, decided}
 
 -- away from the destination the decision is by what the scans pick,
-pub picks : (n : ℕ) (lab : ℕ → ℕ) (c d p : ℕ) → n ≤ 12 → c < 2 ^ n → d < 2 ^ n → c ≢ d → p ≡ chosen n c d (lab c) (λ i. lab (flip i c))
+pub picks : (n : ℕ) (lab : ℕ → ℕ) (c d : ℕ) (p : Option (ℕ × ℕ)) → n ≤ 12 → c < 2 ^ n → d < 2 ^ n → c ≢ d → p ≡ chosen n c d (lab c) (λ i. lab (flip i c))
     → across p ≡ hop n lab c d
 unfolding hop
-picks n lab c d p small hc hd far e = ap across e ∙ decided n c d (lab c) (λ i. lab (flip i c)) small hc hd far
+picks n lab c d p small hc hd far e = ap across e ∙ decided n c d (lab c) (λ i. lab (flip i c)) hc hd far
 
 module _ (n : ℕ) (lab : ℕ → ℕ) (c : ℕ) (near : List ℕ) (small : n ≤ 12) (copied : near ≡ gathered n lab c) where
   pub near_at : (i : ℕ) → i < n → get_or near i 0 ≡ lab (flip i c)
@@ -36,7 +37,7 @@ module _ (n : ℕ) (lab : ℕ → ℕ) (c : ℕ) (near : List ℕ) (small : n �
         lowest_same n c d (lab c) (λ i. get_or near i 0) (λ i. lab (flip i c)) near_at,
       )
 
-  pub goes : (d p : ℕ) → c < 2 ^ n → d < 2 ^ n → c ≢ d → p ≡ chosen n c d (lab c) (λ i. get_or near i 0) → across p ≡ hop n lab c d
+  pub goes : (d : ℕ) (p : Option (ℕ × ℕ)) → c < 2 ^ n → d < 2 ^ n → c ≢ d → p ≡ chosen n c d (lab c) (λ i. get_or near i 0) → across p ≡ hop n lab c d
   goes d p hc hd far e = picks n lab c d p small hc hd far (e ∙ chosen_is d)
 
 -- and at it

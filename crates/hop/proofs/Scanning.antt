@@ -1,25 +1,27 @@
 -- The scans as the code makes them, one after the other: a scan that finds nothing is passed, and the first that finds a dimension picks it.
 use mathlib.Core.Path.{◌≡◌, refl, sym, ap, ◌∙◌}
 use mathlib.Core.Logic.{⊎_elim, ◌≢◌}
-use mathlib.Core.Bool.{beq, true, false, cond, ◌&&◌, ◌||◌}
-use Prim.Native.Nat.{ℕ, suc, ◌+◌, ◌*◌, ◌%◌, ◌-◌, ◌^◌, ◌≤◌, ◌<◌}
+use mathlib.Core.Bool.{Bool, beq, true, false, cond, ◌&&◌, ◌||◌}
+use Prim.Native.Nat.{ℕ, suc, ◌-◌, ◌^◌, ◌≤◌, ◌<◌}
 use native.Mathlib.Decide.{ℕ_discrete}
 use native.Mathlib.Omega.{arith}
 use lib.Bits.{bit_xor}
 use lib.Dec.{eqb, leb, ltb}
-use borrow.Author.Tests.{eqb-true, leb-true, ne_eqb, lt-ltb, le-ltb, ltb-true, ltb-false}
+use borrow.Author.Tests.{eqb-true, leb-true, ne_eqb, lt-ltb, le-ltb}
+use Rattle.std.specs.Option.{MatchOption}
+use Rattle.std.specs.Prelude.{Option, Some, None, option_map}
 use Rattle.cube.specs.Count.{least}
 use Rattle.cube.specs.Cube.{apart, dist, flip}
 use Rattle.cube.proofs.Count.{below_suc}
-use Rattle.cube.proofs.Bools.{and_true, beq_true, clash, either, is_false}
+use Rattle.cube.proofs.Bools.{and_true, beq_true, clash, is_false}
 use Rattle.cube.proofs.Search.{least_is, the_least, least_none}
 use Rattle.cube.proofs.Cube.{apart_other, dist_self, dist_zero}
 use Rattle.cube.proofs.Laws.{across_one, agree_apart, one_across}
 use Rattle.scans.specs.Scans.{first_scan, forward, lowest, no_scan, scan_at, scan_of, spare, suits, takes}
-use Rattle.hop.specs.Helpers.{across, in_set, chosen}
+use Rattle.hop.specs.Helpers.{across, chosen, found, in_set}
 use Rattle.hop.specs.Hop.{answer, decide}
 use Rattle.hop.specs.declared.Decision.TheVariants.{Deliver, Hop, Halted}
-use Rattle.hop.proofs.Sets.{LowestOf, forward_set, spare_set}
+use Rattle.hop.proofs.Sets.{LowestOf, forward_set, none_found, some_found, spare_set}
 
 module _ (n c d own : ℕ) (near : ℕ → ℕ) where
   -- ---- what a scan finds
@@ -110,9 +112,11 @@ module _ (n c d own : ℕ) (near : ℕ → ℕ) where
   pub past_none : Past 0
   past_none t h = absurd (omega arith)
 
-  -- scan s gives i: none, and the next one is due
-  pub pass : (s i : ℕ) → Past s → i ≡ lowest n c d own near s → n ≤ i → Past (suc s)
-  pass s i p e l t h = ⊎_elim (λ (k : t ≡ s). omega (arith, ap (lowest n c d own near) k)) (λ (k : t < s). p t k) (below_suc h)
+  -- scan s finds nothing, and the next one is due
+  pub pass : (s : ℕ) → Past s → None ≡ found n (lowest n c d own near s) → Past (suc s)
+  pass s p e t h =
+      let l = none_found n (lowest n c d own near s) e in
+      ⊎_elim (λ (k : t ≡ s). omega (arith, ap (lowest n c d own near) k)) (λ (k : t < s). p t k) (below_suc h)
 
   first_at : (s : ℕ) → s ≤ no_scan → Past s → (s < no_scan → lowest n c d own near s < n) → first_scan n c d own near ≡ s
   unfolding first_scan
@@ -121,14 +125,37 @@ module _ (n c d own : ℕ) (near : ℕ → ℕ) where
       (λ l. lt-ltb (lowest n c d own near s) n (g l))
 
   -- or a dimension, and that is picked
-  pub take : (s i : ℕ) → s < no_scan → Past s → i ≡ lowest n c d own near s → i < n → s * 16 + i ≡ chosen n c d own near
+  pub take : (s i : ℕ) → s < no_scan → Past s → Some i ≡ found n (lowest n c d own near s) → Some (s, i) ≡ chosen n c d own near
   unfolding chosen
-  take s i h p e l = rw (first_at s (omega arith) p (λ _. omega arith)) (omega arith)
+  take s i h p e =
+      let l = some_found n i (lowest n c d own near s) e in
+      rw (first_at s (omega arith) p (λ _. l.1), lt-ltb s no_scan h) (ap (λ (j : ℕ). Some (s, j)) l.0)
 
   -- all of them find nothing
-  pub take_none : Past no_scan → no_scan * 16 + n ≡ chosen n c d own near
-  unfolding chosen takes suits
-  take_none p = rw (first_at no_scan (omega arith) p (λ l. absurd (omega arith))) (omega (arith, idle no_scan (λ i. refl)))
+  pub take_none : Past no_scan → None ≡ chosen n c d own near
+  unfolding chosen
+  take_none p = rw (first_at no_scan (omega arith) p (λ l. absurd (omega arith)))
+
+  -- so far either nothing is found or what is picked
+  abbrev pub SoFar : ℕ → Option (ℕ × ℕ) → Type 0
+  SoFar s None = Past s
+  SoFar s (Some p) = Some p ≡ chosen n c d own near
+
+  found_by : (s : ℕ) (o : Option ℕ) → o ≡ found n (lowest n c d own near s) → s < no_scan → Past s → SoFar (suc s) (option_map (λ i. (s, i)) o)
+  found_by s None e h p = pass s p e
+  found_by s (Some i) e h p = take s i h p e
+
+  pub or_scan : (s x : ℕ) (r r' : Option (ℕ × ℕ)) (Q : Type 0) → s < no_scan → x ≡ lowest n c d own near s → SoFar s r
+      → MatchOption r Q (λ v. r' ≡ Some v) → (Q → r' ≡ option_map (λ i. (s, i)) (found n x)) → SoFar (suc s) r'
+  or_scan s x None r' Q h e p q f = rw (f q) (found_by s (found n x) (ap (found n) e) h p)
+  or_scan s x (Some v) r' Q h e p q f = rw q p
+
+  pub first_found : (x : ℕ) (r : Option (ℕ × ℕ)) → x ≡ lowest n c d own near 0 → r ≡ option_map (λ i. (0, i)) (found n x) → SoFar 1 r
+  first_found x r e f = rw f (found_by 0 (found n x) (ap (found n) e) (omega arith) past_none)
+
+  pub all_tried : (r : Option (ℕ × ℕ)) → SoFar no_scan r → r ≡ chosen n c d own near
+  all_tried None p = take_none p
+  all_tried (Some v) p = p
 
   -- ---- the decision
 
@@ -140,17 +167,13 @@ module _ (n c d own : ℕ) (near : ℕ → ℕ) where
   unfolding lowest
   lowest_within s = (the_least n (takes c d own near s)).within
 
-  pub decided : n ≤ 12 → c < 2 ^ n → d < 2 ^ n → c ≢ d → across (chosen n c d own near) ≡ decide n c d own near
-  unfolding decide answer chosen across
-  decided small hc hd far =
-      let s = first_scan n c d own near in
-      rw (ne_eqb (dist c d) 0 (λ e. far (dist_zero n c d hc hd e))) (apart_again s (lowest n c d own near s) (omega (arith, lowest_within s)))
+  pub decided : c < 2 ^ n → d < 2 ^ n → c ≢ d → across (chosen n c d own near) ≡ decide n c d own near
+  unfolding decide answer chosen
+  decided hc hd far = rw (ne_eqb (dist c d) 0 (λ e. far (dist_zero n c d hc hd e))) (of (ltb (first_scan n c d own near) no_scan))
     where
-      -- the number taken apart again
-      apart_again : (s i : ℕ) → i < 16 → cond (ltb (s * 16 + i) (no_scan * 16)) (Hop ((s * 16 + i) % 16)) Halted ≡ cond (ltb s no_scan) (Hop i) Halted
-      apart_again s i h =
-          let m : (s * 16 + i) % 16 ≡ i = omega arith in
-          ⊎_elim
-          (λ (t : ltb s no_scan ≡ true). rw (t, m, lt-ltb (s * 16 + i) (no_scan * 16) (omega (arith, ltb-true s no_scan t))))
-          (λ (t : ltb s no_scan ≡ false). rw (t, le-ltb (s * 16 + i) (no_scan * 16) (omega (arith, ltb-false s no_scan t))))
-          (either (ltb s no_scan))
+      s : ℕ
+      s = first_scan n c d own near
+
+      of : (b : Bool) → across (cond b (Some (s, lowest n c d own near s)) None) ≡ cond b (Hop (lowest n c d own near s)) Halted
+      of true = refl
+      of false = refl

@@ -7,18 +7,19 @@ use Prim.Native.Nat.{ℕ, zero, suc, ◌-◌, ◌/◌, ◌%◌, ◌^◌, ◌≤�
 use native.Mathlib.Decide.{ℕ_discrete}
 use native.Mathlib.Nat.{pow-suc}
 use native.Mathlib.Omega.{arith}
-use borrow.Author.Tests.{eq-eqb, le-leb, lt-leb}
+use borrow.Author.Tests.{eq-eqb, le-leb, le-ltb, lt-leb, lt-ltb, ltb-false, ltb-true}
 use lib.Bits.{bit_and, bit_xor, and_self, and_step, xor_step, xor_zero_r}
 use lib.Count.{ones, count_trailing_zeros, under, trailing_of_zero}
-use lib.Dec.{eqb, leb}
+use lib.Dec.{eqb, leb, ltb}
 use lib.Pow.{pow_pos}
+use Rattle.std.specs.Prelude.{Option, Some, None}
 use Rattle.cube.specs.Count.{least}
 use Rattle.cube.specs.Cube.{bit, flip, apart, dist}
 use Rattle.cube.proofs.Bools.{and_both, beq_no, beq_yes, by_cases, xor_not}
 use Rattle.cube.proofs.Search.{Least, the_least, least_found, least_is, least_same, find, least_none}
 use Rattle.cube.proofs.Cube.{bit_low, bit_suc, bit_none, bit-xor, bit_flip_other, bits_same, none_apart}
 use Rattle.cube.proofs.Laws.{across_one, one_across}
-use Rattle.hop.specs.Helpers.{in_set}
+use Rattle.hop.specs.Helpers.{found, in_set}
 use Rattle.scans.specs.Scans.{forward, spare, scan_of, suits}
 
 -- ---- the trailing zeros of a number are its lowest set bit
@@ -129,6 +130,29 @@ module _ (n c d i : ℕ) (f : LowestOf n (bit_xor c d) i) where
 
   pub one_only : flip i c ≡ d → bit_and x (x - 1) ≡ 0
   one_only e = f.rest ∙ one_across i x 0 apart_zero (same_dist ∙ (across_one i c d e).1)
+
+-- ---- what a search finds
+
+none_not_some : {A : Type 0} (x : A) → None ≡ Some x → ⊥
+none_not_some x e = cc
+
+pub found_some : (n i j : ℕ) → i < n → i ≡ j → Some i ≡ found n j
+unfolding found
+found_some n i j h e = rw (sym e, lt-ltb i n h)
+
+pub found_none : (n j : ℕ) → n ≡ j → None ≡ found n j
+unfolding found
+found_none n j e = rw (sym e, le-ltb n n (omega arith))
+
+pub some_found : (n i j : ℕ) → Some i ≡ found n j → (i ≡ j) × (j < n)
+unfolding found
+some_found n i j =
+    by_cases (λ (o : Option ℕ). Some i ≡ o → (i ≡ j) × (j < n)) (ltb j n) (λ t e. let q : i ≡ j = cc in (q, ltb-true j n t)) (λ _ e. absurd (none_not_some _ (sym e)))
+
+pub none_found : (n j : ℕ) → None ≡ found n j → n ≤ j
+unfolding found
+none_found n j =
+    by_cases (λ (o : Option ℕ). None ≡ o → n ≤ j) (ltb j n) (λ _ e. absurd (none_not_some _ e)) (λ t _. ltb-false j n t)
 
 -- ---- the search in a set
 

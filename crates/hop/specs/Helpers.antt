@@ -1,6 +1,6 @@
 -- What the functions inside the crate answer, and what they may assume; the walk shares the refusals that need no label. No contract of a question cites
 -- these: proofs/Refusals.antt shows how the refusals of a hop are made of them, proofs/Scanning.antt how the decision is.
-use Rattle.std.specs.Prelude.{Bool, cond, ◌&&◌, List, ◌∷◌, ◌++◌, ◌≡◌, ℕ, ◌+◌, ◌*◌, ◌%◌, ◌^◌, ◌<◌, ◌≤◌, leb, ltb}
+use Rattle.std.specs.Prelude.{Bool, cond, ◌&&◌, List, ◌∷◌, ◌++◌, ◌≡◌, ℕ, ◌^◌, ◌<◌, ◌≤◌, leb, ltb, Option, Some, None}
 use Rattle.cube.specs.Cube.{bit, flip}
 use Rattle.cube.specs.Refusal.{Test, first, ◌⇒◌}
 use Rattle.cube.specs.Tables.{tab}
@@ -47,10 +47,16 @@ gathered n lab c = tab 12 (λ i. cond (ltb i n) (lab (flip i c)) 0)
 unfoldable pub in_set : (set : ℕ) (near : ℕ → ℕ) (top i : ℕ) → Bool
 in_set set near top i = bit i set && leb (near i) top
 
--- what the scans pick, as one number: the scan, and its dimension, which is below 16
-unfoldable pub chosen : (n c d own : ℕ) (near : ℕ → ℕ) → ℕ
-chosen n c d own near = first_scan n c d own near * 16 + lowest n c d own near (first_scan n c d own near)
+-- of a search below n that ends at i: nothing is found where that is n
+unfoldable pub found : (n i : ℕ) → Option ℕ
+found n i = cond (ltb i n) (Some i) None
+
+-- what the scans pick: the scan, and its dimension
+unfoldable pub chosen : (n c d own : ℕ) (near : ℕ → ℕ) → Option (ℕ × ℕ)
+chosen n c d own near =
+    let s : ℕ = first_scan n c d own near in cond (ltb s no_scan) (Some (s, lowest n c d own near s)) None
 
 -- the decision away from the destination, by what they picked
-unfoldable pub across : (picked : ℕ) → Decision
-across picked = cond (ltb picked (no_scan * 16)) (Hop (picked % 16)) Halted
+abbrev pub across : (picked : Option (ℕ × ℕ)) → Decision
+across None = Halted
+across (Some p) = Hop p.1

@@ -3,12 +3,12 @@
 // why, which says which scan took a hop; `near_refusal`, `gather`, `lowest` and `last_hop` to the hop by networks. The other functions are theirs.
 #![tactic(auto)]
 
-ghost use Rattle.std.specs.Prelude.{◌+◌, ◌*◌, ◌<◌, ◌≤◌, ◌^◌, ltb, get_or, length, replicate, ◌≢◌, ◌≡◌};
+ghost use Rattle.std.specs.Prelude.{◌-◌, ◌+◌, ◌<◌, ◌≤◌, ◌^◌, ltb, get_or, length, replicate, ◌≢◌, ◌≡◌, bit_xor, option_map};
 ghost use Rattle.cube.specs.Count.{least, some};
 ghost use Rattle.cube.specs.Cube.{flip};
 ghost use Rattle.cube.specs.Refused.{answered};
 ghost use Rattle.cube.specs.Tables.{highest, label_in};
-ghost use Rattle.hop.specs.Helpers.{Placed, across, chosen, gathered, in_set, near_refusal, place_refusal};
+ghost use Rattle.hop.specs.Helpers.{Placed, across, chosen, found, gathered, in_set, near_refusal, place_refusal};
 ghost use Rattle.hop.specs.Hop as spec;
 ghost use Rattle.jobs.specs.Jobs.{label_for};
 ghost use Rattle.scans.specs.Scans as scans;
@@ -18,10 +18,6 @@ use cube::{HIGHEST, distance, is_dimension, nodes};
 use jobs::{half, is_job, label_bytes};
 
 const DRAINING: u8 = 4; // the label of a draining node
-
-const NO_SCAN: usize = 6; // the scans are 0 to 5
-
-pub const NO_CHOICE: usize = 96; // from here on a choice has no scan: NO_SCAN * 16
 
 // The decision at a node.
 #[derive(Clone, Copy)]
@@ -99,101 +95,94 @@ pub fn gather(n: usize, labels: &[u8], c: usize, near: &mut [u8; 12]) -> bool
     some_above(n, near)
 }
 
-// The lowest dimension of a set whose neighbour's label is at most top; n where there is none. The bits of a number are the set's dimensions:
-// its trailing zeros give the lowest of them, and `rest & (rest - 1)` is the rest without it.
-pub fn lowest(n: usize, set: usize, near: &[u8; 12], top: u8) -> usize
+// The lowest dimension of a set whose neighbour's label is at most top. The bits of a number are the set's dimensions: its trailing zeros give the lowest of
+// them, and `rest & (rest - 1)` is the rest without it.
+pub fn lowest(n: usize, set: usize, near: &[u8; 12], top: u8) -> Option<usize>
     requires { (n ≤ 12) × (set < 2 ^ n) }
-    ensures { result ≡ least n (in_set set (λ i. get_or near.now i 0) top) }
+    ensures { result ≡ found n (least n (in_set set (λ i. get_or near.now i 0) top)) }
 {
     let mut rest = set;
     while rest != 0 {
         let i = usize::trailing_zeros(rest) as usize;
         if near[i] <= top {
-            return i;
+            return Some(i);
         }
         rest = rest & (rest - 1);
     }
-    n
+    None
 }
 
-// The hop before the scans: to d itself, where only one dimension is forward, so that d is the neighbour across it, and d drains. n where it is not so.
-pub fn last_hop(n: usize, c: usize, d: usize, near: &[u8; 12]) -> usize
+// The hop before the scans: to d itself, where only one dimension is forward, so that d is the neighbour across it, and d drains.
+pub fn last_hop(n: usize, c: usize, d: usize, near: &[u8; 12]) -> Option<usize>
     requires { (n ≤ 12) × (c < 2 ^ n) × (d < 2 ^ n) × (c ≢ d) }
-    ensures { result ≡ scans.lowest n c d 0 (λ i. get_or near.now i 0) 0 }
+    ensures { result ≡ found n (scans.lowest n c d 0 (λ i. get_or near.now i 0) 0) }
 {
     let forward = c ^ d;
     if forward & (forward - 1) != 0 {
-        return n;
+        return None;
     }
     let i = usize::trailing_zeros(forward) as usize;
     if near[i] == DRAINING {
-        return i;
+        return Some(i);
     }
-    n
+    None
+}
+
+// The lowest forward dimension whose neighbour's label is at most top, as scans 1 and 2 take it.
+fn forward(n: usize, c: usize, d: usize, near: &[u8; 12], top: u8) -> Option<usize>
+    requires { (n ≤ 12) × (c < 2 ^ n) × (d < 2 ^ n) }
+    ensures { result ≡ found n (least n (in_set (bit_xor c d) (λ i. get_or near.now i 0) top)) }
+{
+    lowest(n, c ^ d, near, top)
 }
 
 // The third scan: a strongly unsafe node is entered from another, or near the destination.
-fn third(n: usize, c: usize, d: usize, own: u8, near: &[u8; 12]) -> usize
+fn third(n: usize, c: usize, d: usize, own: u8, near: &[u8; 12]) -> Option<usize>
     requires { (n ≤ 12) × (c < 2 ^ n) × (d < 2 ^ n) }
-    ensures { result ≡ scans.lowest n c d own (λ i. get_or near.now i 0) 3 }
+    ensures { result ≡ found n (scans.lowest n c d own (λ i. get_or near.now i 0) 3) }
 {
     if (own == 2) | (distance(c, d) <= 2) {
-        return lowest(n, c ^ d, near, 2);
+        return forward(n, c, d, near, 2);
     }
-    n
+    None
 }
 
-// A scan and its dimension in one number, which stays in a register where a struct goes through memory.
-fn choice(scan: usize, dimension: usize) -> usize
-    requires { (scan ≤ 6) × (dimension ≤ 12) }
-    ensures { result ≡ scan * 16 + dimension }
+// The lowest spare dimension whose neighbour's label is at most top, as scans 4 and 5 take it.
+fn spare(n: usize, c: usize, d: usize, near: &[u8; 12], top: u8) -> Option<usize>
+    requires { (n ≤ 12) × (c < 2 ^ n) × (d < 2 ^ n) }
+    ensures { result ≡ found n (least n (in_set (bit_xor (bit_xor c d) (2 ^ n - 1)) (λ i. get_or near.now i 0) top)) }
 {
-    scan * 16 + dimension
+    lowest(n, c ^ d ^ (nodes(n) - 1), near, top)
 }
 
-// What the first of the scans that takes a dimension picks at c, whose label is own and whose neighbours' labels are near; NO_SCAN and n where none
-// takes one.
-pub fn chosen(n: usize, c: usize, d: usize, own: u8, near: &[u8; 12]) -> usize
+// What a scan picks, by the dimension that it found.
+fn picked(scan: usize, dimension: Option<usize>) -> Option<(usize, usize)>
+    ensures { result ≡ option_map (λ i. (scan, i)) dimension }
+{
+    dimension.map(|i| (scan, i))
+}
+
+// What the first of the scans that takes a dimension picks at c, whose label is own and whose neighbours' labels are near: the scan and the dimension.
+pub fn chosen(n: usize, c: usize, d: usize, own: u8, near: &[u8; 12]) -> Option<(usize, usize)>
     requires { (n ≤ 12) × (c < 2 ^ n) × (d < 2 ^ n) × (c ≢ d) }
     ensures { result ≡ chosen n c d own (λ i. get_or near.now i 0) }
 {
-    let i0 = last_hop(n, c, d, near);
-    if i0 < n {
-        return choice(0, i0);
-    }
-    let forward = c ^ d;
-    let i1 = lowest(n, forward, near, 0);
-    if i1 < n {
-        return choice(1, i1);
-    }
-    let i2 = lowest(n, forward, near, 1);
-    if i2 < n {
-        return choice(2, i2);
-    }
-    let i3 = third(n, c, d, own, near);
-    if i3 < n {
-        return choice(3, i3);
-    }
-    let spare = forward ^ (nodes(n) - 1);
-    let i4 = lowest(n, spare, near, 0);
-    if i4 < n {
-        return choice(4, i4);
-    }
-    let i5 = lowest(n, spare, near, 1);
-    if i5 < n {
-        return choice(5, i5);
-    }
-    choice(NO_SCAN, n)
+    picked(0, last_hop(n, c, d, near))
+        .or_else(|| picked(1, forward(n, c, d, near, 0)))
+        .or_else(|| picked(2, forward(n, c, d, near, 1)))
+        .or_else(|| picked(3, third(n, c, d, own, near)))
+        .or_else(|| picked(4, spare(n, c, d, near, 0)))
+        .or_else(|| picked(5, spare(n, c, d, near, 1)))
 }
 
 // The decision away from the destination, by what the scans picked.
-fn across(picked: usize) -> Decision
+fn across(picked: Option<(usize, usize)>) -> Decision
     ensures { result ≡ across picked }
 {
-    if picked < NO_CHOICE {
-        return Decision::Hop(picked % 16);
+    match picked {
+        Some((_, i)) => Decision::Hop(i),
+        None => Decision::Halted,
     }
-    Decision::Halted
 }
 
 // The refusals that the labels give of c and its neighbours: own is c's label, and high says that a neighbour's is above the highest.
