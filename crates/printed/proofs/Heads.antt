@@ -6,25 +6,25 @@ use mathlib.Core.Logic.{inl}
 use Prim.Native.Nat.{ℕ, ◌^◌, ◌≤◌, ◌<◌}
 use native.Mathlib.Omega.{arith}
 use lib.Dec.{eqb}
-use lib.ListN.{drop, length, length-replicate, replicate, take}
+use lib.ListN.{drop, length, length-replicate, replicate}
 use lib.Seq.{take_at}
 use borrow.Author.Tests.{eq-eqb}
+use Rattle.std.specs.Prelude.{Ok, Err, Some, None}
 use Rattle.cube.specs.Refusal.{first}
+use Rattle.cube.specs.Refused.{number}
+use Rattle.cube.specs.declared.refusals.Refusal.{Refusal}
 use Rattle.cube.specs.Tables.{label_count, label_in, node_bit, table_len}
 use Rattle.cube.proofs.Count.{count_pos, count_same}
 use Rattle.cube.proofs.Tables.{nodes_few, table_few, zeros_behind, zeros_unused}
-use Rattle.groups.specs.Number.{on_number}
-use Rattle.groups.specs.declared.Number.{Number}
-use Rattle.groups.specs.declared.Number.TheVariants as number
+use Rattle.groups.specs.Number.{Number, on_number}
 use Rattle.jobs.specs.Jobs.{label_bytes}
 use Rattle.jobs.proofs.Halves.{with_first}
 use Rattle.labels.specs.Labelling.{label_refusal, labels_after}
 use Rattle.labels.proofs.Refusal.{fits, length_kept}
 use Rattle.notice.specs.Addresses.{with_bits}
 use Rattle.notice.specs.Laws.{ReadNotice, TableOf}
-use Rattle.notice.specs.Notice.{addresses_of, dimension_at, notice_from, notice_of, noticed, table_after}
+use Rattle.notice.specs.Notice.{a_notice, addresses_of, dimension_at, notice_from, notice_of, noticed, table_after}
 use Rattle.notice.specs.Tests.{length_tests, tested}
-use Rattle.notice.specs.declared.Noticed.TheVariants.{Notice, Refused}
 use Rattle.notice.proofs.Cases.{on-number, tested_passes, tested_refused}
 use Rattle.notice.proofs.Laws.{notice_laws}
 use Rattle.notice.proofs.Opened.{opened_dimension, opened_notice}
@@ -32,21 +32,21 @@ use Rattle.rule.specs.Cabinet.{Cabinet, labels_of, out, plain}
 use Rattle.rule.proofs.Cabinet.{labels_length, plain_out}
 use Rattle.enough.specs.Enough.{out_of_work}
 use Rattle.enough.proofs.Enough.{few_out_safe}
-use Rattle.lines.specs.Lines.{notice_refused, room}
+use Rattle.lines.specs.Lines.{notice_refused}
 use Rattle.printed.specs.Printed.{Headed, cabinet_of, first_line, head_line, labels_in, wanted_len}
 
 -- a number that is no dimension, or one of the table's length, passes the test of the length
-passes : (t : List ℕ) (x : Number) → length t ≡ on_number x (λ k at. 1) (λ n at. table_len n) → tested (length_tests t) 0 x ≡ x
+passes : (t : List ℕ) (x : Number) → length t ≡ on_number x (λ r at. 1) (λ n at. table_len n) → tested (length_tests t) 0 x ≡ x
 unfolding first
-passes t (number.Value n at) e = sym (tested_passes (length_tests t) 0 refl (rw (eq-eqb (length t) (table_len n) e)))
-passes t (number.Refused k at) e = sym (tested_refused (length_tests t) 0 refl)
+passes t (Ok x) e = sym (tested_passes (length_tests t) 0 refl (rw (eq-eqb (length t) (table_len x.0) e)))
+passes t (Err x) e = sym (tested_refused (length_tests t) 0 refl)
 
 module _ (s : List ℕ) where
-  pub none_wanted : {k at : ℕ} → number.Refused k at ≡ dimension_at s → 1 ≡ wanted_len s
+  pub none_wanted : {r : Refusal} {at : ℕ} → Err (r, at) ≡ dimension_at s → 1 ≡ wanted_len s
   unfolding wanted_len
   none_wanted e = rw (sym e)
 
-  pub table_wanted : {n at : ℕ} → number.Value n at ≡ dimension_at s → table_len n ≡ wanted_len s
+  pub table_wanted : {n at : ℕ} → Ok (n, at) ≡ dimension_at s → table_len n ≡ wanted_len s
   unfolding wanted_len
   table_wanted e = rw (sym e)
 
@@ -64,15 +64,15 @@ module _ (s t : List ℕ) (sized : length t ≡ wanted_len s) where
   unfolding noticed notice_of wanted_len
   same = ap (λ (x : Number). notice_from x s) (passes t (dimension_at s) sized)
 
-  pub refused_head : {k at end : ℕ} (labels out : List ℕ) → noticed s t ≡ Refused k at → (take end out ≡ notice_refused k at) × (end ≤ room)
-      → Headed s (record { n = 0; bytes = 0; end = end }) labels out
+  pub refused_head : {r : Refusal} {at : ℕ} {line : List ℕ} (labels : List ℕ) → noticed s t ≡ Err (r, at) → line ≡ notice_refused (number r) at
+      → Headed s (record { line = line; labelled = None }) labels
   unfolding head_line labels_in
-  refused_head {k} {at} labels out e made =
-      let q : notice_of s ≡ Refused k at = sym same ∙ e in
-      record { line = rw q made.0; near = made.1; dimension = rw q; labelled = rw q; few = omega arith }
+  refused_head {r} {at} labels e made =
+      let q : notice_of s ≡ Err (r, at) = sym same ∙ e in
+      record { line = rw q made; given = rw q; dimension = rw q; labelled = rw q; few = omega arith }
 
-  module _ {n m taken : ℕ} (e : noticed s t ≡ Notice n m taken) where
-    is_notice : notice_of s ≡ Notice n m taken
+  module _ {n m taken : ℕ} (e : noticed s t ≡ a_notice n m taken) where
+    is_notice : notice_of s ≡ a_notice n m taken
     is_notice = sym same ∙ e
 
     read : ReadNotice s n m taken
@@ -121,16 +121,16 @@ module _ (s t : List ℕ) (sized : length t ≡ wanted_len s) where
           let (x, hx, z) = few_out_safe K (inl (refl, few)) in
           count_pos (length (labels_of K)) (λ y. eqb (label_in (labels_of K) y) 0) x (omega (arith, labels_length K)) (eq-eqb (label_in (labels_of K) x) 0 z)
 
-      pub cube_head : {bytes end : ℕ} (before labels rest out : List ℕ) → bytes ≡ label_bytes n → before ≡ replicate (label_bytes n) 0
-          → (take end out ≡ first_line m K) × ((end ≤ room) × (labels ≡ labels_after K 0 before))
-          → Headed s (record { n = n; bytes = bytes; end = end }) (labels ++ rest) out
+      pub cube_head : {bytes : ℕ} {line : List ℕ} (before labels rest : List ℕ) → bytes ≡ label_bytes n → before ≡ replicate (label_bytes n) 0
+          → line ≡ first_line m K → labels ≡ labels_after K 0 before
+          → Headed s (record { line = line; labelled = Some (record { n = n; bytes = bytes }) }) (labels ++ rest)
       unfolding head_line labels_in label_bytes
-      cube_head {bytes} before labels rest out full zeros made =
-          let kept = made.1.1 ∙ made_labels before zeros in
-          let long = ap length made.1.1 ∙ length_kept K 0 before ∙ ap length zeros ∙ length-replicate (label_bytes n) 0 in
+      cube_head {bytes} before labels rest full zeros made after =
+          let kept = after ∙ made_labels before zeros in
+          let long = ap length after ∙ length_kept K 0 before ∙ ap length zeros ∙ length-replicate (label_bytes n) 0 in
           record {
-            line = rw is_notice (made.0 ∙ ap (first_line m) same_cabinet);
-            near = made.1.0;
+            line = rw is_notice (made ∙ ap (first_line m) same_cabinet);
+            given = rw is_notice;
             dimension = rw is_notice;
             labelled = take_at labels rest bytes (long ∙ sym full) ∙ kept ∙ rw (is_notice, same_cabinet);
             few = omega (arith, full, few_nodes.1);

@@ -12,17 +12,19 @@ use borrow.Author.Tests.{le-ltb, lt-ltb, ltb-true}
 use native.Mathlib.Omega.{arith}
 use Rattle.cube.specs.Count.{count, least, some}
 use Rattle.cube.specs.Cube.{apart, bit, dist, flip}
+use Rattle.std.specs.Prelude.{Ok, Err}
 use Rattle.cube.specs.Refusal.{first}
+use Rattle.cube.specs.Refused.{number}
+use Rattle.cube.specs.declared.refusals.Refusal.{Refusal}
+use Rattle.cube.specs.declared.refusals.Refusal.TheVariants.{Group}
 use Rattle.cube.proofs.Bools.{either}
 use Rattle.cube.specs.Tables.{is_dimension, label_in, node_bit, tab, table_len}
 use Rattle.groups.specs.Number.{further, number_at, two_groups}
-use Rattle.groups.specs.declared.Number.TheVariants as number
 use Rattle.groups.proofs.Laws.{number_laws}
 use Rattle.hop.specs.Hop.{answer, decide, hop}
 use Rattle.notice.specs.Addresses.{addresses_at, addresses_end, with_bit, with_bits}
-use Rattle.notice.specs.Notice.{addresses_of, dimension_at, notice_from, notice_of, rest_at, tail_at}
+use Rattle.notice.specs.Notice.{a_notice, addresses_of, count_at, dimension_at, notice_from, notice_of, rest_at, tail_at}
 use Rattle.notice.specs.Tests.{tested}
-use Rattle.notice.specs.declared.Noticed.TheVariants.{Notice, Refused}
 use Rattle.notice.proofs.Outcomes.{tail_refused}
 use Rattle.jobs.specs.Jobs.{half, is_job, label_bytes}
 use Rattle.rule.specs.Cabinet.{Cabinet, cabinet, exchanges_of, labels_of}
@@ -41,15 +43,15 @@ use Rattle.printed.specs.Laws.{ListingLaws, sample_bytes, sample_lines}
 abbrev k4 : List ℕ
 k4 = 1 ∷ 0 ∷ 3 ∷ 0 ∷ 3 ∷ 0 ∷ 1 ∷ 0 ∷ 3 ∷ 0 ∷ 1 ∷ 0 ∷ 1 ∷ 0 ∷ 2 ∷ 3 ∷ []
 
-is_notice : notice_of sample_bytes ≡ Notice 4 4 6
-unfolding notice_of notice_from dimension_at rest_at tested first is_dimension number_at addresses_end further
+is_notice : notice_of sample_bytes ≡ a_notice 4 4 6
+unfolding notice_of notice_from dimension_at count_at rest_at tested first is_dimension number_at addresses_end further
 is_notice = refl
 
 abbrev K : Cabinet
 K = cabinet 4 3 (0x14 ∷ 0x81 ∷ []) (0 ∷ 0 ∷ []) (0 ∷ 0 ∷ [])
 
 table : cabinet_of sample_bytes 4 ≡ K
-unfolding addresses_of dimension_at rest_at tested first is_dimension number_at addresses_end further addresses_at with_bits with_bit table_len
+unfolding addresses_of dimension_at count_at rest_at tested first is_dimension number_at addresses_end further addresses_at with_bits with_bit table_len
 table = refl
 
 labels_are : labels_of K ≡ k4
@@ -114,11 +116,11 @@ module _ (n : ℕ) (labels s : List ℕ) where
   to_end steps h = enough (length s) steps (tail_at s) (omega arith) (omega arith)
 
 -- behind a refused notice no bytes are left
-refused_only : (s : List ℕ) (k at : ℕ) → length s ≤ 16384 → notice_of s ≡ Refused k at → listing s ≡ notice_refused k at
+refused_only : (s : List ℕ) (r : Refusal) (at : ℕ) → length s ≤ 16384 → notice_of s ≡ Err (r, at) → listing s ≡ notice_refused (number r) at
 unfolding listing head_line
-refused_only s k at h e =
+refused_only s r at h e =
     let none = none_left 0 (labels_in s) s (length s) (tail_at s) (omega (arith, tail_refused s (sym e))) in
-    rw (le-ltb 16384 (length s) h, e) (ap (λ (l : List ℕ). notice_refused k at ++ l) none ∙ append-nil (notice_refused k at))
+    rw (le-ltb 16384 (length s) h, e) (ap (λ (l : List ℕ). notice_refused (number r) at ++ l) none ∙ append-nil (notice_refused (number r) at))
 
 module _ (left n : ℕ) (labels s : List ℕ) where
   last_line : (at k place : ℕ) → at < length s → (input_refused k place ≡ line_at n labels s at) × (length s ≡ next_at s at)
@@ -128,32 +130,34 @@ module _ (left n : ℕ) (labels s : List ℕ) where
       rw (lt-ltb at (length s) h)
       (ap₂ (λ (x y : List ℕ). x ++ y) (sym p.0) (none_left n labels s left (next_at s at) (omega (arith, p.1))) ∙ append-nil (input_refused k place))
 
-  source_refused : (at k place : ℕ) → at < length s → number_at s at ≡ number.Refused k place → pair_lines (suc left) n labels s at ≡ input_refused k at
-  source_refused at k place h e = last_line at k place h (first_refused n labels s at e) ∙ ap (input_refused k) (number_laws.refused_place s at k place e)
+  source_refused : (at : ℕ) (r : Refusal) (place : ℕ) → at < length s → number_at s at ≡ Err (r, place)
+      → pair_lines (suc left) n labels s at ≡ input_refused (number r) at
+  source_refused at r place h e =
+      last_line at (number r) place h (first_refused n labels s at e) ∙ ap (input_refused (number r)) (number_laws.refused_place s at r place e)
 
-  destination_refused : (at a next k place : ℕ) → at < length s → number_at s at ≡ number.Value a next → number_at s next ≡ number.Refused k place
-      → pair_lines (suc left) n labels s at ≡ input_refused k next
-  destination_refused at a next k place h e f =
+  destination_refused : (at a next : ℕ) (r : Refusal) (place : ℕ) → at < length s → number_at s at ≡ Ok (a, next) → number_at s next ≡ Err (r, place)
+      → pair_lines (suc left) n labels s at ≡ input_refused (number r) next
+  destination_refused at a next r place h e f =
       let p = first_read n labels s at e in
       let q = second_refused n labels s next a f in
-      last_line at k place h (q.0 ∙ p.0, q.1 ∙ p.1) ∙ ap (input_refused k) (number_laws.refused_place s next k place f)
+      last_line at (number r) place h (q.0 ∙ p.0, q.1 ∙ p.1) ∙ ap (input_refused (number r)) (number_laws.refused_place s next r place f)
 
 -- ---- the samples that are refused
 
-notice_bad : notice_of (0x04 ∷ 0x02 ∷ 0x03 ∷ 0x81 ∷ 0x00 ∷ []) ≡ Refused 10 3
-unfolding notice_of notice_from dimension_at rest_at tested first is_dimension number_at two_groups addresses_end further
+notice_bad : notice_of (0x04 ∷ 0x02 ∷ 0x03 ∷ 0x81 ∷ 0x00 ∷ []) ≡ Err (Group, 3)
+unfolding notice_of notice_from dimension_at count_at rest_at tested first is_dimension number_at two_groups addresses_end further
 notice_bad = refl
 
 sample_notice : listing (0x04 ∷ 0x02 ∷ 0x03 ∷ 0x81 ∷ 0x00 ∷ []) ≡ text "notice refused 10 3\n"
 unfolding decimal width least
-sample_notice = refused_only _ 10 3 (omega arith) notice_bad
+sample_notice = refused_only _ Group 3 (omega arith) notice_bad
 
-none_faulty : notice_of (0x01 ∷ 0x00 ∷ 0x00 ∷ 0x81 ∷ []) ≡ Notice 1 0 2
-unfolding notice_of notice_from dimension_at rest_at tested first is_dimension number_at two_groups addresses_end further
+none_faulty : notice_of (0x01 ∷ 0x00 ∷ 0x00 ∷ 0x81 ∷ []) ≡ a_notice 1 0 2
+unfolding notice_of notice_from dimension_at count_at rest_at tested first is_dimension number_at two_groups addresses_end further
 none_faulty = refl
 
 none_table : cabinet_of (0x01 ∷ 0x00 ∷ 0x00 ∷ 0x81 ∷ []) 1 ≡ cabinet 1 3 (0 ∷ []) (0 ∷ []) (0 ∷ [])
-unfolding addresses_of dimension_at rest_at tested first is_dimension number_at addresses_end further addresses_at with_bits with_bit table_len
+unfolding addresses_of dimension_at count_at rest_at tested first is_dimension number_at addresses_end further addresses_at with_bits with_bit table_len
 none_table = refl
 
 none_line : first_line 0 (cabinet 1 3 (0 ∷ []) (0 ∷ []) (0 ∷ [])) ≡ text "cube 1 faulty 0 safe 2 ordinary 0 strong 0 rounds 1\n"

@@ -1,22 +1,25 @@
 -- What the listing program prints for the bytes s of its input (RULES, The listing program): a line for the notice at their front, a line for each pair behind
 -- it, and all of it.
-use Rattle.std.specs.Prelude.{◌≡◌, cond, List, [], ◌++◌, ℕ, zero, suc, ◌^◌, ◌≤◌, ltb, length, replicate, take}
+use Rattle.std.specs.Prelude.{◌≡◌, cond, List, [], ◌++◌, ℕ, zero, suc, ◌^◌, ◌≤◌, ltb, length, replicate, take, Option, Some, None, Result, Ok, Err, is_some, is_ok}
+use Rattle.cube.specs.Refused.{number}
+use Rattle.cube.specs.declared.refusals.Refusal.{Refusal}
 use Rattle.cube.specs.Tables.{empty_table, table_len}
 use Rattle.jobs.specs.Jobs.{label_for}
 use Rattle.groups.specs.Number.{number_at, on_number}
-use Rattle.lines.specs.Lines.{cube_line, input_refused, notice_refused, pair_line, room, too_long}
+use Rattle.lines.specs.Lines.{cube_line, input_refused, notice_refused, pair_line, too_long}
 use Rattle.notice.specs.Addresses.{with_bits}
 use Rattle.notice.specs.Notice.{addresses_of, dimension_at, dimension_of, notice_of, on_noticed, tail_at}
 use Rattle.rule.specs.Cabinet.{Cabinet, exchanges_of, labels_of, plain}
 use Rattle.walk.specs.Walk.{row_bytes, walked}
 use Rattle.walk.specs.declared.Walked.{Walked}
 use Rattle.printed.specs.declared.Head.{Head}
+use Rattle.printed.specs.declared.Labelled.{Labelled}
 
 -- ---- for the notice
 
 -- the bytes of the fault table that it asks for: where it has no dimension, any length will do
 unfoldable pub wanted_len : List ℕ → ℕ
-wanted_len s = on_number (dimension_at s) (λ k at. 1) (λ n at. table_len n)
+wanted_len s = on_number (dimension_at s) (λ r at. 1) (λ n at. table_len n)
 
 -- the cabinet of an accepted notice of dimension n: the listing labels by rule 3, no node drains, and none is closed
 abbrev pub cabinet_of : (s : List ℕ) (n : ℕ) → Cabinet
@@ -24,22 +27,31 @@ cabinet_of s n = plain n 3 (with_bits (empty_table n) (addresses_of s))
 
 -- the label buffer that the program keeps: its labels as those of job 0, for whom the listing asks, and zeros for the other; a refused notice has none
 unfoldable pub labels_in : List ℕ → List ℕ
-labels_in s = on_noticed (notice_of s) (λ k at. []) (λ n m taken. labels_of (cabinet_of s n) ++ replicate (2 ^ n) 0)
+labels_in s = on_noticed (notice_of s) (λ r at. []) (λ n m taken. labels_of (cabinet_of s n) ++ replicate (2 ^ n) 0)
 
 abbrev pub first_line : (faulty : ℕ) → Cabinet → List ℕ
 first_line faulty K = cube_line K.n faulty (labels_of K) (exchanges_of K)
 
 -- "A refused notice prints only `notice refused K P`"
 unfoldable pub head_line : List ℕ → List ℕ
-head_line s = on_noticed (notice_of s) notice_refused (λ n m taken. first_line m (cabinet_of s n))
+head_line s = on_noticed (notice_of s) (λ r at. notice_refused (number r) at) (λ n m taken. first_line m (cabinet_of s n))
 
--- what is answered for it: the line stands at the front of the buffer `out`, and the label buffer at the front of `labels`
-pub record Headed (s : List ℕ) (h : Head) (labels out : List ℕ) : Type 0 where
-  pub line : take h.end out ≡ head_line s
-  pub near : h.end ≤ room
-  pub dimension : h.n ≡ dimension_of (notice_of s)
-  pub labelled : take h.bytes labels ≡ labels_in s
-  pub few : h.bytes ≤ 8192
+-- what is answered for a cube: its dimension and the bytes of its label buffer, 0 where there is none
+abbrev pub dimension_in : Option Labelled → ℕ
+dimension_in None = 0
+dimension_in (Some l) = l.n
+
+abbrev pub bytes_in : Option Labelled → ℕ
+bytes_in None = 0
+bytes_in (Some l) = l.bytes
+
+-- what is answered for the notice: its line, and a cube unless it is refused, whose label buffer stands at the front of `labels`
+pub record Headed (s : List ℕ) (h : Head) (labels : List ℕ) : Type 0 where
+  pub line : h.line ≡ head_line s
+  pub given : is_some h.labelled ≡ is_ok (notice_of s)
+  pub dimension : dimension_in h.labelled ≡ dimension_of (notice_of s)
+  pub labelled : take (bytes_in h.labelled) labels ≡ labels_in s
+  pub few : bytes_in h.labelled ≤ 8192
 
 -- ---- for the pair at place `at` of the input, in a cube of dimension n with this label buffer
 
@@ -47,20 +59,26 @@ pub record Headed (s : List ℕ) (h : Head) (labels out : List ℕ) : Type 0 whe
 abbrev pub walked_in : (n : ℕ) (labels : List ℕ) (s d : ℕ) → Walked
 walked_in n labels s d = walked n 0 s d (length labels) row_bytes (label_for n 0 labels)
 
+-- its numbers, with the place behind them, or the first that is refused
+unfoldable pub pair_at : List ℕ → ℕ → Result (ℕ × ℕ × ℕ) (Refusal × ℕ)
+pair_at s at =
+    on_number (number_at s at) (λ r place. Err (r, place))
+    (λ a next. on_number (number_at s next) (λ r place. Err (r, place)) (λ b after. Ok (a, b, after)))
+
 -- its source is a, and its destination begins at the place
 unfoldable pub line_from : (n : ℕ) (labels : List ℕ) (a : ℕ) (s : List ℕ) (at : ℕ) → List ℕ
-line_from n labels a s at = on_number (number_at s at) input_refused (λ b after. pair_line a b (walked_in n labels a b))
+line_from n labels a s at = on_number (number_at s at) (λ r place. input_refused (number r) place) (λ b after. pair_line a b (walked_in n labels a b))
 
 -- "A pair cut short or ill written prints `input refused 9 P` or `input refused 10 P` as the last line"
 unfoldable pub line_at : (n : ℕ) (labels s : List ℕ) (at : ℕ) → List ℕ
-line_at n labels s at = on_number (number_at s at) input_refused (λ a next. line_from n labels a s next)
+line_at n labels s at = on_number (number_at s at) (λ r place. input_refused (number r) place) (λ a next. line_from n labels a s next)
 
 -- where the next pair begins: after such a last line at the end of the bytes
 unfoldable pub next_from : List ℕ → ℕ → ℕ
-next_from s at = on_number (number_at s at) (λ k place. length s) (λ b after. after)
+next_from s at = on_number (number_at s at) (λ r place. length s) (λ b after. after)
 
 unfoldable pub next_at : List ℕ → ℕ → ℕ
-next_at s at = on_number (number_at s at) (λ k place. length s) (λ a next. next_from s next)
+next_at s at = on_number (number_at s at) (λ r place. length s) (λ a next. next_from s next)
 
 -- ---- all of it
 

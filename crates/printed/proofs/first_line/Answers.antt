@@ -15,7 +15,7 @@ use Rattle.printed.proofs.first_line.Goals.{Start}
 
 -- the fault table has its length, which is never above 512
 sized : (s : Start) → let m = length s.args.faults.now in (m ≡ table_len s.args.n) × (m ≤ 512)
-sized s = let f = fitting (cabinet _ _ _ _ _) _ _ s.requires.labels_value in (f.faults, omega (arith, f.faults, table_few _ f.halved.small))
+sized s = let f = fitting (cabinet _ _ _ _ _) _ _ s.requires in (f.faults, omega (arith, f.faults, table_few _ f.halved.small))
 
 empty : (s : Start) → take (length s.args.faults.now) (replicate 512 0) ≡ empty_table s.args.n
 empty s = let z = sized s in rw (← z.0) (zeros_front _ 512 z.1)
@@ -26,29 +26,24 @@ slice_bounds-zeros-end c = omega (arith, sized (goal.at.slice_bounds-zeros-end c
 pub slice_bounds-none-end : goal.slice_bounds-none-end
 slice_bounds-none-end c = simp length-take (omega (arith, sized (goal.at.slice_bounds-none-end c).Start))
 
-pub returns-in_default-clause-line : goal.returns-in_default-clause-line
-returns-in_default-clause-line c =
-    let told = rw (empty (goal.at.returns-in_default-clause-line c).Start) at c.label-labelled.ensures in
+pub unreachable-requires : goal.unreachable-requires
+unreachable-requires c =
+    let told = rw (empty (goal.at.unreachable-requires c).Start) at c.label.ensures in
     let r = of_refused (cabinet _ _ _ _ _) _ _ _ (sym told.answer ∙ c.in_default.is) in
-    absurd (r.1 (r.0 ∙ c.requires.labels_value))
-
-pub returns-in_default-clause-labels : goal.returns-in_default-clause-labels
-returns-in_default-clause-labels c =
-    let told = rw (empty (goal.at.returns-in_default-clause-labels c).Start) at c.label-labelled.ensures in
-    told.labels
+    r.1 (r.0 ∙ c.requires)
 
 pub half-requires : goal.half-requires
 half-requires c =
-    let f = (fitting (cabinet _ _ _ _ _) _ _ c.requires.labels_value).halved in
-    let told = rw (empty (goal.at.half-requires c).Start) at c.label-labelled.ensures in
+    let f = (fitting (cabinet _ _ _ _ _) _ _ c.requires).halved in
+    let told = rw (empty (goal.at.half-requires c).Start) at c.label.ensures in
     record { small = f.small; job = f.job; sized = ap length told.labels ∙ length_kept (cabinet _ _ _ _ _) _ _ ∙ f.sized }
 
 pub returns-clause-line : goal.returns-clause-line
 returns-clause-line c =
-    let told = rw (empty (goal.at.returns-clause-line c).Start) at c.label-labelled.ensures in
-    let count = (of_exchanges (cabinet _ _ _ _ _) _ _ _ (sym told.answer ∙ c.in-Exchanges.is)).1 in
-    let made = c.half.ensures.bytes ∙ ap (half 0 _) told.labels ∙ labels_written (cabinet _ _ _ _ _) _ _ c.requires.labels_value in
-    c.cube_line.ensures.line ∙ ap₂ (cube_line _ _) made (sym count)
+    let told = rw (empty (goal.at.returns-clause-line c).Start) at c.label.ensures in
+    let count = (of_exchanges (cabinet _ _ _ _ _) _ _ _ (sym told.answer ∙ c.in-Ok.is)).1 in
+    let made = c.half.ensures.bytes ∙ ap (half 0 _) told.labels ∙ labels_written (cabinet _ _ _ _ _) _ _ c.requires in
+    c.cube_line.ensures ∙ ap₂ (cube_line _ _) made (sym count)
 
 pub returns-clause-labels : goal.returns-clause-labels
-returns-clause-labels c = (rw (empty (goal.at.returns-clause-labels c).Start) at c.label-labelled.ensures).labels
+returns-clause-labels c = (rw (empty (goal.at.returns-clause-labels c).Start) at c.label.ensures).labels
