@@ -4,8 +4,10 @@ use mathlib.Core.List.{List}
 use mathlib.Core.Path.{refl}
 use Prim.Native.Nat.{ℕ}
 use lib.ListN.{length}
+use Rattle.std.specs.Prelude.{Result}
 use Rattle.cube.specs.Allowed.{AsksNothing, Function}
 use Rattle.cube.proofs.Contracts.{Says}
+use Rattle.cube.specs.declared.refusals.Refusal.{Refusal}
 use Rattle.jobs.specs.Jobs.{label_for}
 use Rattle.walk_networks.specs.Crossing.{crossing, hops_after}
 use Rattle.walk_networks.specs.declared.Crossed.{Crossed}
@@ -13,7 +15,7 @@ use Rattle.walk_networks.specs.contracts.walk_networks
 use Rattle.walk_networks.proofs.walk_networks.Reads as walk_networks-reads
 
 -- handed the dimension, how many networks there are, the job, both nodes, the labels and a hop list
-abbrev pub walk-networks : Function walk_networks.ended (ℕ × ℕ × ℕ × ℕ × ℕ × List ℕ × List ℕ) Crossed (List ℕ)
+abbrev pub walk-networks : Function walk_networks.ended (ℕ × ℕ × ℕ × ℕ × ℕ × List ℕ × List ℕ) (Result Crossed Refusal) (List ℕ)
 walk-networks =
     record {
       clauses = λ w. walk_networks.clauses w.𝓛 w.𝓜.mem w.𝓡.returns;

@@ -7,6 +7,7 @@ use native.Mathlib.Decide.{ℕ_discrete}
 use lib.Dec.{ltb}
 use lib.ListN.{length}
 use Rattle.cube.specs.Cube.{flip}
+use Rattle.cube.specs.Refused.{refusal}
 use Rattle.cube.specs.Tables.{highest}
 use Rattle.cube.proofs.Cube.{flip_lt}
 use Rattle.cube.proofs.Front.{tab_cong}
@@ -26,7 +27,7 @@ use Rattle.hop_networks.proofs.Local.{hop_in_same}
 use Rattle.hop_networks.proofs.Refusals.{board_good, list_good}
 use Rattle.walk_networks.specs.Crossing.{cross_refusal, crossing, hops_after, too_short}
 use Rattle.walk_networks.specs.Local.{CrossingLocal}
-use Rattle.walk_networks.proofs.Refusals.{unboarded, unlisted}
+use Rattle.walk_networks.proofs.Refusals.{refused_for, unboarded, unlisted}
 
 module _ (n : ℕ) (lab lab' : ℕ → ℕ) (d s : ℕ) (hs : s < 2 ^ n) (same : (x : ℕ) → x < 2 ^ n → lab x ≡ lab' x) where
   -- it stays in the cube
@@ -101,13 +102,13 @@ module _ (n N j s d m : ℕ) (lab lab' : ℕ → ℕ) (same : (x : ℕ) → x < 
               let p = (list_good n j s d m (too_short n N (length list)) (dimension_is n (board_good n (not (is_board N)) e).0).1 h).0 in
               (answer_same p.first p.second (length list), after_same p.first p.second list)
           | no h ↦
-              let x = unlisted n N j s d m lab list e l refl h in
-              let y = unlisted n N j s d m lab' list e l refl h in
+              let x = unlisted n N j s d m lab list e n (refusal l) (refused_for l n h) in
+              let y = unlisted n N j s d m lab' list e n (refusal l) (refused_for l n h) in
               (sym x.0 ∙ y.0, sym x.1 ∙ y.1)
         ]
         | no e ↦
-            let x = unboarded n N j s d m lab list b refl e in
-            let y = unboarded n N j s d m lab' list b refl e in
+            let x = unboarded n N j s d m lab list n (refusal b) (refused_for b n e) in
+            let y = unboarded n N j s d m lab' list n (refusal b) (refused_for b n e) in
             (sym x.0 ∙ y.0, sym x.1 ∙ y.1)
       ]
     where

@@ -1,14 +1,18 @@
 -- What an answer of the walk by networks may be: a refusal of 19 at most, or a hop count of 120 at most; and what a walk has that is not refused.
-use mathlib.Core.Path.{◌≡◌, refl, ap}
+use mathlib.Core.Path.{◌≡◌, refl}
 use mathlib.Core.Bool.{true}
 use mathlib.Core.Logic.{◌≢◌}
 use Prim.Native.Nat.{ℕ, ◌^◌, ◌≤◌, ◌<◌}
 use native.Mathlib.Omega.{arith}
 use lib.Dec.{eqb, leb, ltb}
 use borrow.Author.Tests.{eqb-false, eqb-true, leb-false, ltb-false, ltb-true, not-false}
+use Rattle.std.specs.Prelude.{Result}
+use Rattle.cube.specs.Refused.{refusal}
+use Rattle.cube.specs.declared.refusals.Refusal.{Refusal}
 use Rattle.cube.specs.Tables.{highest, is_dimension}
 use Rattle.cube.proofs.Bools.{by_cases, clash, or_false}
 use Rattle.cube.proofs.Refusal.{first_le, first_none}
+use Rattle.cube.proofs.Refused.{number_range}
 use Rattle.cube.proofs.Search.{none_some}
 use Rattle.cube.proofs.Tables.{dimension_is}
 use Rattle.jobs.specs.Jobs.{is_job, label_bytes}
@@ -21,7 +25,6 @@ use Rattle.blocks.proofs.Board.{walks}
 use Rattle.hop_networks.proofs.Refusals.{board_is}
 use Rattle.walk_networks.specs.Crossing.{cross_refusal, cross_tests, crossing, ended_by, hops_of, refusal_of, too_short}
 use Rattle.walk_networks.specs.declared.Crossed.{Crossed}
-use Rattle.walk_networks.specs.declared.Crossed.TheVariants as crossed
 use Rattle.walk_networks.proofs.Refusals.{hops_within}
 use Rattle.walk_networks.proofs.Steps.{most_few}
 
@@ -84,25 +87,11 @@ module _ (n N j s d m room : ℕ) (lab : ℕ → ℕ) where
   pub crossing_small : (refusal_of (crossing n N j s d m room lab) < 256) × (hops_of (crossing n N j s d m room lab) ≤ 120)
   unfolding crossing
   crossing_small =
-      by_cases (λ (a : Crossed). (refusal_of a < 256) × (hops_of a ≤ 120)) (eqb (cross_refusal n N j s d m room lab) 0)
+      by_cases (λ (a : Result Crossed Refusal). (refusal_of a < 256) × (hops_of a ≤ 120)) (eqb (cross_refusal n N j s d m room lab) 0)
       (λ e.
       let g = cross_good (eqb-true (cross_refusal n N j s d m room lab) 0 e) in
       let w = walks n lab d s g.placed.first N g.some in (
         refusal_ends (hops_on n N lab d s) (last_on n N lab d s),
         omega (arith, hops_within (hops_on n N lab d s) (last_on n N lab d s), w.within, most_few n N g.placed.halved.small g.few),
       ))
-      (λ _. (omega (arith, refusal_le), omega arith))
-
-  -- no refusal is 0
-  ended_some : (v : ℕ) (x : Decision) (k : ℕ) → ended_by v x ≡ crossed.Refused k → k ≢ 0
-  unfolding ended_by
-  ended_some v Deliver k e z = let q : ◌≡◌ {A = ℕ} 0 1 = cc in omega arith
-  ended_some v (Hop i) k e z = omega (arith, ap refusal_of e)
-  ended_some v Halted k e z = let q : ◌≡◌ {A = ℕ} 0 1 = cc in omega arith
-
-  pub refused_some : (k : ℕ) → crossing n N j s d m room lab ≡ crossed.Refused k → k ≢ 0
-  unfolding crossing
-  refused_some =
-      by_cases (λ (a : Crossed). (k : ℕ) → a ≡ crossed.Refused k → k ≢ 0) (eqb (cross_refusal n N j s d m room lab) 0)
-      (λ _. ended_some (hops_on n N lab d s) (last_on n N lab d s))
-      (λ h k e z. eqb-false (cross_refusal n N j s d m room lab) 0 h (omega (arith, ap refusal_of e, z)))
+      (λ _. let r = number_range (refusal (cross_refusal n N j s d m room lab)) in (omega (arith, r.1), omega arith))

@@ -11,7 +11,9 @@ use native.Mathlib.Omega.{arith}
 use borrow.Author.Count.{below_more}
 use borrow.Author.Tests.{le-leb, lt-leb}
 use lib.ListN.{length, set}
+use Rattle.std.specs.Prelude.{Some, None, Ok, Err}
 use Rattle.cube.specs.Cube.{flip}
+use Rattle.cube.specs.declared.refusals.Refusal.TheVariants.{Network}
 use Rattle.cube.proofs.Bools.{or_right}
 use Rattle.cube.proofs.Cube.{dist_self, flip_lt}
 use Rattle.cube.proofs.Front.{front, front_write, front_zero}
@@ -24,6 +26,8 @@ use Rattle.blocks.specs.Course.{Place, phase, place, spot, turn}
 use Rattle.blocks.specs.Phase.{after, channel_number}
 use Rattle.blocks.proofs.Board.{ends_at, on_within, stop_ends}
 use Rattle.blocks.proofs.Rising.{place_suc}
+use Rattle.hop_networks.specs.Helpers.{found}
+use Rattle.hop_networks.proofs.Calling.{found_some}
 use Rattle.hop_networks.proofs.Deciding as deciding
 use Rattle.walk_networks.specs.Crossing.{ended_by}
 use Rattle.walk_networks.specs.declared.Crossed.TheVariants as crossed
@@ -66,25 +70,25 @@ module _ (n N : ℕ) (lab : ℕ → ℕ) (d s : ℕ) (hs : s < 2 ^ n) (some : 0 
     ends a e h = let z = ends_at n lab d s hs N k some w.going h in (rw (z, e), rw z w.written)
 
     pub delivered : x ≡ d
-        → (crossed.Delivered k ≡ ended_by (hops_on n N lab d s) (last_on n N lab d s)) × (list ≡ front (number_at n lab d s) (hops_on n N lab d s) lent)
+        → (Ok (crossed.Delivered k) ≡ ended_by (hops_on n N lab d s) (last_on n N lab d s)) × (list ≡ front (number_at n lab d s) (hops_on n N lab d s) lent)
     unfolding hop_in decide_in ended_by stops
     delivered e = let t : turn n lab d s k ≡ Deliver = turn_is ∙ rw (e, dist_self) in ends Deliver t (stop_ends n lab d s hs N k (ap stops t))
 
-    module _ (hd : d < 2 ^ n) (far : x ≢ d) (i : ℕ) (e : i ≡ pick n x d p (lab x) (λ j. lab (flip j x))) where
-      pub halted : n ≤ i
-          → (crossed.Halted k ≡ ended_by (hops_on n N lab d s) (last_on n N lab d s)) × (list ≡ front (number_at n lab d s) (hops_on n N lab d s) lent)
+    module _ (hd : d < 2 ^ n) (far : x ≢ d) where
+      pub halted : None ≡ found n (pick n x d p (lab x) (λ j. lab (flip j x)))
+          → (Ok (crossed.Halted k) ≡ ended_by (hops_on n N lab d s) (last_on n N lab d s)) × (list ≡ front (number_at n lab d s) (hops_on n N lab d s) lent)
       unfolding hop_in ended_by stops
-      halted l =
-          let t = turn_is ∙ deciding.halts n N x d p (lab x) (λ j. lab (flip j x)) w.inside hd far i e l in
+      halted e =
+          let t = turn_is ∙ deciding.halts n N x d p (lab x) (λ j. lab (flip j x)) w.inside hd far e in
           ends Halted t (stop_ends n lab d s hs N k (ap stops t))
 
-      module _ (l : i < n) (q : ℕ) (eq : q ≡ after p x i) where
+      module _ (i : ℕ) (e : Some i ≡ found n (pick n x d p (lab x) (λ j. lab (flip j x)))) (q : ℕ) (eq : q ≡ after p x i) where
         hops_here : turn n lab d s k ≡ Hop i
         unfolding hop_in
-        hops_here = turn_is ∙ deciding.hops n N x d p (lab x) (λ j. lab (flip j x)) w.inside hd far i e l
+        hops_here = turn_is ∙ deciding.hops n N x d p (lab x) (λ j. lab (flip j x)) w.inside hd far i e
 
         pub lacking : 2 * N ≤ q
-            → (crossed.Refused 16 ≡ ended_by (hops_on n N lab d s) (last_on n N lab d s)) × (list ≡ front (number_at n lab d s) (hops_on n N lab d s) lent)
+            → (Err Network ≡ ended_by (hops_on n N lab d s) (last_on n N lab d s)) × (list ≡ front (number_at n lab d s) (hops_on n N lab d s) lent)
         unfolding ended_by ends_on beyond
         lacking h = ends (Hop i) hops_here (or_right (stops (turn n lab d s k)) (rw (hops_here, phase_is, spot_is, ← eq) (le-leb (2 * N) q h)))
 
@@ -98,6 +102,9 @@ module _ (n N : ℕ) (lab : ℕ → ℕ) (d s : ℕ) (hs : s < 2 ^ n) (some : 0 
           on_so_far : (j : ℕ) → j < k + 1 → ends_on n N lab d s j ≡ false
           on_so_far = below_more _ k w.going goes_on
 
+          below : i < n
+          below = let f = found_some n (pick n x d p (lab x) (λ j. lab (flip j x))) i e in omega (arith, f.0, f.1)
+
           pub room : k < most_hops n N
           room = omega (arith, on_within n lab d s hs N some (k + 1) on_so_far)
 
@@ -109,7 +116,7 @@ module _ (n N : ℕ) (lab : ℕ → ℕ) (d s : ℕ) (hs : s < 2 ^ n) (some : 0 
           on r y ey =
               rw ey
               (record {
-                inside = flip_lt n i x l w.inside;
+                inside = flip_lt n i x below w.inside;
                 below = h;
                 here = ap (place n lab d s) (add-one k) ∙ place_suc n lab d s k i hops_here ∙ rw (phase_is, spot_is, eq);
                 going = on_so_far;

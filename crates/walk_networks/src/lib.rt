@@ -3,29 +3,41 @@
 // half alone.
 #![tactic(auto)]
 
-ghost use Rattle.std.specs.Prelude.{◌≤◌, get_or, length, ◌≡◌};
+ghost use Rattle.std.specs.Prelude.{◌≤◌, ◌++◌, drop, length, take, ◌≡◌};
 ghost use Rattle.blocks.specs.Board.{hops_on, last_on, number_at};
 ghost use Rattle.cube.proofs.Front.{front};
 ghost use Rattle.cube.specs.Tables.{label_in};
 ghost use Rattle.jobs.specs.Jobs.{label_for};
-ghost use Rattle.walk_networks.specs.Crossing.{crossing, ended_by, hops_after, hops_of};
+ghost use Rattle.walk_networks.specs.Crossing.{crossing, ended_by, hops_after, made};
 ghost use Rattle.walk_networks.specs.Helpers.{Crossable};
 
 use cube::neighbour;
+use cube::refusals::Refusal;
 use hop_networks::{after, board_refusal, is_board, list_refusal, pick_at};
 use jobs::half;
 use walk::table_refusal;
 
-// How a walk ended, with its hop count, or the refusal.
+// How a walk ended, with its hop count.
 #[derive(Clone, Copy)]
 pub enum Crossed {
     Delivered(usize),
     Halted(usize),
-    Refused(u32),
 }
 
-// The walk from s: how it ends, and in the front of list its hops, each network * 16 + dimension. 16 where a hop needs a network that the board lacks. No
-// walk has more than 120 hops, 12 in each of ten phases.
+impl Crossed {
+    // The hops of the walk.
+    fn hops(self) -> usize
+        ensures { result ≡ made self }
+    {
+        match self {
+            Crossed::Delivered(k) => k,
+            Crossed::Halted(k) => k,
+        }
+    }
+}
+
+// The walk from s: how it ends, and in the front of list its hops, each network * 16 + dimension. It is refused where a hop needs a network that the board
+// lacks. No walk has more than 120 hops, 12 in each of ten phases.
 fn find(
     n: usize,
     networks: usize,
@@ -33,52 +45,36 @@ fn find(
     d: usize,
     labels: &[u8],
     list: &mut [u8; 120],
-) -> Crossed
+) -> Result<Crossed, Refusal>
     requires { Crossable n networks s d (length labels.now) × (length list.old ≡ 120) }
     ensures answer { result ≡ ended_by (hops_on n networks (label_in labels.now) d s) (last_on n networks (label_in labels.now) d s) }
     ensures list { list.new ≡ front (number_at n (label_in labels.now) d s) (hops_on n networks (label_in labels.now) d s) list.old }
 {
     let mut at = s;
-    let mut phase: usize = 0;
-    let mut hops: usize = 0;
+    let mut phase = 0;
+    let mut hops = 0;
     while at != d {
-        let i = pick_at(n, at, d, phase, labels);
-        if n <= i {
-            return Crossed::Halted(hops);
-        }
+        let Some(i) = pick_at(n, at, d, phase, labels) else {
+            return Ok(Crossed::Halted(hops));
+        };
         let next = after(phase, at, i);
         if 2 * networks <= next {
-            return Crossed::Refused(16);
+            return Err(Refusal::Network);
         }
         list[hops] = (next / 2 * 16 + i) as u8;
         at = neighbour(at, i);
         phase = next;
         hops += 1;
     }
-    Crossed::Delivered(hops)
-}
-
-// How many hops of a walk are to be written: none where it is refused.
-fn made(found: Crossed) -> usize
-    ensures { result ≡ hops_of found }
-{
-    match found {
-        Crossed::Delivered(k) => k,
-        Crossed::Halted(k) => k,
-        Crossed::Refused(_) => 0,
-    }
+    Ok(Crossed::Delivered(hops))
 }
 
 // Writes the first count hops of list to the front of out.
 fn write(count: usize, list: &[u8; 120], out: &mut [u8])
     requires { (count ≤ 120) × (count ≤ length out.old) }
-    ensures { out.new ≡ front (λ k. get_or list.now k 0) count out.old }
+    ensures { out.new ≡ take count list.now ++ drop count out.old }
 {
-    let mut k: usize = 0;
-    while k < count {
-        out[k] = list[k];
-        k += 1;
-    }
+    out[..count].copy_from_slice(&list[..count]);
 }
 
 // The walk from s to d for a job, on a board. The hops are found in whole before the first is written, so a refusal writes nothing.
@@ -90,25 +86,17 @@ pub fn walk_networks(
     d: usize,
     labels: &[u8],
     hops: &mut [u8],
-) -> Crossed
+) -> Result<Crossed, Refusal>
     ensures answer { result ≡ crossing n networks job s d (length labels.now) (length hops.old) (label_for n job labels.now) }
     ensures hops { hops.new ≡ hops_after n networks job s d (length labels.now) (label_for n job labels.now) hops.old }
 {
-    let by_board = board_refusal(n, !is_board(networks));
-    if by_board != 0 {
-        return Crossed::Refused(by_board);
-    }
-    let by_place = list_refusal(n, job, s, d, labels.len(), hops.len() < 2 * n * networks);
-    if by_place != 0 {
-        return Crossed::Refused(by_place);
-    }
+    board_refusal(n, !is_board(networks))?;
+    let most = 2 * n * networks;
+    list_refusal(n, job, s, d, labels.len(), hops.len() < most)?;
     let table = half(n, job, labels);
-    let by_labels = table_refusal(n, s, d, table);
-    if by_labels != 0 {
-        return Crossed::Refused(by_labels);
-    }
+    table_refusal(n, s, d, table)?;
     let mut list = [0u8; 120];
-    let found = find(n, networks, s, d, table, &mut list);
-    write(made(found), &list, hops);
-    found
+    let found = find(n, networks, s, d, table, &mut list)?;
+    write(found.hops(), &list, hops);
+    Ok(found)
 }

@@ -9,8 +9,7 @@ use Rattle.walk_networks.proofs.find.Goals.{Else-networks-next}
 room_at : (c : Else-networks-next) → let a = c.args in c.loop-at.hops < most_hops a.n a.networks
 room_at c =
     let p = c.requires.0 in
-    room _ _ _ _ _ p.placed.first p.some _ _ _ _ _ c.loop-at.invariant p.placed.second c.loop-at-test.true _ c.pick_at-i.ensures
-    c.if-n-i.false _ c.after-next.ensures c.if-networks-next.false
+    room _ _ _ _ _ p.placed.first p.some _ _ _ _ _ c.loop-at.invariant p.placed.second c.loop-at-test.true _ c.in-Some.ensures _ c.after-next.ensures c.if-networks-next.false
 
 few-at : (c : Else-networks-next) → c.loop-at.hops < 120
 few-at c =
@@ -20,16 +19,16 @@ few-at c =
 pub loop-at-init : goal.loop-at-init
 loop-at-init c = let p = c.requires.0 in start _ _ _ _ _ p.placed.first p.some _
 
-pub returns-then-n-i : goal.returns-then-n-i
-returns-then-n-i c =
+pub returns-in_default : goal.returns-in_default
+returns-in_default c =
     let p = c.requires.0 in
-    let r = halted _ _ _ _ _ p.placed.first p.some _ _ _ _ _ c.loop-at.invariant p.placed.second c.loop-at-test.true _ c.pick_at-i.ensures c.if-n-i.true in
+    let r = halted _ _ _ _ _ p.placed.first p.some _ _ _ _ _ c.loop-at.invariant p.placed.second c.loop-at-test.true c.in_default.ensures in
     record { answer = r.0; list = r.1 }
 
 pub returns-then-networks-next : goal.returns-then-networks-next
 returns-then-networks-next c =
     let p = c.requires.0 in
-    let r = lacking _ _ _ _ _ p.placed.first p.some _ _ _ _ _ c.loop-at.invariant p.placed.second c.loop-at-test.true _ c.pick_at-i.ensures c.if-n-i.false _
+    let r = lacking _ _ _ _ _ p.placed.first p.some _ _ _ _ _ c.loop-at.invariant p.placed.second c.loop-at-test.true _ c.in-Some.ensures _
     c.after-next.ensures c.if-networks-next.true in
     record { answer = r.0; list = r.1 }
 
@@ -46,8 +45,7 @@ pub loop-at-preserved : goal.loop-at-preserved
 loop-at-preserved c =
     let z = c.requires in
     let p = z.0 in
-    on _ _ _ _ _ p.placed.first p.some _ _ _ _ _ c.loop-at.invariant p.placed.second c.loop-at-test.true _ c.pick_at-i.ensures
-    c.if-n-i.false _ c.after-next.ensures c.if-networks-next.false (omega (arith, few-at (goal.at.loop-at-preserved c).Else-networks-next, z.1)) _ c.neighbour-at.ensures
+    on _ _ _ _ _ p.placed.first p.some _ _ _ _ _ c.loop-at.invariant p.placed.second c.loop-at-test.true _ c.in-Some.ensures _ c.after-next.ensures c.if-networks-next.false (omega (arith, few-at (goal.at.loop-at-preserved c).Else-networks-next, z.1)) _ c.neighbour-at.ensures
 
 pub returns : goal.returns
 returns c =

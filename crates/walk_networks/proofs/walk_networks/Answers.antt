@@ -1,11 +1,14 @@
 -- `walk_networks`: the board first, then what needs no label, then what the labels of the job's half refuse; then the hops are found, and written unless the
 -- walk is refused.
-use mathlib.Core.Path.{◌≡◌, refl, sym, ◌∙◌}
+use mathlib.Core.Path.{◌≡◌, refl, sym}
 use mathlib.Core.Bool.{not}
 use Prim.Native.Nat.{◌^◌, ◌<◌, ◌≤◌}
 use native.Mathlib.Omega.{arith}
 use borrow.Author.Tests.{ltb-false, not-false}
 use lib.ListN.{length}
+use Rattle.std.specs.Prelude.{Ok}
+use Rattle.std.proofs.lemmas.Result.{err_from_is_err_and}
+use Rattle.cube.proofs.Refused.{accepted}
 use Rattle.cube.specs.Tables.{label_in}
 use Rattle.cube.proofs.Tables.{dimension_is}
 use Rattle.jobs.specs.Jobs.{half}
@@ -16,42 +19,31 @@ use Rattle.blocks.specs.Board.{hops_on, last_on, most_hops}
 use Rattle.hop_networks.specs.Helpers.{board_refusal, list_refusal}
 use Rattle.hop_networks.specs.Hopping.{is_board}
 use Rattle.hop_networks.proofs.Refusals.{board_good, board_is, list_good}
-use Rattle.walk_networks.specs.Crossing.{ended_by, too_short}
-use Rattle.walk_networks.proofs.Refusals.{made_few, unboarded, unlabelled, unlisted, walked}
+use Rattle.walk_networks.specs.Crossing.{ended_by, made, too_short}
+use Rattle.walk_networks.proofs.Refusals.{made_few, unboarded, unlabelled, unlisted, unwalked, walked}
 use Rattle.walk_networks.proofs.Steps.{most_few}
 use Rattle.walk_networks.proofs.walk_networks.Goals as goal
-use Rattle.walk_networks.proofs.walk_networks.Goals.{After-board_refusal-by_board, After-find-found, After-half-table, After-list_refusal-by_place, After-table_refusal-by_labels, Else-by_board-ne0, Else-by_place-ne0}
+use Rattle.walk_networks.proofs.walk_networks.Goals.{After-half-table, In_ok-board_refusal, In_ok-found, In_ok-list_refusal, In_ok-table_refusal}
 
 -- what the first two tests show
-board-refuses : (c : After-board_refusal-by_board) → let a = c.args in c.board_refusal-by_board.result ≡ board_refusal a.n (not (is_board a.networks))
-board-refuses c = rw c.is_board.ensures at c.board_refusal-by_board.ensures
+board : (c : In_ok-board_refusal) → let a = c.args in board_refusal a.n (not (is_board a.networks)) ≡ 0
+board c = (accepted _ _ _ (sym (rw c.is_board.ensures at c.in_ok-board_refusal.ensures))).0
 
-board : (c : Else-by_board-ne0) → let a = c.args in board_refusal a.n (not (is_board a.networks)) ≡ 0
-board c = sym (rw c.is_board.ensures at c.board_refusal-by_board.ensures) ∙ c.if-by_board-ne0.false
+small : (c : In_ok-board_refusal) → c.args.n ≤ 12
+small c = (dimension_is _ (board_good _ _ (board c)).0).1
 
-dimension : (c : Else-by_board-ne0) → (1 ≤ c.args.n) × (c.args.n ≤ 12)
-dimension c = dimension_is _ (board_good _ _ (board c)).0
-
-small : (c : Else-by_board-ne0) → c.args.n ≤ 12
-small c = (dimension c).1
-
-networks-few : (c : Else-by_board-ne0) → let a = c.args in (0 < a.networks) × (a.networks ≤ 5)
+networks-few : (c : In_ok-board_refusal) → let a = c.args in (0 < a.networks) × (a.networks ≤ 5)
 networks-few c = board_is _ (not-false _ (board_good _ _ (board c)).1)
 
-most : (c : Else-by_board-ne0) → let a = c.args in most_hops a.n a.networks ≤ 120
+most : (c : In_ok-board_refusal) → let a = c.args in most_hops a.n a.networks ≤ 120
 most c = most_few _ _ (small c) (networks-few c).1
 
-list-refuses : (c : After-list_refusal-by_place) → let a = c.args in
-    c.list_refusal-by_place.result ≡ list_refusal a.n a.job a.s a.d (length a.labels.now) (too_short a.n a.networks (length a.hops.now))
-unfolding too_short
-list-refuses c = c.list_refusal-by_place.ensures
-
-listed : (c : Else-by_place-ne0) → let a = c.args in
+listed : (c : In_ok-list_refusal) → let a = c.args in
     list_refusal a.n a.job a.s a.d (length a.labels.now) (too_short a.n a.networks (length a.hops.now)) ≡ 0
 unfolding too_short
-listed c = sym c.list_refusal-by_place.ensures ∙ c.if-by_place-ne0.false
+listed c = (accepted _ _ _ (sym c.in_ok-list_refusal.ensures)).0
 
-asked : (c : Else-by_place-ne0) → c.args.n ≤ 12 → let a = c.args in
+asked : (c : In_ok-list_refusal) → c.args.n ≤ 12 → let a = c.args in
     Asked a.n a.job a.s a.d (length a.labels.now) × (most_hops a.n a.networks ≤ length a.hops.now)
 unfolding too_short
 asked c l = let r = list_good _ _ _ _ _ _ l (listed c) in (r.0, ltb-false _ _ r.1)
@@ -60,67 +52,84 @@ asked c l = let r = list_good _ _ _ _ _ _ l (listed c) in (r.0, ltb-false _ _ r.
 good : (c : After-half-table) → let a = c.args in Asked a.n a.job a.s a.d (length a.labels.now) → Placed a.n a.s a.d (length c.half-table.result.now)
 good c p = rw c.half-table.ensures.bytes (half_placed _ _ _ _ _ p)
 
-labels-refuse : (c : After-table_refusal-by_labels) → let a = c.args in
-    c.table_refusal-by_labels.result ≡ table_refusal a.n a.s a.d (label_in (half a.job (2 ^ a.n) a.labels.now))
-labels-refuse c = rw c.half-table.ensures.bytes at c.table_refusal-by_labels.ensures
+labelled : (c : In_ok-table_refusal) → let a = c.args in table_refusal a.n a.s a.d (label_in (half a.job (2 ^ a.n) a.labels.now)) ≡ 0
+labelled c = (accepted _ _ _ (sym (rw c.half-table.ensures.bytes at c.in_ok-table_refusal.ensures))).0
 
--- what was found is the walk by the half's labels
-found : (c : After-find-found) → let a = c.args in
+-- the walk is found by the half's labels, and the list has room for it
+found : (c : In_ok-found) → let a = c.args in
     let lab = label_in (half a.job (2 ^ a.n) a.labels.now) in
-    c.find-found.result ≡ ended_by (hops_on a.n a.networks lab a.d a.s) (last_on a.n a.networks lab a.d a.s)
-found c = rw c.half-table.ensures.bytes at c.find-found.ensures.answer
+    Ok c.in_ok-found.found ≡ ended_by (hops_on a.n a.networks lab a.d a.s) (last_on a.n a.networks lab a.d a.s)
+found c = rw c.half-table.ensures.bytes at c.in_ok-found.ensures.answer
 
-pub returns-then-by_board-ne0 : goal.returns-then-by_board-ne0
-returns-then-by_board-ne0 c =
-    let r = unboarded _ _ _ _ _ _ _ c.args.hops.now _ (board-refuses (goal.at.returns-then-by_board-ne0 c).After-board_refusal-by_board) c.if-by_board-ne0.true in
-    record { answer = r.0; hops = r.1 }
+few : (c : In_ok-found) → let a = c.args in 0 < a.networks → a.s < 2 ^ a.n → made c.in_ok-found.found ≤ most_hops a.n a.networks
+few c some h = made_few _ _ _ _ _ _ some h (found c)
 
-pub overflow_mul-n : goal.overflow_mul-n
-overflow_mul-n c =
-    omega (arith, small (goal.at.overflow_mul-n c).Else-by_board-ne0)
+pub returns-in_err-board_refusal : goal.returns-in_err-board_refusal
+returns-in_err-board_refusal c =
+    let p = err_from_is_err_and c.from_residual.result c.from_residual.ensures.1 in
+    let r = unboarded _ _ _ _ _ _ _ c.args.hops.now _ _ (sym (rw c.is_board.ensures at c.in_err-board_refusal.ensures)) in
+    record { answer = rw (p.1, p.2) r.0; hops = r.1 }
 
-pub overflow_mul-n-2 : goal.overflow_mul-n-2
-overflow_mul-n-2 c =
-    omega (arith, most (goal.at.overflow_mul-n-2 c).Else-by_board-ne0)
+pub overflow_mul-most : goal.overflow_mul-most
+overflow_mul-most c = omega (arith, small c)
 
-pub list_refusal-by_place-requires : goal.list_refusal-by_place-requires
-list_refusal-by_place-requires c =
-    small (goal.at.list_refusal-by_place-requires c).Else-by_board-ne0
+pub overflow_mul-most-2 : goal.overflow_mul-most-2
+overflow_mul-most-2 c = omega (arith, most c)
 
-pub returns-then-by_place-ne0 : goal.returns-then-by_place-ne0
-returns-then-by_place-ne0 c =
-    let r = unlisted _ _ _ _ _ _ _ c.args.hops.now (board (goal.at.returns-then-by_place-ne0 c).Else-by_board-ne0) _ (list-refuses (goal.at.returns-then-by_place-ne0 c).After-list_refusal-by_place) c.if-by_place-ne0.true in
-    record { answer = r.0; hops = r.1 }
+pub list_refusal-requires : goal.list_refusal-requires
+list_refusal-requires c = small c
+
+pub returns-in_err-list_refusal : goal.returns-in_err-list_refusal
+unfolding too_short
+returns-in_err-list_refusal c =
+    let g = goal.at.returns-in_err-list_refusal c in
+    let p = err_from_is_err_and c.from_residual-in_err-list_refusal.result c.from_residual-in_err-list_refusal.ensures.1 in
+    let r = unlisted _ _ _ _ _ _ _ c.args.hops.now (board g.In_ok-board_refusal) _ _ (sym c.in_err-list_refusal.ensures) in
+    record { answer = rw (p.1, p.2) r.0; hops = r.1 }
 
 pub half-table-requires : goal.half-table-requires
-half-table-requires c =
-    (asked (goal.at.half-table-requires c).Else-by_place-ne0 (small (goal.at.half-table-requires c).Else-by_board-ne0)).0.halved
+half-table-requires c = (asked c (small (goal.at.half-table-requires c).In_ok-board_refusal)).0.halved
 
-pub table_refusal-by_labels-requires : goal.table_refusal-by_labels-requires
-table_refusal-by_labels-requires c =
-    good (goal.at.table_refusal-by_labels-requires c).After-half-table (asked (goal.at.table_refusal-by_labels-requires c).Else-by_place-ne0 (small (goal.at.table_refusal-by_labels-requires c).Else-by_board-ne0)).0
+pub table_refusal-requires : goal.table_refusal-requires
+table_refusal-requires c =
+    let g = goal.at.table_refusal-requires c in
+    good c (asked g.In_ok-list_refusal (small g.In_ok-board_refusal)).0
 
-pub returns-then-by_labels-ne0 : goal.returns-then-by_labels-ne0
-returns-then-by_labels-ne0 c =
-    let r = unlabelled _ _ _ _ _ _ _ c.args.hops.now (board (goal.at.returns-then-by_labels-ne0 c).Else-by_board-ne0) (listed (goal.at.returns-then-by_labels-ne0 c).Else-by_place-ne0) _
-    (labels-refuse (goal.at.returns-then-by_labels-ne0 c).After-table_refusal-by_labels) c.if-by_labels-ne0.true in
-    record { answer = r.0; hops = r.1 }
+pub returns-in_err-table_refusal : goal.returns-in_err-table_refusal
+returns-in_err-table_refusal c =
+    let g = goal.at.returns-in_err-table_refusal c in
+    let p = err_from_is_err_and c.from_residual-in_err-table_refusal.result c.from_residual-in_err-table_refusal.ensures.1 in
+    let r = unlabelled _ _ _ _ _ _ _ c.args.hops.now (board g.In_ok-board_refusal) (listed g.In_ok-list_refusal) _ _
+    (sym (rw c.half-table.ensures.bytes at c.in_err-table_refusal.ensures)) in
+    record { answer = rw (p.1, p.2) r.0; hops = r.1 }
 
-pub find-found-requires : goal.find-found-requires
-find-found-requires c =
-    let b = networks-few (goal.at.find-found-requires c).Else-by_board-ne0 in
-    (record { placed = good (goal.at.find-found-requires c).After-half-table (asked (goal.at.find-found-requires c).Else-by_place-ne0 (small (goal.at.find-found-requires c).Else-by_board-ne0)).0; some = b.0; few = b.1 }, refl)
+pub find-requires : goal.find-requires
+find-requires c =
+    let g = goal.at.find-requires c in
+    let b = networks-few g.In_ok-board_refusal in
+    (record { placed = good g.After-half-table (asked g.In_ok-list_refusal (small g.In_ok-board_refusal)).0; some = b.0; few = b.1 }, refl)
 
+pub returns-in_err-found : goal.returns-in_err-found
+returns-in_err-found c =
+    let g = goal.at.returns-in_err-found c in
+    let p = err_from_is_err_and c.from_residual-in_err-found.result c.from_residual-in_err-found.ensures.1 in
+    let r = unwalked _ _ _ _ _ _ _ c.args.hops.now (board g.In_ok-board_refusal) (listed g.In_ok-list_refusal) (labelled g.In_ok-table_refusal) _
+    (rw c.half-table.ensures.bytes at c.in_err-found.ensures.answer) in
+    record { answer = rw (p.1, p.2) r.0; hops = r.1 }
+
+-- the hops are few enough for both lists
 pub write-requires : goal.write-requires
 write-requires c =
-    let b = (goal.at.write-requires c).Else-by_board-ne0 in
-    let p = asked (goal.at.write-requires c).Else-by_place-ne0 (small b) in
-    let few = made_few _ _ _ _ _ _ _ (dimension b) (networks-few b) p.0.first (found (goal.at.write-requires c).After-find-found) c.made.ensures in
-    (few.0, omega (arith, few.1, p.1))
+    let g = goal.at.write-requires c in
+    let b = g.In_ok-board_refusal in
+    let p = asked g.In_ok-list_refusal (small b) in
+    let f = few g.In_ok-found (networks-few b).0 p.0.first in
+    (omega (arith, c.hops.ensures, f, most b), omega (arith, c.hops.ensures, f, p.1))
 
 pub returns : goal.returns
 returns c =
-    let r = walked _ _ _ _ _ _ _ c.args.hops.now (board (goal.at.returns c).Else-by_board-ne0) (listed (goal.at.returns c).Else-by_place-ne0)
-    (sym (labels-refuse (goal.at.returns c).After-table_refusal-by_labels) ∙ c.if-by_labels-ne0.false) _ _ _ _ _ (found (goal.at.returns c).After-find-found)
-    (rw c.half-table.ensures.bytes at c.find-found.ensures.list) c.made.ensures c.write.ensures in
+    let g = goal.at.returns c in
+    let r = walked _ _ _ _ _ _ _ c.args.hops.now (board g.In_ok-board_refusal) (listed g.In_ok-list_refusal) (labelled g.In_ok-table_refusal) _ _ _ _ (found g.In_ok-found)
+    (rw c.half-table.ensures.bytes at c.in_ok-found.ensures.list)
+    (rw c.hops.ensures at c.write.ensures) in
     record { answer = r.0; hops = r.1 }
