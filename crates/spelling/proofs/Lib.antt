@@ -7,3 +7,4 @@ pub mod Notice
 pub mod Worked
 pub mod Bytes
 pub mod Laws
+pub mod Sinks

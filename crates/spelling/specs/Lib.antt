@@ -1,2 +1,3 @@
 pub mod Spelled
 pub mod Laws
+pub mod Sinks

@@ -1,17 +1,20 @@
 -- The three parts of a notice, dimension, count and addresses: their lengths make up its length, and written one behind the other they are the notice.
 use mathlib.Core.Bool.{Bool}
 use mathlib.Core.List.{List, [], ◌∷◌, ◌++◌}
-use mathlib.Core.Path.{◌≡◌, sym, ap, ap₂, ◌∙◌}
+use mathlib.Core.Path.{◌≡◌, sym, ap, ◌∙◌}
 use Prim.Native.Nat.{ℕ, zero, suc, ◌+◌, ◌*◌, ◌-◌, ◌^◌, ◌≤◌}
 use native.Mathlib.Omega.{arith}
 use lib.ListN.{length, length-append}
-use Rattle.cube.specs.Over.{over, over_at}
+use Rattle.cube.specs.Over.{over}
 use Rattle.cube.specs.Tables.{node_bit, table_len}
 use Rattle.cube.proofs.Bools.{by_cases}
-use Rattle.cube.proofs.Over.{length_over, over_front, over_then}
+use Rattle.cube.proofs.Over.{over_front}
 use Rattle.cube.proofs.Tables.{nodes_few, table_room}
 use Rattle.groups.specs.Number.{groups_of}
+use Rattle.spelling.specs.Laws.{IsTable}
+use Rattle.spelling.specs.Sinks.{Counted, Written}
 use Rattle.spelling.specs.Spelled.{address_bytes, faulty_nodes, having, notice_bytes}
+use Rattle.spelling.proofs.Sinks.{write_left, write_more}
 use Rattle.writer.proofs.Passes.{few_groups}
 
 -- ---- they are short
@@ -32,7 +35,7 @@ few_addresses base (x ∷ l) =
 few_nodes : (p : ℕ → Bool) (size : ℕ) → length (having size 0 p) ≤ size
 few_nodes p size = few_having p size 0
 
-few_bytes : (p : ℕ → Bool) (size : ℕ) → length (address_bytes 0 (having size 0 p)) ≤ 2 * size
+pub few_bytes : (p : ℕ → Bool) (size : ℕ) → length (address_bytes 0 (having size 0 p)) ≤ 2 * size
 few_bytes p size = omega (arith, few_addresses 0 (having size 0 p), few_having p size 0)
 
 -- ---- a cube that was measured
@@ -43,6 +46,11 @@ pub record Sized (n : ℕ) (faults : List ℕ) (size count : ℕ) : Type 0 where
   pub long : length faults ≡ table_len n
   pub nodes : size ≡ 2 ^ n
   pub counted : count ≡ length (faulty_nodes n faults)
+
+pub sized_by : {n size count : ℕ} {faults : List ℕ} → IsTable n faults → size ≡ 2 ^ n → count ≡ length (having size 0 (node_bit faults))
+    → Sized n faults size count
+sized_by {faults} t e h =
+    record { small = t.dimension.1; long = t.sized; nodes = e; counted = h ∙ ap (λ (k : ℕ). length (having k 0 (node_bit faults))) e }
 
 -- its nodes are few, and have their bits in the table
 pub nodes_fit : {n m size : ℕ} → n ≤ 12 → m ≡ table_len n → size ≡ 2 ^ n → (size ≤ 4096) × (size ≤ 8 * m)
@@ -70,40 +78,27 @@ module _ {n : ℕ} {faults : List ℕ} {size count : ℕ} (S : Sized n faults si
   notice_length =
       omega (arith, ap length spelled, length-append (groups_of n ++ groups_of count) addresses, length-append (groups_of n) (groups_of count))
 
+  -- counted one after the other, in whatever order
+  pub counted : {a b c : ℕ} → Counted 0 addresses a → Counted a (groups_of n) b → Counted b (groups_of count) c → c ≡ length (notice_bytes n faults)
+  counted one two three = omega (arith, one.counted, two.counted, three.counted, notice_length)
+
   -- ---- written into a buffer that has room
 
   module _ (out : List ℕ) (room : length (notice_bytes n faults) ≤ length out) where
-    pub first_room : 0 + length (groups_of n) ≤ length out
+    pub first_room : length (groups_of n) ≤ length out - 0
     first_room = omega (arith, notice_length)
 
-    module _ (second : ℕ) (one : List ℕ) (p : second ≡ 0 + length (groups_of n)) (a : one ≡ over_at 0 (groups_of n) out) where
-      pub second_room : second + length (groups_of count) ≤ length one
-      second_room = omega (arith, notice_length, ap length a, length_over 0 (groups_of n) out first_room)
+    module _ {one : List ℕ} {second : ℕ} (a : Written out 0 (groups_of n) one second) where
+      pub second_room : length (groups_of count) ≤ length one - second
+      second_room = omega (arith, notice_length, write_left a)
 
-      module _ (start : ℕ) (two : List ℕ) (q : start ≡ second + length (groups_of count)) (b : two ≡ over_at second (groups_of count) one) where
-        pub third_room : start + length addresses ≤ length two
-        third_room =
-            omega (
-              arith,
-              notice_length,
-              ap length b,
-              length_over second (groups_of count) one second_room,
-              ap length a,
-              length_over 0 (groups_of n) out first_room,
-            )
+      module _ {two : List ℕ} {start : ℕ} (b : Written one second (groups_of count) two start) where
+        pub third_room : length addresses ≤ length two - start
+        third_room = omega (arith, notice_length, write_left a, write_left b)
 
-        -- the first two parts are one piece,
-        both : two ≡ over_at 0 (groups_of n ++ groups_of count) out
-        both = b ∙ ap₂ (λ (k : ℕ) (l : List ℕ). over_at k (groups_of count) l) p a ∙ over_then 0 (groups_of n) out first_room (groups_of count)
-
-        -- and all three the notice
-        pub all_written : (three : List ℕ) → three ≡ over_at start addresses two → three ≡ over (notice_bytes n faults) out
-        all_written three c =
-            let front : List ℕ = groups_of n ++ groups_of count in
-            let place : start ≡ 0 + length front = omega (arith, p, q, length-append (groups_of n) (groups_of count)) in
-            let has : 0 + length front ≤ length out = omega (arith, notice_length, length-append (groups_of n) (groups_of count)) in
-            c
-            ∙ ap₂ (λ (k : ℕ) (l : List ℕ). over_at k addresses l) place both
-            ∙ over_then 0 front out has addresses
-            ∙ over_front (front ++ addresses) out
+        -- all three are the notice
+        pub all_written : {three : List ℕ} {end : ℕ} → Written two start addresses three end → three ≡ over (notice_bytes n faults) out
+        all_written c =
+            (write_more (write_more a b) c).bytes
+            ∙ over_front ((groups_of n ++ groups_of count) ++ addresses) out
             ∙ ap (λ (w : List ℕ). over w out) (sym spelled)

@@ -1,9 +1,8 @@
-// Notices, written: the notice of a fault table goes to the front of a lent buffer. One pass over the nodes measures it, so that its length is known before
-// the first byte is written; a second pass writes.
+// Notices, written: the notice of a fault table goes to the front of a lent buffer. One pass over the nodes counts its bytes, so that its length is known
+// before the first byte is written; a second pass, by the same functions, writes them.
 #![tactic(auto)]
 
-ghost use Rattle.std.specs.Prelude.{◌+◌, ◌*◌, ◌<◌, ◌≤◌, length, ◌≡◌};
-ghost use Rattle.cube.specs.Over.{over, over_at};
+ghost use Rattle.std.specs.Prelude.{◌*◌, ◌<◌, ◌≤◌, length, ◌≡◌};
 ghost use Rattle.cube.specs.Refusal.{first};
 ghost use Rattle.cube.specs.Refused.{answered};
 ghost use Rattle.cube.specs.Tables.{node_bit, table_len};
@@ -11,15 +10,11 @@ ghost use Rattle.groups.specs.Number.{groups_of};
 ghost use Rattle.spelling.specs.Spelled.{address_bytes, faulty_nodes, having, notice_bytes};
 ghost use Rattle.writer.specs.Writing.{buffer_after, fault_tests, wrote};
 
+pub mod sink;
+
 use cube::refusals::Refusal;
 use cube::{is_dimension, node_bit, nodes, table_len, unused_set};
-
-// How many nodes are faulty, and how many bytes their addresses take.
-#[derive(Drop)]
-struct Measured {
-    count: usize,
-    bytes: usize,
-}
+use sink::{Count, Front, Sink};
 
 // Whether a fault table is one of an n-cube, or the refusal.
 pub fn table_refusal(n: usize, faults: &[u8]) -> Result<(), Refusal>
@@ -37,82 +32,36 @@ pub fn table_refusal(n: usize, faults: &[u8]) -> Result<(), Refusal>
     Ok(())
 }
 
-// How many bytes a number takes.
-fn groups_len(v: usize) -> usize
-    ensures { result ≡ length (groups_of v) }
+// Puts a number.
+fn put_number<S: Sink>(v: usize, sink: &mut S)
+    requires { (v < 16384) × (length (groups_of v) ≤ S.room sink.old) }
+    ensures { S.puts sink.old (groups_of v) sink.new }
 {
     if v < 128 {
-        return 1;
+        sink.put(v as u8);
+    } else {
+        sink.put((128 + v % 128) as u8);
+        sink.put((v / 128) as u8);
     }
-    2
 }
 
-// Measures the faulty nodes among the first so many.
-fn measure(faults: &[u8], size: usize) -> Measured
-    requires { (size ≤ 4096) × (size ≤ 8 * length faults.now) }
-    ensures count { result.count ≡ length (having size 0 (node_bit faults.now)) }
-    ensures bytes { result.bytes ≡ length (address_bytes 0 (having size 0 (node_bit faults.now))) }
+// Puts the addresses of the faulty nodes among the first so many, and answers how many these are.
+fn put_addresses<S: Sink>(faults: &[u8], size: usize, sink: &mut S) -> usize
+    requires size_bound { (size ≤ 4096) × (size ≤ 8 * length faults.now) }
+    requires room { length (address_bytes 0 (having size 0 (node_bit faults.now))) ≤ S.room sink.old }
+    ensures count { result ≡ length (having size 0 (node_bit faults.now)) }
+    ensures bytes { S.puts sink.old (address_bytes 0 (having size 0 (node_bit faults.now))) sink.new }
 {
     let mut count: usize = 0;
-    let mut bytes: usize = 0;
     let mut base: usize = 0;
-    let mut k: usize = 0;
-    while k < size {
-        if node_bit(faults, k) {
-            bytes += groups_len(k - base);
-            count += 1;
-            base = k + 1;
-        }
-        k += 1;
-    }
-    Measured { count, bytes }
-}
-
-// Writes a number at a place and answers the place behind it.
-fn put_number(out: &mut [u8], at: usize, v: usize) -> usize
-    requires { (v < 16384) × (at + length (groups_of v) ≤ length out.old) }
-    ensures next { result ≡ at + length (groups_of v) }
-    ensures bytes { out.new ≡ over_at at (groups_of v) out.old }
-{
-    let second = at + 1;
-    if v < 128 {
-        out[at] = v as u8;
-        return second;
-    }
-    out[at] = (128 + v % 128) as u8;
-    out[second] = (v / 128) as u8;
-    at + 2
-}
-
-// Writes the addresses of the faulty nodes among the first so many, from a place on.
-fn put_addresses(faults: &[u8], size: usize, out: &mut [u8], start: usize)
-    requires size_bound { (size ≤ 4096) × (size ≤ 8 * length faults.now) }
-    requires faults_in_bounds { start + length (address_bytes 0 (having size 0 (node_bit faults.now))) ≤ length out.old }
-    ensures { out.new ≡ over_at start (address_bytes 0 (having size 0 (node_bit faults.now))) out.old }
-{
-    let mut at: usize = start;
-    let mut base: usize = 0;
-    let mut node: usize = 0;
-    while node < size {
+    for node in 0..size {
         if node_bit(faults, node) {
-            at = put_number(out, at, node - base);
+            put_number(node - base, sink);
+            count += 1;
             base = node + 1;
         }
-        node += 1;
     }
-}
-
-// Writes the three parts of a notice one behind the other.
-fn put_notice(n: usize, faults: &[u8], count: usize, out: &mut [u8])
-    requires n_bound { (n ≤ 12) × (length faults.now ≡ table_len n) }
-    requires count_value { count ≡ length (faulty_nodes n faults.now) }
-    requires faults_in_bounds { length (notice_bytes n faults.now) ≤ length out.old }
-    ensures { out.new ≡ over (notice_bytes n faults.now) out.old }
-{
-    let size = nodes(n);
-    let second = put_number(out, 0, n);
-    let start = put_number(out, second, count);
-    put_addresses(faults, size, out, start);
+    count
 }
 
 // Writes the notice of a fault table of an n-cube to the front of the buffer and answers its length, or refuses and leaves the buffer as it was.
@@ -121,12 +70,18 @@ pub fn write(n: usize, faults: &[u8], out: &mut [u8]) -> Result<usize, Refusal>
     ensures buffer { out.new ≡ buffer_after n faults.now out.old }
 {
     table_refusal(n, faults)?;
-    let found = measure(faults, nodes(n));
-    let head = groups_len(n) + groups_len(found.count);
-    let length = head + found.bytes;
+    let size = nodes(n);
+    let mut measured = Count { bytes: 0 };
+    let count = put_addresses(faults, size, &mut measured);
+    put_number(n, &mut measured);
+    put_number(count, &mut measured);
+    let length = measured.bytes;
     if out.len() < length {
         return Err(Refusal::Room);
     }
-    put_notice(n, faults, found.count, out);
+    let mut front = Front { out, at: 0 };
+    put_number(n, &mut front);
+    put_number(count, &mut front);
+    put_addresses(faults, size, &mut front);
     Ok(length)
 }

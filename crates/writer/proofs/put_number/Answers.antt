@@ -1,25 +1,23 @@
--- `put_number` makes the test by which `groups_of` chooses, and stores the groups that it has: the one, or the low and the high one.
+-- `put_number` makes the test by which `groups_of` chooses, and puts the groups that it has: the one, or the low and the high one.
 use mathlib.Core.Path.{ap}
-use Prim.Native.Nat.{◌+◌, ◌%◌}
 use native.Mathlib.Omega.{arith}
-use lib.ListN.{length, length-set}
-use Rattle.writer.proofs.Passes.{some_group, stored_one, stored_two, two-groups}
+use lib.ListN.{length}
+use Rattle.writer.proofs.Passes.{one_group, some_group, two-groups}
 use Rattle.writer.proofs.put_number.Goals as goal
 
-pub bounds-out-at : goal.bounds-out-at
-bounds-out-at c = omega (arith, some_group c.args.v, c.requires.1)
+pub put-requires : goal.put-requires
+put-requires g c = omega (arith, c.requires.1, some_group c.args.v)
+
+pub put-requires-else-v-lt128 : goal.put-requires-else-v-lt128
+put-requires-else-v-lt128 g c = omega (arith, c.requires.1, some_group c.args.v)
+
+pub put-requires-else-v-lt128-2 : goal.put-requires-else-v-lt128-2
+put-requires-else-v-lt128-2 g c =
+    omega (arith, c.requires.1, ap length (two-groups c.if-v-lt128.false), g.met.S.Sink.left _ _ _ c.put-else-v-lt128.ensures)
 
 pub returns-then-v-lt128 : goal.returns-then-v-lt128
-returns-then-v-lt128 c =
-    stored_one c.args.at c.args.v c.args.out.now c.requires.1 c.if-v-lt128.true
+returns-then-v-lt128 g c = rw (one_group c.if-v-lt128.true) c.put.ensures
 
-pub bounds-out-at-2 : goal.bounds-out-at-2
-bounds-out-at-2 c = omega (arith, some_group c.args.v, c.requires.1)
-
-pub bounds-out-second : goal.bounds-out-second
-bounds-out-second c =
-    omega (arith, c.requires.1, ap length (two-groups c.if-v-lt128.false), length-set c.args.out.now c.args.at (128 + c.args.v % 128))
-
-pub returns : goal.returns
-returns c =
-    stored_two c.args.at c.args.v c.args.out.now c.requires.1 c.if-v-lt128.false
+pub returns-else-v-lt128 : goal.returns-else-v-lt128
+returns-else-v-lt128 g c =
+    rw (two-groups c.if-v-lt128.false) (g.met.S.Sink.more _ _ _ _ _ c.put-else-v-lt128.ensures c.put-else-v-lt128-2.ensures)

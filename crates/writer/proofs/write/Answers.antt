@@ -1,31 +1,26 @@
 -- `write` knows the length before it writes: the table is one that is taken, and the notice has room.
 use mathlib.Core.Path.{◌≡◌, sym, ap, ◌∙◌}
-use Prim.Native.Nat.{ℕ, ◌+◌}
+use Prim.Native.Nat.{ℕ, ◌*◌, ◌≤◌}
 use native.Mathlib.Omega.{arith}
 use lib.ListN.{length}
 use Rattle.cube.specs.Tables.{node_bit}
+use Rattle.std.proofs.Common.{rules}
+use Rattle.cube.specs.Over.{over}
+use Rattle.writer.specs.Writing.{after_bytes}
 use Rattle.spelling.specs.Laws.{IsTable}
-use Rattle.spelling.specs.Spelled.{having, notice_bytes}
+use Rattle.spelling.specs.Spelled.{notice_bytes}
 use Rattle.std.specs.Prelude.{Ok}
 use Rattle.writer.proofs.Passes.{few_groups}
-use Rattle.writer.proofs.Parts.{Sized, addresses_few, nodes_fit, notice_length}
+use Rattle.writer.proofs.Parts.{Sized, addresses_few, all_written, count_few, counted, few_bytes, first_room, nodes_fit, second_room, sized_by, third_room}
 use Rattle.writer.proofs.Refusal.{buffer_kept, buffer_passed, buffer_written, has_room, no_room, passes, table_accepted, wrote_length, wrote_passed, wrote_refused}
 use Rattle.writer.proofs.write.Goals as goal
-use Rattle.writer.proofs.write.Goals.{After-measure-found, In_ok-table_refusal}
+use Rattle.writer.proofs.write.Goals.{After-nodes-size, After-put_addresses-count, After-put_number-2, Else-out-length, In_ok-table_refusal}
 
 table : (c : In_ok-table_refusal) → IsTable c.args.n c.args.faults.now
 table c = table_accepted _ _ _ _ (sym c.table_refusal.ensures ∙ c.in_ok-table_refusal.was)
 
-sized : (c : After-measure-found) → Sized c.args.n c.args.faults.now c.nodes.result c.measure-found.result.count
-sized c =
-    let t : IsTable c.args.n c.args.faults.now = table_accepted _ _ _ _ (sym c.table_refusal.ensures ∙ c.in_ok-table_refusal.was) in
-    let e = c.nodes.ensures in
-    record {
-      small = t.dimension.1;
-      long = t.sized;
-      nodes = e;
-      counted = c.measure-found.ensures.count ∙ ap (λ (k : ℕ). length (having k 0 (node_bit c.args.faults.now))) e;
-    }
+sized : (c : After-put_addresses-count) → Sized c.args.n c.args.faults.now c.nodes-size.result c.put_addresses-count.result
+sized c = sized_by (table_accepted _ _ _ _ (sym c.table_refusal.ensures ∙ c.in_ok-table_refusal.was)) c.nodes-size.ensures c.put_addresses-count.ensures.count
 
 pub returns-in_err-table_refusal : goal.returns-in_err-table_refusal
 returns-in_err-table_refusal c =
@@ -37,62 +32,88 @@ returns-in_err-table_refusal c =
       buffer = buffer_passed a.n a.faults.now w a.out.now e;
     }
 
-pub nodes-requires : goal.nodes-requires
-nodes-requires c = omega (arith, (table c).dimension.1)
+pub nodes-size-requires : goal.nodes-size-requires
+nodes-size-requires c = omega (arith, (table c).dimension.1)
 
-pub measure-found-requires : goal.measure-found-requires
-measure-found-requires c = let t = table (goal.at.measure-found-requires c).In_ok-table_refusal in nodes_fit t.dimension.1 t.sized c.nodes.ensures
+fit : (c : After-nodes-size) → (c.nodes-size.result ≤ 4096) × (c.nodes-size.result ≤ 8 * length c.args.faults.now)
+fit c = let t = table_accepted _ _ _ _ (sym c.table_refusal.ensures ∙ c.in_ok-table_refusal.was) in nodes_fit t.dimension.1 t.sized c.nodes-size.ensures
 
-pub overflow_add-head : goal.overflow_add-head
-overflow_add-head c =
-    omega (arith, c.groups_len.ensures, c.groups_len-2.ensures, few_groups c.args.n, few_groups c.measure-found.result.count)
+pub put_addresses-count-requires : goal.put_addresses-count-requires
+put_addresses-count-requires c =
+    let f = fit (goal.at.put_addresses-count-requires c).After-nodes-size in
+    record { size_bound = f; room = omega (arith, few_bytes (node_bit c.args.faults.now) c.nodes-size.result, f.0) }
 
-pub overflow_add-length : goal.overflow_add-length
-overflow_add-length c =
-    omega (
-      arith,
-      c.measure-found.ensures.bytes,
-      addresses_few (sized (goal.at.overflow_add-length c).After-measure-found),
-      c.groups_len.ensures,
-      c.groups_len-2.ensures,
-      few_groups c.args.n,
-      few_groups c.measure-found.result.count,
+pub put_number-requires : goal.put_number-requires
+put_number-requires c =
+    let s = sized (goal.at.put_number-requires c).After-put_addresses-count in
+    (omega (arith, s.small), omega (arith, few_groups c.args.n, addresses_few s, c.put_addresses-count.ensures.bytes.counted))
+
+pub put_number-requires-2 : goal.put_number-requires-2
+put_number-requires-2 c =
+    let s = sized (goal.at.put_number-requires-2 c).After-put_addresses-count in (
+      omega (arith, count_few s),
+      omega (
+        arith,
+        few_groups c.args.n,
+        few_groups c.put_addresses-count.result,
+        addresses_few s,
+        c.put_addresses-count.ensures.bytes.counted,
+        c.put_number.ensures.counted,
+      ),
     )
+
+-- what was counted is the notice's length
+long : (c : After-put_number-2) → c.put_number-2.new.sink.bytes ≡ length (notice_bytes c.args.n c.args.faults.now)
+long c =
+    let t = table_accepted _ _ _ _ (sym c.table_refusal.ensures ∙ c.in_ok-table_refusal.was) in
+    counted (sized_by t c.nodes-size.ensures c.put_addresses-count.ensures.count) c.put_addresses-count.ensures.bytes c.put_number.ensures c.put_number-2.ensures
 
 pub returns-then-out-length : goal.returns-then-out-length
 returns-then-out-length c =
+    let p = goal.at.returns-then-out-length c in
     let a = c.args in
     let w = notice_bytes a.n a.faults.now in
-    let long = notice_length (sized (goal.at.returns-then-out-length c).After-measure-found) in
-    let k =
-    no_room a.n a.faults.now w (length a.out.now) (table (goal.at.returns-then-out-length c).In_ok-table_refusal)
-    (omega (arith, c.groups_len.ensures, c.groups_len-2.ensures, c.measure-found.ensures.bytes, long, c.if-out-length.true)) in
+    let k = no_room a.n a.faults.now w (length a.out.now) (table p.In_ok-table_refusal) (omega (arith, long p.After-put_number-2, c.if-out-length.true)) in
     record {
       answer = wrote_refused a.n a.faults.now w (length a.out.now) k (λ z. omega arith);
       buffer = buffer_kept a.n a.faults.now w a.out.now k (λ z. omega arith);
     }
 
-pub put_notice-requires : goal.put_notice-requires
-put_notice-requires c =
-    let m = sized (goal.at.put_notice-requires c).After-measure-found in
+-- so the notice has room
+room : (c : Else-out-length) {k : ℕ} → c.put_number-2.new.sink.bytes ≡ k → k ≤ length c.args.out.now
+room c l = omega (arith, l, c.if-out-length.false)
+
+pub put_number-requires-3 : goal.put_number-requires-3
+put_number-requires-3 c =
+    let p = goal.at.put_number-requires-3 c in
+    let s = sized p.After-put_addresses-count in
+    (omega (arith, s.small), first_room s c.args.out.now (room p.Else-out-length (long p.After-put_number-2)))
+
+pub put_number-requires-4 : goal.put_number-requires-4
+put_number-requires-4 c =
+    let p = goal.at.put_number-requires-4 c in
+    let s = sized p.After-put_addresses-count in
+    (omega (arith, count_few s), second_room s c.args.out.now (room p.Else-out-length (long p.After-put_number-2)) c.put_number-3.ensures.0)
+
+pub put_addresses-requires : goal.put_addresses-requires
+put_addresses-requires c =
+    let p = goal.at.put_addresses-requires c in
     record {
-      n_bound = (m.small, m.long);
-      count_value = m.counted;
-      faults_in_bounds =
-          omega (arith, c.groups_len.ensures, c.groups_len-2.ensures, c.measure-found.ensures.bytes, notice_length m, c.if-out-length.false);
+      size_bound = fit p.After-nodes-size;
+      room = third_room (sized p.After-put_addresses-count) c.args.out.now (room p.Else-out-length (long p.After-put_number-2)) c.put_number-3.ensures.0 c.put_number-4.ensures.0;
     }
 
 pub returns : goal.returns
 returns c =
     let a = c.args in
     let w = notice_bytes a.n a.faults.now in
-    let m = sized (goal.at.returns c).After-measure-found in
-    let long : c.groups_len.result + c.groups_len-2.result + c.measure-found.result.bytes ≡ length w =
-    omega (arith, c.groups_len.ensures, c.groups_len-2.ensures, c.measure-found.ensures.bytes, notice_length m) in
-    let k =
-    has_room a.n a.faults.now w (length a.out.now) (table (goal.at.returns c).In_ok-table_refusal)
-    (omega (arith, long, c.if-out-length.false)) in
+    let p = goal.at.returns c in
+    let k = has_room a.n a.faults.now w (length a.out.now) (table p.In_ok-table_refusal) (room p.Else-out-length (long p.After-put_number-2)) in
+    let all : c.put_addresses.new.sink.out.now ≡ over w a.out.now =
+    all_written (sized p.After-put_addresses-count) a.out.now (room p.Else-out-length (long p.After-put_number-2)) c.put_number-3.ensures.0 c.put_number-4.ensures.0 c.put_addresses.ensures.bytes.0 in
+    let whole : c.put_addresses.new.sink.out.now ≡ after_bytes a.n a.faults.now w a.out.now = all ∙ buffer_written a.n a.faults.now w a.out.now k in
+    let same = sym (c.put_addresses.ensures.bytes.1 ∙ c.put_number-4.ensures.1 ∙ c.put_number-3.ensures.1) in
     record {
-      answer = ap Ok long ∙ wrote_length a.n a.faults.now w (length a.out.now) k;
-      buffer = c.put_notice.ensures ∙ buffer_written a.n a.faults.now w a.out.now k;
+      answer = ap Ok (long p.After-put_number-2) ∙ wrote_length a.n a.faults.now w (length a.out.now) k;
+      buffer = search rules;
     }
