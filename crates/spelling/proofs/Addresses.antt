@@ -9,7 +9,8 @@ use lib.ListN.{length, drop, length-append}
 use borrow.Author.Tests.{lt-leb}
 use Rattle.cube.specs.Refusal.{first}
 use Rattle.groups.specs.Number.{groups_of, number_at}
-use Rattle.groups.specs.declared.Number.TheVariants.{Value}
+use Rattle.std.specs.Prelude.{Ok}
+use Rattle.groups.proofs.Groups.{same_value}
 use Rattle.notice.specs.Tests.{address_tests}
 use Rattle.notice.specs.Addresses.{addresses_end, addresses_at, rising}
 use Rattle.notice.proofs.Addresses.{first_address}
@@ -20,7 +21,7 @@ use Rattle.spelling.specs.Laws.{Bytes}
 use Rattle.spelling.proofs.Numbers.{number_here, behind_here, number_spelled}
 
 -- one address, and those behind it
-module _ (m : ℕ) (s : List ℕ) (at base v next : ℕ) (number : number_at s at ≡ Value v next) where
+module _ (m : ℕ) (s : List ℕ) (at base v next : ℕ) (number : number_at s at ≡ Ok (v, next)) where
   then_at : addresses_at (suc m) s at base ≡ (base + v) ∷ addresses_at m s next (base + v + 1)
   unfolding addresses_at
   then_at = rw number
@@ -32,13 +33,13 @@ module _ (m : ℕ) (s : List ℕ) (at base v next : ℕ) (number : number_at s a
 -- the addresses l are read at a place
 pub record ReadHere (l s : List ℕ) (at base size : ℕ) : Type 0 where
   pub last : ℕ
-  pub ends : addresses_end (length l) s at base size ≡ Value last (at + length (address_bytes base l))
+  pub ends : addresses_end (length l) s at base size ≡ Ok (last, at + length (address_bytes base l))
   pub are : addresses_at (length l) s at base ≡ l
 
 pub read_here : (l s rest : List ℕ) (at base size : ℕ) → size ≤ 4096 → rising base size l ≡ true → drop at s ≡ address_bytes base l ++ rest
     → ReadHere l s at base size
 unfolding addresses_end addresses_at address_bytes
-read_here [] s rest at base size few up here = let z : at ≡ at + 0 = omega arith in record { last = base; ends = ap (Value base) z; are = refl }
+read_here [] s rest at base size few up here = let z : at ≡ at + 0 = omega arith in record { last = base; ends = ap (λ (k : ℕ). Ok (base, k)) z; are = refl }
 read_here (a ∷ l) s rest at base size few up here =
     let r = rises base size a l up in
     let low = r.0 in
@@ -51,15 +52,15 @@ read_here (a ∷ l) s rest at base size few up here =
     let w : next + length (address_bytes (a + 1) l) ≡ at + length (groups_of (a - base) ++ address_bytes (a + 1) l) = simp length-append (omega arith) in
     record {
       last = more.last;
-      ends = then_end (length l) s at base (a - base) next number size (omega arith) ∙ rw z (more.ends ∙ ap (Value more.last) w);
+      ends = then_end (length l) s at base (a - base) next number size (omega arith) ∙ rw z (more.ends ∙ ap (λ (k : ℕ). Ok (more.last, k)) w);
       are = then_at (length l) s at base (a - base) next number ∙ rw (z, more.are);
     }
 
 -- addresses that were read
-pub addresses_spelled : (m : ℕ) (s : List ℕ) (at base size last end : ℕ) → Bytes s → addresses_end m s at base size ≡ Value last end
+pub addresses_spelled : (m : ℕ) (s : List ℕ) (at base size last end : ℕ) → Bytes s → addresses_end m s at base size ≡ Ok (last, end)
     → drop at s ≡ address_bytes base (addresses_at m s at base) ++ drop end s
 unfolding addresses_end addresses_at address_bytes
-addresses_spelled zero s at base size last end bytes e = let z : at ≡ end = cc in ap (λ (k : ℕ). drop k s) z
+addresses_spelled zero s at base size last end bytes e = let z : at ≡ end = (same_value e).1 in ap (λ (k : ℕ). drop k s) z
 addresses_spelled (suc m) s at base size last end bytes e =
     let f = first_address m s at base size last end e in
     let z : base + f.v - base ≡ f.v = omega arith in

@@ -5,8 +5,7 @@ use mathlib.Core.List.{List, []}
 use Prim.Native.Nat.{ℕ, ◌+◌, ◌^◌, ◌≤◌}
 use native.Mathlib.Omega.{arith}
 use lib.ListN.{length, take}
-use Rattle.notice.specs.Notice.{noticed, table_after}
-use Rattle.notice.specs.declared.Noticed.TheVariants.{Notice}
+use Rattle.notice.specs.Notice.{a_notice, noticed, table_after}
 use Rattle.notice.proofs.Laws.{notice_laws}
 use Rattle.spelling.specs.Spelled.{notice_bytes}
 use Rattle.spelling.specs.Laws.{Bytes, IsTable, SpellingLaws}
@@ -14,8 +13,8 @@ use Rattle.spelling.proofs.Bytes.{notice-bytes}
 use Rattle.spelling.proofs.Notice.{reads_back, is_table, spelled, table_bytes}
 use Rattle.spelling.proofs.Worked.{listing, none, far, longest}
 
-one_notice : (s s' before before' : List ℕ) (n m m' taken taken' : ℕ) → Bytes s → Bytes s' → noticed s before ≡ Notice n m taken
-    → noticed s' before' ≡ Notice n m' taken' → table_after s before ≡ table_after s' before' → take taken s ≡ take taken' s'
+one_notice : (s s' before before' : List ℕ) (n m m' taken taken' : ℕ) → Bytes s → Bytes s' → noticed s before ≡ a_notice n m taken
+    → noticed s' before' ≡ a_notice n m' taken' → table_after s before ≡ table_after s' before' → take taken s ≡ take taken' s'
 one_notice s s' before before' n m m' taken taken' b b' e e' same =
     sym (spelled s before n m taken e b) ∙ ap (notice_bytes n) same ∙ spelled s' before' n m' taken' e' b'
 

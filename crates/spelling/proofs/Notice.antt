@@ -6,18 +6,17 @@ use Prim.Native.Nat.{ℕ, ◌+◌, ◌-◌, ◌^◌, ◌≤◌}
 use native.Mathlib.Omega.{arith}
 use lib.ListN.{length, take, drop, replicate, length-append, length-drop}
 use lib.Seq.{drop-drop, get_or-drop, take_all, take_at}
-use borrow.Author.Tests.{le-leb}
+use borrow.Author.Tests.{le-leb, le-ltb}
 use Rattle.cube.specs.Count.{count}
 use Rattle.cube.specs.Refusal.{first}
 use Rattle.cube.specs.Tables.{is_dimension, node_bit}
 use Rattle.cube.proofs.Count.{count_bound}
 use Rattle.cube.proofs.Tables.{nodes_few}
-use Rattle.groups.specs.Number.{groups_of, number_at}
-use Rattle.groups.specs.declared.Number.TheVariants as number
-use Rattle.notice.specs.Tests.{dimension_tests}
+use Rattle.groups.specs.Number.{groups_of}
+use Rattle.std.specs.Prelude.{Ok}
+use Rattle.notice.specs.Tests.{count_tests, dimension_tests}
 use Rattle.notice.specs.Addresses.{with_bits}
-use Rattle.notice.specs.Notice.{dimension_at, notice_of, noticed, addresses_of, table_after}
-use Rattle.notice.specs.declared.Noticed.TheVariants.{Notice}
+use Rattle.notice.specs.Notice.{a_notice, count_at, dimension_at, notice_of, noticed, addresses_of, table_after}
 use Rattle.notice.proofs.Agree.{same_accepted}
 use Rattle.notice.proofs.Cases.{tested_passes}
 use Rattle.notice.proofs.Laws.{notice_laws}
@@ -77,14 +76,16 @@ module _ (n : ℕ) (faults behind : List ℕ) (is : IsTable n faults) where
   small : 2 ^ n ≤ 4096
   small = nodes_few n is.dimension.1
 
-  dimension_read : number.Value n at ≡ dimension_at s
+  dimension_read : Ok (n, at) ≡ dimension_at s
   unfolding dimension_at first is_dimension
   dimension_read =
       let d = is.dimension in
       tested_passes dimension_tests 0 (sym (number_here s 0 n _ from_dimension (omega (arith, d.1)))) (rw (le-leb 1 n d.0, le-leb n 12 d.1))
 
-  count_read : number.Value (length nodes) start ≡ number_at s at
-  count_read = sym (number_here s at (length nodes) _ from_count (omega (arith, few, small)))
+  count_read : Ok (length nodes, start) ≡ count_at n s at
+  unfolding count_at first
+  count_read =
+      tested_passes (count_tests n) at (sym (number_here s at (length nodes) _ from_count (omega (arith, few, small)))) (rw (le-ltb (2 ^ n) (length nodes) few))
 
   addresses_read : ReadHere nodes part 0 0 (2 ^ n)
   addresses_read = read_here nodes part behind 0 0 (2 ^ n) small (nodes_rise n faults is) from_addresses
@@ -93,9 +94,9 @@ module _ (n : ℕ) (faults behind : List ℕ) (is : IsTable n faults) where
   long = omega (arith, notice_length n faults)
 
   outcome : (before : List ℕ) → length before ≡ length faults
-      → Outcome s before (Notice n (count (2 ^ n) (node_bit faults)) (length (notice_bytes n faults))) (with_bits (replicate (length faults) 0) nodes)
+      → Outcome s before (a_notice n (count (2 ^ n) (node_bit faults)) (length (notice_bytes n faults))) (with_bits (replicate (length faults) 0) nodes)
   outcome before same =
-      let found = rest_good n s at count_read refl few (sym addresses_read.ends) in
+      let found = rest_good n s at count_read refl (sym addresses_read.ends) in
       rw (← total, ← long, ← same)
       (outcome_notice s dimension_read found before (same ∙ is.sized) refl (ap (with_bits (replicate (length before) 0)) (sym addresses_read.are)))
 
@@ -112,7 +113,7 @@ before_part : (a s : List ℕ) (k : ℕ) → k ≤ length s → s ≡ a ++ drop 
 before_part a s k h e =
     sym (ap (take k) e ∙ take_at a (drop k s) k (omega (arith, ap length e, length-append a (drop k s), length-drop k s)))
 
-module _ (s before : List ℕ) (n m taken : ℕ) (e : noticed s before ≡ Notice n m taken) where
+module _ (s before : List ℕ) (n m taken : ℕ) (e : noticed s before ≡ a_notice n m taken) where
   nodes_are : faulty_nodes n (table_after s before) ≡ addresses_of s
   nodes_are =
       having_is (2 ^ n) (node_bit (table_after s before)) (2 ^ n) 0 (addresses_of s) (omega arith) (notice_laws.accepted s before n m taken e).rises

@@ -11,17 +11,16 @@ use lib.ListN.{length, get_or, drop}
 use lib.Seq.{drop-append_seam, drop-cons, drop-drop}
 use borrow.Author.Tests.{leb-false, ltb-true, ltb-false, lt-ltb, le-ltb, eqb-false}
 use Rattle.cube.proofs.Bools.{by_cases, or_false}
-use Rattle.groups.specs.Number.{further, groups_of, number_at, two_groups}
-use Rattle.groups.specs.declared.Number.{Number}
-use Rattle.groups.specs.declared.Number.TheVariants.{Value}
-use Rattle.groups.proofs.Groups.{no_value}
+use Rattle.std.specs.Prelude.{Ok}
+use Rattle.groups.specs.Number.{Number, further, groups_of, number_at, two_groups}
+use Rattle.groups.proofs.Groups.{no_value, same_value}
 use Rattle.groups.proofs.Laws.{number_laws}
 use Rattle.spelling.specs.Laws.{Bytes}
 
 -- ---- a number that stands at a place, whatever is behind it
 
 module _ (s : List ℕ) (at v : ℕ) (rest : List ℕ) (here : drop at s ≡ groups_of v ++ rest) where
-  pub number_here : v < 16384 → number_at s at ≡ Value v (at + length (groups_of v))
+  pub number_here : v < 16384 → number_at s at ≡ Ok (v, at + length (groups_of v))
   unfolding further
   number_here h =
       let z : at ≡ at + 0 = omega arith in
@@ -52,24 +51,24 @@ next_byte s at h = rw add-one (drop-cons s at 0 h)
 -- its groups are the bytes from its place to the next
 module _ (s : List ℕ) (at v next : ℕ) (bytes : Bytes s) where
   abbrev Spelled : Number → Type 0
-  Spelled x = x ≡ Value v next → drop at s ≡ groups_of v ++ drop next s
+  Spelled x = x ≡ Ok (v, next) → drop at s ≡ groups_of v ++ drop next s
 
-  single : at < length s → get_or s at 0 < 128 → Spelled (Value (get_or s at 0) (at + 1))
+  single : at < length s → get_or s at 0 < 128 → Spelled (Ok (get_or s at 0, at + 1))
   single h l e =
-      let p : get_or s at 0 ≡ v = cc in
-      let q : at + 1 ≡ next = cc in
+      let p = (same_value e).0 in
+      let q = (same_value e).1 in
       rw (← p, ← q, one_group (get_or s at 0) l) (next_byte s at h)
 
   double : at + 1 < length s → 128 ≤ get_or s at 0 → 1 ≤ get_or s (at + 1) 0
-      → Spelled (Value (get_or s at 0 % 128 + get_or s (at + 1) 0 * 128) (at + 2))
+      → Spelled (Ok (get_or s at 0 % 128 + get_or s (at + 1) 0 * 128, at + 2))
   double h l more e =
-      let p : get_or s at 0 % 128 + get_or s (at + 1) 0 * 128 ≡ v = cc in
-      let w : at + 2 ≡ next = cc in
+      let p = (same_value e).0 in
+      let w = (same_value e).1 in
       let q : at + 1 + 1 ≡ next = omega arith in
       rw (← p, ← q, two-groups (get_or s at 0) (get_or s (at + 1) 0) l (bytes at) more)
       (next_byte s at (omega arith) ∙ ap (λ (t : List ℕ). get_or s at 0 ∷ t) (next_byte s (at + 1) h))
 
-  pub number_spelled : number_at s at ≡ Value v next → drop at s ≡ groups_of v ++ drop next s
+  pub number_spelled : number_at s at ≡ Ok (v, next) → drop at s ≡ groups_of v ++ drop next s
   unfolding number_at two_groups
   number_spelled =
       by_cases Spelled (leb (length s) at) (λ _ e. absurd (no_value e))

@@ -4,8 +4,7 @@ use Rattle.std.specs.Prelude.{List, [], ◌∷◌, ◌++◌, false, ◌≡◌, �
 use Rattle.cube.specs.Count.{count}
 use Rattle.cube.specs.Tables.{node_bit, table_len, unused_set}
 use Rattle.notice.specs.Addresses.{with_bit}
-use Rattle.notice.specs.Notice.{noticed, table_after}
-use Rattle.notice.specs.declared.Noticed.TheVariants.{Notice}
+use Rattle.notice.specs.Notice.{a_notice, noticed, table_after}
 use Rattle.spelling.specs.Spelled.{notice_bytes}
 
 -- a list of numbers that are bytes, as what a caller lends always is
@@ -21,7 +20,7 @@ pub record IsTable (n : ℕ) (faults : List ℕ) : Type 0 where
 -- bytes s that begin with the notice of a table, of `len` bytes, are read over any table of its length
 pub record ReadsBack (n : ℕ) (faults s : List ℕ) (len : ℕ) : Type 0 where
   -- as the dimension, the count and the length,
-  pub answer : (before : List ℕ) → length before ≡ length faults → noticed s before ≡ Notice n (count (2 ^ n) (node_bit faults)) len
+  pub answer : (before : List ℕ) → length before ≡ length faults → noticed s before ≡ a_notice n (count (2 ^ n) (node_bit faults)) len
   -- and as the table
   pub table : (before : List ℕ) → length before ≡ length faults → Bytes faults → table_after s before ≡ faults
 
@@ -29,15 +28,15 @@ pub record SpellingLaws : Type 0 where
   -- "reading what was written, whatever stands behind it, gives back the dimension, the count and the table, and takes as many bytes as the length"
   pub reads_back : (n : ℕ) (faults rest : List ℕ) → IsTable n faults → ReadsBack n faults (notice_bytes n faults ++ rest) (length (notice_bytes n faults))
   -- "writing what an accepted notice gave yields the bytes that it took"
-  pub is_table : (s before : List ℕ) (n m taken : ℕ) → noticed s before ≡ Notice n m taken → IsTable n (table_after s before)
-  pub table_bytes : (s before : List ℕ) (n m taken : ℕ) → noticed s before ≡ Notice n m taken → Bytes (table_after s before)
-  pub spelled : (s before : List ℕ) (n m taken : ℕ) → Bytes s → noticed s before ≡ Notice n m taken → notice_bytes n (table_after s before) ≡ take taken s
+  pub is_table : (s before : List ℕ) (n m taken : ℕ) → noticed s before ≡ a_notice n m taken → IsTable n (table_after s before)
+  pub table_bytes : (s before : List ℕ) (n m taken : ℕ) → noticed s before ≡ a_notice n m taken → Bytes (table_after s before)
+  pub spelled : (s before : List ℕ) (n m taken : ℕ) → Bytes s → noticed s before ≡ a_notice n m taken → notice_bytes n (table_after s before) ≡ take taken s
   -- a notice is of bytes, as the table that was read is: so what is asked of either can be met
   pub notice-bytes : (n : ℕ) (faults : List ℕ) → IsTable n faults → Bytes (notice_bytes n faults)
   -- "so each table has one notice"
   pub one_notice :
       (s s' before before' : List ℕ) (n m m' taken taken' : ℕ) → Bytes s → Bytes s'
-      → noticed s before ≡ Notice n m taken → noticed s' before' ≡ Notice n m' taken' → table_after s before ≡ table_after s' before'
+      → noticed s before ≡ a_notice n m taken → noticed s' before' ≡ a_notice n m' taken' → table_after s before ≡ table_after s' before'
       → take taken s ≡ take taken' s'
   -- "it has at most 2^n + 3 bytes, 4,099 at n = 12"
   pub short : (n : ℕ) (faults : List ℕ) → IsTable n faults → length (notice_bytes n faults) ≤ 2 ^ n + 3
