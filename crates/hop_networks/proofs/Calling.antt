@@ -1,29 +1,28 @@
 -- A call of FORWARD as the code makes it, block by block: a block looks at one set of dimensions, as the bits of a number; one that finds nothing is passed,
 -- and the first that finds a dimension makes its hop or ends the call.
 use mathlib.Core.Path.{◌≡◌, refl, sym, ap, ◌∙◌}
-use mathlib.Core.Logic.{◌⊎◌, inl, inr, ⊎_elim}
+use mathlib.Core.Logic.{⊎_elim}
 use mathlib.Core.Bool.{Bool, true, false, beq, cond, not, xor, ◌&&◌}
 use Prim.Native.Nat.{ℕ, suc, ◌-◌, ◌^◌, ◌≤◌, ◌<◌}
 use native.Mathlib.Omega.{arith}
 use lib.Bits.{bit_and, bit_xor, and_le_l, xor_lt}
 use lib.Dec.{leb, ltb}
 use lib.Pow.{ones_lt}
-use borrow.Author.Tests.{lt-ltb, le-ltb, ltb-true}
+use borrow.Author.Tests.{lt-ltb, le-ltb}
 use Rattle.std.specs.Prelude.{Some, None}
 use Rattle.std.specs.Bool.{then_some}
 use Rattle.std.proofs.lemmas.Bool.{cases_lt}
-use Rattle.std.proofs.lemmas.Option.{cond_some, none-some}
 use Rattle.cube.specs.Count.{least}
 use Rattle.cube.specs.Cube.{apart, bit, dist}
 use Rattle.cube.proofs.Bools.{beq_no, beq_yes, by_cases, xor_not}
 use Rattle.cube.proofs.Count.{below_suc}
 use Rattle.cube.proofs.Cube.{bit-and, bit-xor}
 use Rattle.cube.proofs.Search.{least_is, least_none, least_same, the_least}
-use Rattle.hop.specs.Helpers.{in_set}
-use Rattle.hop.proofs.Sets.{full}
+use Rattle.hop.specs.Helpers.{found, in_set}
+use Rattle.hop.proofs.Sets.{found_none, full, some_found}
 use Rattle.blocks.specs.Blocks.{Block, block_at, block_of, call, eager, first_block, fits, lowest, may_fourth, may_sixth, no_block, on, turning}
 use Rattle.blocks.specs.Phase.{down, turns}
-use Rattle.hop_networks.specs.Helpers.{found, on_set, side_set}
+use Rattle.hop_networks.specs.Helpers.{on_set, side_set}
 
 -- ---- the sets
 
@@ -87,17 +86,6 @@ module _ (n c d p : ℕ) (side : Bool) where
 
 -- ---- the blocks
 
--- a dimension that was looked for
-pub found_some : (n x i : ℕ) → Some i ≡ found n x → (x < n) × (x ≡ i)
-found_some n x i e = let r = cond_some (ltb x n) x i (sym e) in (ltb-true x n r.0, r.1)
-
-pub found_none : (n x : ℕ) → None ≡ found n x → n ≤ x
-found_none n x e = go (cases_lt x n)
-  where
-    go : (x < n) ⊎ (n ≤ x) → n ≤ x
-    go (inl l) = absurd (none-some x (rw (lt-ltb x n l) at e))
-    go (inr l) = l
-
 module _ (n c d p own : ℕ) (near : ℕ → ℕ) (side : Bool) where
   abbrev low : ℕ → ℕ
   low = lowest n c d p own near side
@@ -157,7 +145,7 @@ module _ (n c d p own : ℕ) (near : ℕ → ℕ) (side : Bool) where
   hops s h q l m = rw (first_at s (omega arith) q (λ _. l), m)
 
   pub take : (s i : ℕ) → s < no_block → Past s → Some i ≡ found n (low s) → (row_at s).may ≡ true → Some i ≡ found n called
-  take s i h q e m = e ∙ ap (found n) (sym (hops s h q (found_some n (low s) i e).0 m))
+  take s i h q e m = e ∙ ap (found n) (sym (hops s h q (some_found n i (low s) e).1 m))
 
   -- or ends the call
   stop : (s : ℕ) → s < no_block → Past s → low s < n → (row_at s).may ≡ false → called ≡ n
@@ -170,7 +158,7 @@ module _ (n c d p own : ℕ) (near : ℕ → ℕ) (side : Bool) where
   none q = rw (first_at no_block (omega arith) q (λ l. absurd (omega arith)))
 
   nothing : called ≡ n → None ≡ found n called
-  nothing e = rw (e, le-ltb n n (omega arith))
+  nothing e = found_none n called (sym e)
 
   low_within : (s : ℕ) → low s ≤ n
   unfolding lowest
@@ -182,7 +170,7 @@ module _ (n c d p own : ℕ) (near : ℕ → ℕ) (side : Bool) where
     where
       go : (b : Bool) → may_fourth (dist c d) p ≡ b → then_some b i ≡ found n called
       go true m = take 3 i (omega arith) q e m
-      go false m = nothing (stop 3 (omega arith) q (found_some n (low 3) i e).0 m)
+      go false m = nothing (stop 3 (omega arith) q (some_found n i (low 3) e).1 m)
 
   -- four blocks find nothing, and no others are tried
   pub shy : Past 4 → eager own (dist c d) ≡ false → None ≡ found n called

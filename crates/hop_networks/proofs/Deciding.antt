@@ -10,14 +10,15 @@ use Rattle.cube.specs.declared.refusals.Refusal.{Refusal}
 use Rattle.cube.specs.declared.refusals.Refusal.TheVariants.{Network}
 use Rattle.cube.specs.Cube.{dist}
 use Rattle.cube.proofs.Cube.{dist_self, dist_zero}
+use Rattle.hop.specs.Helpers.{found}
+use Rattle.hop.proofs.Sets.{none_found, some_found}
 use Rattle.hop.specs.declared.Decision.{Decision}
 use Rattle.hop.specs.declared.Decision.TheVariants.{Deliver, Hop, Halted}
 use Rattle.blocks.specs.Blocks.{decide_in, pick}
 use Rattle.blocks.specs.Board.{beyond, numbered}
 use Rattle.blocks.specs.Phase.{after, channel_number}
 use Rattle.blocks.proofs.Picks.{decide_same}
-use Rattle.hop_networks.specs.Helpers.{decided_on, found}
-use Rattle.hop_networks.proofs.Calling.{found_none, found_some}
+use Rattle.hop_networks.specs.Helpers.{decided_on}
 
 module _ (n N c d p own : ℕ) (near : ℕ → ℕ) where
   abbrev decision : Decision
@@ -36,7 +37,7 @@ module _ (n N c d p own : ℕ) (near : ℕ → ℕ) where
 
     pub halts : None ≡ found n (pick n c d p own near) → decision ≡ Halted
     unfolding decide_in
-    halts e = rw (apart, le-ltb (pick n c d p own near) n (found_none n (pick n c d p own near) e))
+    halts e = rw (apart, le-ltb (pick n c d p own near) n (none_found n (pick n c d p own near) e))
 
     pub halted : None ≡ found n (pick n c d p own near) → Ok Halted ≡ answer
     unfolding decided_on beyond numbered
@@ -45,7 +46,7 @@ module _ (n N c d p own : ℕ) (near : ℕ → ℕ) where
     module _ (i : ℕ) (e : Some i ≡ found n (pick n c d p own near)) where
       pub hops : decision ≡ Hop i
       unfolding decide_in
-      hops = let f = found_some n (pick n c d p own near) i e in rw (apart, lt-ltb (pick n c d p own near) n f.0, f.1)
+      hops = let f = some_found n i (pick n c d p own near) e in rw (apart, lt-ltb (pick n c d p own near) n f.1, ← f.0)
 
       module _ (q : ℕ) (eq : q ≡ after p c i) where
         pub refused : 2 * N ≤ q → Err Network ≡ answer

@@ -13,10 +13,11 @@ use Rattle.cube.specs.declared.refusals.Refusal.{Refusal}
 use Rattle.cube.specs.Tables.{label_in}
 use Rattle.cube.proofs.Contracts.{Says}
 use Rattle.jobs.specs.Jobs.{label_for}
+use Rattle.hop.specs.Helpers.{found}
 use Rattle.hop.specs.declared.Decision.{Decision}
 use Rattle.blocks.specs.Blocks as blocks
 use Rattle.blocks.specs.Phase as phases
-use Rattle.hop_networks.specs.Helpers.{board_refusal, found, list_refusal}
+use Rattle.hop_networks.specs.Helpers.{board_refusal, list_refusal}
 use Rattle.hop_networks.specs.Hopping.{hopped_in, is_board}
 use Rattle.hop_networks.specs.contracts.after as after-claims
 use Rattle.hop_networks.proofs.after.Reads as after-claims-reads

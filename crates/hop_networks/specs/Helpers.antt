@@ -1,6 +1,6 @@
 -- What the functions inside the crate answer; the walk by networks shares the refusals that need no label. No contract of a question cites these:
 -- proofs/Refusals.antt shows how the refusals of a hop are made of them, proofs/Calling.antt how the decision is.
-use Rattle.std.specs.Prelude.{Bool, true, false, cond, List, ◌∷◌, ◌++◌, ℕ, ◌-◌, ◌^◌, ltb, Option, Some, None, Result, Ok, Err}
+use Rattle.std.specs.Prelude.{Bool, true, false, cond, List, ◌∷◌, ◌++◌, ℕ, ◌-◌, ◌^◌, Result, Ok, Err}
 use Rattle.std.specs.Int.Bits.{bit_xor}
 use Rattle.cube.specs.Refusal.{Test, first, ◌⇒◌}
 use Rattle.cube.specs.declared.refusals.Refusal.{Refusal}
@@ -28,10 +28,7 @@ list_refusal n j a b m short = first (list_tests n j a b m short)
 
 -- ---- the decision
 
--- a dimension that was looked for, n where there is none
-abbrev pub found : (n i : ℕ) → Option ℕ
-found n i = cond (ltb i n) (Some i) None
-
+-- the side that a call of FORWARD looks at
 abbrev pub is_forward : Side → Bool
 is_forward Forward = true
 is_forward Spare = false

@@ -8,17 +8,14 @@ ghost use Rattle.blocks.specs.Phase as phases;
 ghost use Rattle.cube.specs.Cube.{flip};
 ghost use Rattle.cube.specs.Refused.{answered};
 ghost use Rattle.cube.specs.Tables.{label_in};
-ghost use Rattle.hop.specs.Helpers.{Placed};
-ghost use Rattle.hop_networks.specs.Helpers.{board_refusal, decided_on, found, is_forward, list_refusal, on_set, side_set};
+ghost use Rattle.hop.specs.Helpers.{Placed, found};
+ghost use Rattle.hop_networks.specs.Helpers.{board_refusal, decided_on, is_forward, list_refusal, on_set, side_set};
 ghost use Rattle.hop_networks.specs.Hopping.{hopped_in, is_board};
 ghost use Rattle.jobs.specs.Jobs.{label_for};
-ghost use Rattle.cube.specs.Count;
-ghost use Rattle.scans.specs.Scans;
-ghost use Rattle.hop.specs.Helpers;
 
 use cube::refusals::Refusal;
 use cube::{distance, is_dimension, nodes};
-use hop::{Decision, gather, near_refusal};
+use hop::{Decision, gather, last_hop, lowest, near_refusal};
 use jobs::{half, is_job, label_bytes};
 
 // Whether a board may have so many networks.
@@ -183,6 +180,7 @@ fn pick(n: usize, c: usize, d: usize, phase: usize, own: u8, near: &[u8; 12]) ->
 }
 
 // The decision at c on a board, with the number of its hop: network * 16 + dimension. 16 where the board lacks that network.
+#[tactic(auto, unfolding(hop::specs::Helpers::found))]
 fn decided(
     n: usize,
     networks: usize,
@@ -244,27 +242,4 @@ pub fn hop_networks(
     let high = gather(n, table, c, &mut near);
     near_refusal(c, d, own, high)?;
     decided(n, networks, c, d, 2 * network + down, own, &near)
-}
-
-// hop's searches, with what they find.
-fn lowest(n: usize, set: usize, near: &[u8; 12], top: u8) -> Option<usize>
-    requires { (n ≤ 12) × (set < 2 ^ n) }
-    ensures { result ≡ found n (Rattle.cube.specs.Count.least n (Rattle.hop.specs.Helpers.in_set set (λ i. get_or near.now i 0) top)) }
-{
-    let i = hop::lowest(n, set, near, top);
-    if i < n {
-        return Some(i);
-    }
-    None
-}
-
-fn last_hop(n: usize, c: usize, d: usize, near: &[u8; 12]) -> Option<usize>
-    requires { (n ≤ 12) × (c < 2 ^ n) × (d < 2 ^ n) × (c ≢ d) }
-    ensures { result ≡ found n (Rattle.scans.specs.Scans.lowest n c d 0 (λ i. get_or near.now i 0) 0) }
-{
-    let i = hop::last_hop(n, c, d, near);
-    if i < n {
-        return Some(i);
-    }
-    None
 }

@@ -26,8 +26,8 @@ use Rattle.blocks.specs.Course.{Place, phase, place, spot, turn}
 use Rattle.blocks.specs.Phase.{after, channel_number}
 use Rattle.blocks.proofs.Board.{ends_at, on_within, stop_ends}
 use Rattle.blocks.proofs.Rising.{place_suc}
-use Rattle.hop_networks.specs.Helpers.{found}
-use Rattle.hop_networks.proofs.Calling.{found_some}
+use Rattle.hop.specs.Helpers.{found}
+use Rattle.hop.proofs.Sets.{some_found}
 use Rattle.hop_networks.proofs.Deciding as deciding
 use Rattle.walk_networks.specs.Crossing.{ended_by}
 use Rattle.walk_networks.specs.declared.Crossed.TheVariants as crossed
@@ -103,7 +103,7 @@ module _ (n N : ℕ) (lab : ℕ → ℕ) (d s : ℕ) (hs : s < 2 ^ n) (some : 0 
           on_so_far = below_more _ k w.going goes_on
 
           below : i < n
-          below = let f = found_some n (pick n x d p (lab x) (λ j. lab (flip j x))) i e in omega (arith, f.0, f.1)
+          below = let f = some_found n i (pick n x d p (lab x) (λ j. lab (flip j x))) e in omega (arith, f.0, f.1)
 
           pub room : k < most_hops n N
           room = omega (arith, on_within n lab d s hs N some (k + 1) on_so_far)

@@ -38,6 +38,7 @@ impl Crossed {
 
 // The walk from s: how it ends, and in the front of list its hops, each network * 16 + dimension. It is refused where a hop needs a network that the board
 // lacks. No walk has more than 120 hops, 12 in each of ten phases.
+#[tactic(auto, unfolding(hop::specs::Helpers::found))]
 fn find(
     n: usize,
     networks: usize,

@@ -9,11 +9,12 @@ use Rattle.std.specs.Prelude.{Option, None}
 use Rattle.std.specs.Bool.{then_some}
 use Rattle.cube.specs.Count.{least}
 use Rattle.cube.specs.Cube.{dist}
-use Rattle.hop.specs.Helpers.{in_set}
-use Rattle.hop_networks.specs.Helpers.{found, is_forward, on_set, side_set}
+use Rattle.hop.specs.Helpers.{found, in_set}
+use Rattle.hop_networks.specs.Helpers.{is_forward, on_set, side_set}
 use Rattle.blocks.specs.Blocks.{block_at, block_of, eager, lowest, on, turning}
+use Rattle.hop.proofs.Sets.{none_found}
 use Rattle.hop_networks.proofs.Calling as calling
-use Rattle.hop_networks.proofs.Calling.{Past, found_none, last, last_not, on_block, onward, onward_lt, pass, past_none, shy, take, turned, turned_lt, turning_block}
+use Rattle.hop_networks.proofs.Calling.{Past, last, last_not, on_block, onward, onward_lt, pass, past_none, shy, take, turned, turned_lt, turning_block}
 use Rattle.hop_networks.proofs.call.Goals as goal
 use Rattle.hop_networks.proofs.call.Goals.{Else-not-eager, In_default-lowest-3, In_default-lowest-4}
 
@@ -44,18 +45,18 @@ module _ (n c d p own : ℕ) (near : ℕ → ℕ) (side : Bool) (set mask : ℕ)
   -- the first blocks passed, one after the other
   module _ (e1 : None ≡ found n (least n (in_set (bit_and set mask) near 0))) where
     past1 : Past n c d p own near side 1
-    past1 = pass n c d p own near side 0 (past_none n c d p own near side) (found_none _ _ (on-found _ 0 0 _ e1 refl))
+    past1 = pass n c d p own near side 0 (past_none n c d p own near side) (none_found _ _ (on-found _ 0 0 _ e1 refl))
 
     module _ (e2 : None ≡ found n (least n (in_set (bit_xor set (bit_and set mask)) near 0))) where
       past2 : Past n c d p own near side 2
-      past2 = pass n c d p own near side 1 past1 (found_none _ _ (turning-found _ 1 0 _ e2 refl))
+      past2 = pass n c d p own near side 1 past1 (none_found _ _ (turning-found _ 1 0 _ e2 refl))
 
       module _ (e3 : None ≡ found n (least n (in_set (bit_and set mask) near 1))) where
         past3 : Past n c d p own near side 3
-        past3 = pass n c d p own near side 2 past2 (found_none _ _ (on-found _ 2 1 _ e3 refl))
+        past3 = pass n c d p own near side 2 past2 (none_found _ _ (on-found _ 2 1 _ e3 refl))
 
         past4 : None ≡ found n (least n (in_set (bit_xor set (bit_and set mask)) near 1)) → Past n c d p own near side 4
-        past4 e4 = pass n c d p own near side 3 past3 (found_none _ _ (turning-found _ 3 1 _ e4 refl))
+        past4 e4 = pass n c d p own near side 3 past3 (none_found _ _ (turning-found _ 3 1 _ e4 refl))
 
 passed4 : (c : In_default-lowest-3) → let a = c.args in Past a.n a.c a.d a.phase a.own (λ i. get_or a.near.now i 0) (is_forward a.side) 4
 passed4 c =
@@ -71,7 +72,7 @@ passed5 : (c : In_default-lowest-4) → let a = c.args in
     → Past a.n a.c a.d a.phase a.own (λ i. get_or a.near.now i 0) (is_forward a.side) 5
 passed5 c t q =
     pass _ _ _ _ _ _ _ 4 q
-    (found_none _ _ (on-found _ _ _ _ _ _ _ _ _ c.set-set.ensures c.on_set.ensures _ 4 2 _ c.in_default-lowest-4.ensures (ap (λ (b : Bool). block_of on 2 b true) t)))
+    (none_found _ _ (on-found _ _ _ _ _ _ _ _ _ c.set-set.ensures c.on_set.ensures _ 4 2 _ c.in_default-lowest-4.ensures (ap (λ (b : Bool). block_of on 2 b true) t)))
 
 pub lowest-requires : goal.lowest-requires
 lowest-requires c =

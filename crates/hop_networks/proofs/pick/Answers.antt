@@ -10,11 +10,12 @@ use Rattle.std.proofs.Common.{rules}
 use Rattle.cube.proofs.Bools.{either}
 use Rattle.scans.specs.Scans.{forward, spare}
 use Rattle.blocks.specs.Blocks.{call, home, pick}
-use Rattle.hop_networks.specs.Helpers.{found}
+use Rattle.hop.specs.Helpers.{found}
 use Rattle.hop_networks.proofs.pick.Goals as goal
 
 -- the first of two, where an `or_else` looks for the second
 first_of : (n h i : ℕ) (r q : Option ℕ) {P : Type 0} → r ≡ found n h → MatchOption r P (λ x. q ≡ Some x) → (P → q ≡ found n i) → q ≡ found n (cond (ltb h n) h i)
+unfolding found
 first_of n h i r q {P} e m f =
     ⊎_elim (λ (t : ltb h n ≡ true). rw (t, t) (rw (e, t) at m)) (λ (t : ltb h n ≡ false). rw t (f (rw (e, t) at m))) (either (ltb h n))
 

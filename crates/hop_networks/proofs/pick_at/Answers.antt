@@ -3,9 +3,9 @@ use mathlib.Core.Path.{ap, ◌∙◌}
 use Prim.Native.Nat.{ℕ}
 use Rattle.cube.specs.Cube.{flip}
 use Rattle.cube.specs.Tables.{label_in}
+use Rattle.hop.specs.Helpers.{found}
 use Rattle.hop.proofs.Gathered.{near_at}
 use Rattle.blocks.proofs.Picks.{pick_same}
-use Rattle.hop_networks.specs.Helpers.{found}
 use Rattle.hop_networks.proofs.pick_at.Goals as goal
 
 pub returns : goal.returns
