@@ -9,6 +9,7 @@ use lib.Dec.{eqb}
 use borrow.Author.Tests.{eq-eqb, eqb-true, ne_eqb}
 use Rattle.cube.specs.Count.{count}
 use Rattle.cube.specs.Cube.{dist}
+use Rattle.cube.specs.declared.refusals.Refusal.{Refusal}
 use Rattle.cube.proofs.Bools.{by_cases, clash, either, or_false}
 use Rattle.cube.proofs.Count.{count_alone, count_none, count_pos}
 use Rattle.rule.specs.Cabinet.{Cabinet, out}
@@ -54,7 +55,7 @@ module _ (w : Walked) (l : ℕ) where
       go (inl a) _ = eqb-true k 3 a
       go (inr a) t = absurd (clash (rw a at t) refl)
 
-  pub refused_none : (k m : ℕ) → w.ending ≡ ending.Refused m → is_kind k w l ≡ false
+  pub refused_none : (k : ℕ) (m : Refusal) → w.ending ≡ ending.Refused m → is_kind k w l ≡ false
   unfolding is_kind
   refused_none k m e = rw e (by_cases (λ b. b ≡ false) (eqb k 3) (λ _. refl) (λ _. refl))
 
@@ -66,7 +67,7 @@ module _ (w : Walked) (l : ℕ) where
   just e h t only = omega (arith, count_pos 4 kind e h t, count_alone 4 kind e h (λ k _ d u. d (only k u)))
 
   one_kind : (x : Ending) → w.ending ≡ x → (w.ending ≡ ending.Delivered → (e : ℕ) × (e ≤ 2) × (w.hops ≡ l + 2 * e))
-      → ((k : ℕ) → w.ending ≡ ending.Refused k → ⊥) → count 4 kind ≡ 1
+      → ((r : Refusal) → w.ending ≡ ending.Refused r → ⊥) → count 4 kind ≡ 1
   one_kind ending.Delivered e even never =
       let (a, few, f) = even e in
       just a (omega arith) (is-delivered a (omega arith) e f) (λ k t. omega (arith, delivered_is k e t))

@@ -18,12 +18,11 @@ use Rattle.cube.proofs.Refusal.{first_stops}
 use Rattle.cube.proofs.Search.{least_same, none_some, some_same}
 use Rattle.jobs.proofs.Halves.{is-job}
 use Rattle.scans.specs.Scans.{first_scan, forward, lowest, no_scan, suits, takes}
-use Rattle.hop.specs.Helpers.{place_refusal}
+use Rattle.hop.specs.Helpers.{place_refusal, place_tests}
 use Rattle.hop.specs.Hop.{decide, hop, hop_refusal, hopped, node_tests}
 use Rattle.hop.proofs.Refusals.{placed}
-use Rattle.walk.specs.Walk.{last, refused, route, row_bytes, stops, walk_refusal, walked}
+use Rattle.walk.specs.Walk.{hops_tests, last, refused, route, row_bytes, stops, table_tests, walk_refusal, walked}
 use Rattle.walk.proofs.Local.{last_same, route_across, walk_same}
-use Rattle.walk.proofs.Refusals.{walk_misplaced}
 use Rattle.theorems.specs.Before.{
   AsBefore,
   first_scan_then,
@@ -125,11 +124,18 @@ module _ (n : ℕ) (lab : ℕ → ℕ) (none : NoFour lab) where
       unfolding walked
       inside_then = rw (walk_refusal_same, walk_same n (route n lab d) (route_across n lab d) s hs (route_then n lab d) (λ x _. hop_same x d))
 
+    -- a place that is refused is the whole answer
+    out_now : place_refusal n j s d (2 * m) wrong ≢ 0 → walked n j s d (2 * m) room lab ≡ refused (place_refusal n j s d (2 * m) wrong)
+    unfolding walked walk_refusal place_refusal
+    out_now e =
+        let places : List Test = place_tests n j s d (2 * m) wrong in
+        rw (first_stops places (table_tests n s d lab ++ hops_tests n s d lab) e, ne_eqb (first places) 0 e)
+
     walk_then : walked n j s d (2 * m) room lab ≡ walked_then n s d m room lab
     walk_then =
         elim (ℕ_discrete k 0) [
           | yes e ↦ inside_then (placed n j s d (2 * m) wrong e).first
-          | no e ↦ sym (walk_misplaced n j s d (2 * m) room lab k refl e) ∙ sym (out_then e)
+          | no e ↦ out_now e ∙ sym (out_then e)
         ]
       where
         k : ℕ

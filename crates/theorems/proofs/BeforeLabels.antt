@@ -3,7 +3,7 @@
 use mathlib.Core.Bool.{Bool, true, false}
 use mathlib.Core.List.{List}
 use mathlib.Core.Logic.{◌⊎◌, inl, inr, ⊎_elim, ◌≢◌}
-use mathlib.Core.Path.{◌≡◌, refl, sym, ap, fun_ext, ◌∙◌}
+use mathlib.Core.Path.{◌≡◌, sym, ap, fun_ext, ◌∙◌}
 use Prim.Native.Nat.{ℕ, ◌*◌, ◌^◌, ◌<◌}
 use native.Mathlib.Decide.{ℕ_discrete}
 use native.Mathlib.Omega.{arith}
@@ -22,7 +22,8 @@ use Rattle.rule.specs.Cabinet.{Cabinet, cabinet, exchanges_of, faulty, labels_of
 use Rattle.rule.specs.Rule.{exchanges, label, label_of}
 use Rattle.rule.proofs.Cabinet.{labels_length, plain_faulty, plain_out}
 use Rattle.labels.specs.Labelling.{label_refusal, labelled, labels_after}
-use Rattle.labels.proofs.Refusal.{buffer_sized, labels_written, says_refused}
+use Rattle.labels.proofs.Refusal as labelling
+use Rattle.labels.proofs.Refusal.{buffer_sized, labels_written}
 use Rattle.theorems.specs.Before.{label_tests_then, labelled_then, labels_after_then}
 use Rattle.theorems.specs.Words.{label_at}
 use Rattle.theorems.proofs.Demand2.{is-faulty, works}
@@ -93,7 +94,7 @@ module _ (n rule : ℕ) (faults : List ℕ) where
         refusal_is = sym (ap (label_refusal K j) e ∙ refusal_same m)
 
         kept : label_refusal K j (length before) ≢ 0 → labels_after K j before ≡ before
-        kept z = sym (says_refused K j before _ refl z).1
+        kept z = sym (labelling.kept K j before z)
 
         nodes_are : label_refusal K j (length before) ≡ 0 → m ≡ 2 ^ n
         nodes_are z = omega (arith, sym e ∙ buffer_sized K j before z)

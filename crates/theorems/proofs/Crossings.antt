@@ -8,7 +8,9 @@ use native.Mathlib.Omega.{arith}
 use lib.Dec.{ltb}
 use lib.ListN.{get_or, length}
 use borrow.Author.Tests.{eq-eqb, le-leb, le-ltb, lt-leb, ltb-false, ltb-true, ne_eqb}
+use Rattle.std.specs.Prelude.{Result, Ok}
 use Rattle.cube.specs.Refusal.{first}
+use Rattle.cube.specs.declared.refusals.Refusal.{Refusal}
 use Rattle.cube.specs.Tables.{highest}
 use Rattle.cube.proofs.Bools.{clash, either}
 use Rattle.cube.proofs.Search.{some_none}
@@ -66,7 +68,7 @@ module _ (n N j s d m : ℕ) (lab : ℕ → ℕ) (before : List ℕ) (ok : cross
   abbrev K : ℕ
   K = hops_on n N lab d s
 
-  abbrev x : Crossed
+  abbrev x : Result Crossed Refusal
   x = crossing n N j s d m (length before) lab
 
   abbrev list : List ℕ
@@ -83,8 +85,8 @@ module _ (n N j s d m : ℕ) (lab : ℕ → ℕ) (before : List ℕ) (ok : cross
 
   -- how it ends
   ends :
-      (DecidesIn n N j d m lab (along list s K) Deliver × (x ≡ crossed.Delivered K) × ((along list s K).node ≡ d))
-      ⊎ (DecidesIn n N j d m lab (along list s K) Halted × (x ≡ crossed.Halted K))
+      (DecidesIn n N j d m lab (along list s K) Deliver × (x ≡ Ok (crossed.Delivered K)) × ((along list s K).node ≡ d))
+      ⊎ (DecidesIn n N j d m lab (along list s K) Halted × (x ≡ Ok (crossed.Halted K)))
   unfolding ended_by numbered stops last_on
   ends = go (last_on n N lab d s) refl G.ends
     where
@@ -95,8 +97,8 @@ module _ (n N j s d m : ℕ) (lab : ℕ → ℕ) (before : List ℕ) (ok : cross
       answer = answer_is n N j s d m lab before ok
 
       go : (y : Decision) → last_on n N lab d s ≡ y → stops y ≡ true
-          → (DecidesIn n N j d m lab (along list s K) Deliver × (x ≡ crossed.Delivered K) × ((along list s K).node ≡ d))
-          ⊎ (DecidesIn n N j d m lab (along list s K) Halted × (x ≡ crossed.Halted K))
+          → (DecidesIn n N j d m lab (along list s K) Deliver × (x ≡ Ok (crossed.Delivered K)) × ((along list s K).node ≡ d))
+          ⊎ (DecidesIn n N j d m lab (along list s K) Halted × (x ≡ Ok (crossed.Halted K)))
       go Deliver e h =
           inl (
             rw e at last,

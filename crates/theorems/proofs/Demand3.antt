@@ -6,6 +6,7 @@ use Prim.Native.Nat.{ℕ, ◌+◌, ◌*◌, ◌^◌, ◌≤◌, ◌<◌}
 use native.Mathlib.Omega.{arith}
 use lib.Dec.{ltb}
 use borrow.Author.Tests.{eq-eqb, ne_eqb, lt-leb, le-ltb}
+use Rattle.cube.specs.declared.refusals.Refusal.{Refusal}
 use Rattle.cube.specs.Cube.{apart, dist, flip}
 use Rattle.cube.specs.Refusal.{first}
 use Rattle.cube.specs.Tables.{highest, is_dimension}
@@ -154,7 +155,7 @@ module _ (K : Cabinet) (j : ℕ) (T : Table K j) (s d : ℕ) (hs : Works K s) (h
   not_stuck : w.ending ≡ ending.Delivered → Halts n lab d s → ⊥
   not_stuck e H = let q = (stuck H).ending in let z : ◌≡◌ {A = ℕ} 0 1 = cc in omega arith
 
-  never_refused : (k : ℕ) → w.ending ≡ ending.Refused k → Ended → ⊥
+  never_refused : (r : Refusal) → w.ending ≡ ending.Refused r → Ended → ⊥
   never_refused k e (inl D) = let q = (arrives D).ending in let z : ◌≡◌ {A = ℕ} 0 1 = cc in omega arith
   never_refused k e (inr H) = let q = (stuck H).ending in let z : ◌≡◌ {A = ℕ} 0 1 = cc in omega arith
 

@@ -1,23 +1,21 @@
 -- What the library answered before there were draining nodes and jobs (RULES, Which nodes work), by the definitions that stood then: labelling was lent the
 -- fault table alone and one label table, 3 was the highest label, and nothing came before scan 1. A board on which no node drains and the job closes none
 -- is answered, in the half of its job, as before. Proved in proofs/Before.antt and proofs/BeforeLabels.antt.
-use Rattle.std.specs.Prelude.{Bool, true, false, cond, not, ◌&&◌, ◌||◌, List, [], ◌∷◌, ◌++◌, ◌≢◌, ◌≡◌, ℕ, ◌*◌, ◌^◌, eqb, leb, ltb, get_or, length}
+use Rattle.std.specs.Prelude.{Bool, true, false, cond, not, ◌&&◌, ◌||◌, List, [], ◌∷◌, ◌++◌, ◌≢◌, ◌≡◌, ℕ, ◌*◌, ◌^◌, eqb, leb, ltb, get_or, length, Result}
 use Rattle.std.specs.Bool.{beq}
 use Rattle.cube.specs.Count.{least, some}
 use Rattle.cube.specs.Cube.{apart, dist, flip}
 use Rattle.cube.specs.Refusal.{Test, first, ◌⇒◌}
+use Rattle.cube.specs.Refused.{answered}
+use Rattle.cube.specs.declared.refusals.Refusal.{Refusal}
 use Rattle.cube.specs.Tables.{empty_table, is_dimension, node_bit, tab, table_len, unused_set}
 use Rattle.jobs.specs.Jobs.{half}
 use Rattle.rule.specs.Cabinet.{cabinet, is_rule, plain}
 use Rattle.rule.specs.Rule.{exchanges, label}
 use Rattle.scans.specs.Scans.{forward, no_scan, spare}
 use Rattle.labels.specs.Labelling.{labelled, labels_after}
-use Rattle.labels.specs.declared.Labelled.{Labelled}
-use Rattle.labels.specs.declared.Labelled.TheVariants as labelled
 use Rattle.hop.specs.Hop.{answer, hopped, node_tests}
 use Rattle.hop.specs.declared.Decision.{Decision}
-use Rattle.hop.specs.declared.Hopped.{Hopped}
-use Rattle.hop.specs.declared.Hopped.TheVariants as hopped
 use Rattle.walk.specs.Walk.{last, refused, row_bytes, stops, walk_from, walked}
 use Rattle.walk.specs.declared.Walked.{Walked}
 use Rattle.theorems.specs.Words.{label_at}
@@ -33,9 +31,8 @@ label_tests_then n rule faults m =
     ∷ unused_set n faults ⇒ 3
     ∷ []
 
-abbrev pub labelled_then : (n rule : ℕ) (faults : List ℕ) (m : ℕ) → Labelled
-labelled_then n rule faults m =
-    let k : ℕ = first (label_tests_then n rule faults m) in cond (eqb k 0) (labelled.Exchanges (exchanges n rule (node_bit faults))) (labelled.Refused k)
+abbrev pub labelled_then : (n rule : ℕ) (faults : List ℕ) (m : ℕ) → Result ℕ Refusal
+labelled_then n rule faults m = answered (first (label_tests_then n rule faults m)) (exchanges n rule (node_bit faults))
 
 abbrev pub labels_after_then : (n rule : ℕ) (faults before : List ℕ) → List ℕ
 labels_after_then n rule faults before =
@@ -92,8 +89,8 @@ hop_tests_then n c d m lab =
     ∷ eqb (lab c) 3 ⇒ 6
     ∷ []))
 
-abbrev pub hopped_then : (n c d m : ℕ) (lab : ℕ → ℕ) → Hopped
-hopped_then n c d m lab = let k : ℕ = first (hop_tests_then n c d m lab) in cond (eqb k 0) (hopped.Decided (hop_then n lab c d)) (hopped.Refused k)
+abbrev pub hopped_then : (n c d m : ℕ) (lab : ℕ → ℕ) → Result Decision Refusal
+hopped_then n c d m lab = answered (first (hop_tests_then n c d m lab)) (hop_then n lab c d)
 
 -- ---- the walk, by those hops
 

@@ -1,6 +1,7 @@
 -- Demand 3: walks arrive (RULES, When frames arrive). K is a cabinet as one job has it, which labelling accepts, and lab the labels that it then has; s, the
 -- source, is a working node and d, the destination, one that works or drains (`Takes`); w is the walk's answer with those labels.
 use Rattle.std.specs.Prelude.{true, ◌⊎◌, ◌≡◌, ℕ, ◌+◌, ◌*◌, ◌≤◌, ◌<◌}
+use Rattle.cube.specs.declared.refusals.Refusal.{Refusal}
 use Rattle.cube.specs.Cube.{apart, dist, flip}
 use Rattle.rule.specs.Cabinet.{Cabinet, out}
 use Rattle.scans.specs.Progress.{rank}
@@ -48,7 +49,7 @@ pub record Walks (K : Cabinet) (lab : ℕ → ℕ) (s d : ℕ) (w : Walked) : Ty
   -- a delivered walk has the distance and an even number of hops more, at most twice the source's label
   pub even : w.ending ≡ ending.Delivered → (e : ℕ) × (e ≤ lab s) × (w.hops ≡ dist s d + 2 * e)
   -- it is never refused, with 8 or otherwise
-  pub never_refused : (k : ℕ) → w.ending ≡ ending.Refused k → ⊥
+  pub never_refused : (r : Refusal) → w.ending ≡ ending.Refused r → ⊥
   -- "no node stands twice among the places of a walk's row that are used", delivered or halted (RULES, No node twice)
   pub once : NoneTwice w
   -- with every hop the rank falls, which is the distance, and from 2 on twice the label besides;

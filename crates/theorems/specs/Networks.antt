@@ -1,12 +1,12 @@
 -- Walks by networks (RULES, Virtual networks), read off what a caller has in hand: the answer, and the bytes of the hop list, each network * 16 + dimension.
 -- Proved of the definitions in proofs/Networks.antt.
-use Rattle.std.specs.Prelude.{cond, List, ◌⊎◌, ◌≢◌, ◌≡◌, ℕ, zero, suc, ◌+◌, ◌*◌, ◌/◌, ◌%◌, ◌≤◌, ◌<◌, get_or, length}
+use Rattle.std.specs.Prelude.{cond, List, ◌⊎◌, ◌≢◌, ◌≡◌, ℕ, zero, suc, ◌+◌, ◌*◌, ◌/◌, ◌%◌, ◌≤◌, ◌<◌, get_or, length, Result, Ok}
 use Rattle.cube.specs.Cube.{bit, dist, flip}
+use Rattle.cube.specs.declared.refusals.Refusal.{Refusal}
 use Rattle.jobs.specs.Jobs.{label_bytes}
 use Rattle.rule.specs.Cabinet.{Cabinet}
 use Rattle.hop.specs.declared.Decision.{Decision}
 use Rattle.hop.specs.declared.Decision.TheVariants.{Deliver, Hop, Halted}
-use Rattle.hop.specs.declared.Hopped.TheVariants.{Decided}
 use Rattle.blocks.specs.Board.{most_hops}
 use Rattle.blocks.specs.Phase.{Channel, order, phase_of}
 use Rattle.hop_networks.specs.Hopping.{hopped_in}
@@ -42,17 +42,17 @@ channel_of c h = record { net = h / 16; node = c; dim = h % 16 }
 
 -- the hop question is not refused there, and decides so
 abbrev pub DecidesIn : (n N j d m : ℕ) (lab : ℕ → ℕ) (q : Spot) → Decision → Type 0
-DecidesIn n N j d m lab q x = hopped_in n N j q.node d q.network q.down m lab ≡ Decided x
+DecidesIn n N j d m lab q x = hopped_in n N j q.node d q.network q.down m lab ≡ Ok x
 
 -- ---- every walk that is not refused, whatever the labels
 
-pub record Crosses (n N j s d m : ℕ) (lab : ℕ → ℕ) (before : List ℕ) (x : Crossed) (after : List ℕ) : Type 0 where
+pub record Crosses (n N j s d m : ℕ) (lab : ℕ → ℕ) (before : List ℕ) (x : Result Crossed Refusal) (after : List ℕ) : Type 0 where
   -- it repeats the hop question: each byte is that question's answer where the message is,
   pub steps : (k : ℕ) → k < hops_of x → DecidesIn n N j d m lab (along after s k) (Hop (get_or after k 0))
   -- and at the end the answer is how it ended, delivered at d
   pub ends :
-      (DecidesIn n N j d m lab (along after s (hops_of x)) Deliver × (x ≡ crossed.Delivered (hops_of x)) × ((along after s (hops_of x)).node ≡ d))
-      ⊎ (DecidesIn n N j d m lab (along after s (hops_of x)) Halted × (x ≡ crossed.Halted (hops_of x)))
+      (DecidesIn n N j d m lab (along after s (hops_of x)) Deliver × (x ≡ Ok (crossed.Delivered (hops_of x))) × ((along after s (hops_of x)).node ≡ d))
+      ⊎ (DecidesIn n N j d m lab (along after s (hops_of x)) Halted × (x ≡ Ok (crossed.Halted (hops_of x))))
   -- no node before the last is labelled faulty or draining, and the last only where it is the destination
   pub enters : (k : ℕ) → k < hops_of x → lab (along after s k).node ≤ 2
   pub ends_in : (lab (along after s (hops_of x)).node ≤ 2) ⊎ ((along after s (hops_of x)).node ≡ d)
@@ -92,8 +92,8 @@ HopsRise =
 
 -- ---- theorem 7 of Chiu and Wu 1994: five networks deliver, with the labels of an accepted cabinet where some node is safe
 
-pub record Delivers5 (K : Cabinet) (lab : ℕ → ℕ) (s d : ℕ) (x : Crossed) (after : List ℕ) : Type 0 where
-  pub delivered : x ≡ crossed.Delivered (hops_of x)
+pub record Delivers5 (K : Cabinet) (lab : ℕ → ℕ) (s d : ℕ) (x : Result Crossed Refusal) (after : List ℕ) : Type 0 where
+  pub delivered : x ≡ Ok (crossed.Delivered (hops_of x))
   pub there : (along after s (hops_of x)).node ≡ d
   -- every node before the last works, and the last is the destination, which works or drains
   pub works : (k : ℕ) → k < hops_of x → Works K (along after s k).node

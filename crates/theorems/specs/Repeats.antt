@@ -1,11 +1,10 @@
 -- The walk "starts at the source and repeats hops" (RULES, Walk): said of every label table that the walk accepts, right or wrong, and in the answers that the
 -- hop question gives on the same table. Proved in proofs/Repeats.antt.
-use Rattle.std.specs.Prelude.{◌⊎◌, ◌≡◌, ℕ, ◌+◌, ◌≤◌, ◌<◌}
+use Rattle.std.specs.Prelude.{◌⊎◌, ◌≡◌, ℕ, ◌+◌, ◌≤◌, ◌<◌, Ok}
 use Rattle.cube.specs.Cube.{flip}
 use Rattle.hop.specs.Hop.{hopped}
 use Rattle.hop.specs.declared.Decision.{Decision}
 use Rattle.hop.specs.declared.Decision.TheVariants.{Deliver, Hop, Halted}
-use Rattle.hop.specs.declared.Hopped.TheVariants.{Decided}
 use Rattle.walk.specs.Walk.{walk_refusal, walked}
 use Rattle.walk.specs.declared.Ending.TheVariants as ending
 use Rattle.walk.specs.declared.Walked.{Walked}
@@ -13,7 +12,7 @@ use Rattle.theorems.specs.Words.{NoneTwice, place}
 
 -- the hop question at x is not refused, and decides so
 abbrev pub Decides : (n j d m : ℕ) (lab : ℕ → ℕ) (x : ℕ) → Decision → Type 0
-Decides n j d m lab x a = hopped n j x d m lab ≡ Decided a
+Decides n j d m lab x a = hopped n j x d m lab ≡ Ok a
 
 pub record Repeats (n j s d m : ℕ) (lab : ℕ → ℕ) (w : Walked) : Type 0 where
   pub starts : place w 0 ≡ s
