@@ -18,6 +18,7 @@ use Rattle.scans.specs.Scans as scans
 use Rattle.hop.specs.Helpers as helpers
 use Rattle.hop.specs.Helpers.{found, gathered, in_set, near_refusal, place_refusal}
 use Rattle.hop.specs.Hop as spec
+use Rattle.hop.specs.declared.Around.{Around}
 use Rattle.hop.specs.declared.Decision.{Decision}
 use Rattle.cube.specs.declared.refusals.Refusal.{Refusal}
 use Rattle.hop.specs.contracts.hop as hop-claims
@@ -28,6 +29,8 @@ use Rattle.hop.specs.contracts.chosen as chosen-claims
 use Rattle.hop.proofs.chosen.Reads as chosen-claims-reads
 use Rattle.hop.specs.contracts.gather as gather-claims
 use Rattle.hop.proofs.gather.Reads as gather-claims-reads
+use Rattle.hop.specs.contracts.at_node
+use Rattle.hop.proofs.at_node.Reads as at_node-reads
 use Rattle.hop.specs.contracts.hop_at
 use Rattle.hop.proofs.hop_at.Reads as hop_at-reads
 use Rattle.hop.specs.contracts.last_hop
@@ -101,6 +104,21 @@ hop-at =
 
 pub hop_at_says : Says hop-at (λ i. spec.hop i.0 (label_in i.3) i.1 i.2) (λ i. tt)
 hop_at_says = record { says = λ κs a r e p. (p, refl) }
+
+-- handed the dimension, both nodes and the labels
+abbrev pub at-node : Function at_node.ended (ℕ × ℕ × ℕ × List ℕ) (Result Around Refusal) Nothing
+at-node =
+    record {
+      clauses = λ w. at_node.clauses w.𝓛 w.𝓜.mem w.𝓡.returns;
+      asked = at_node-reads.Asked;
+      post = at_node-reads.Post;
+      handed = λ κs a. (a.0, a.1.0, a.1.1.0, a.1.1.1.0.now);
+      answered = λ κs r. r;
+      left = λ κs e. tt;
+    }
+
+pub at_node_says : Says at-node (λ i. helpers.at_node i.0 i.1 i.2 (label_in i.3)) (λ i. tt)
+at_node_says = record { says = λ κs a r e p. (p, refl) }
 
 -- handed the dimension, the labels, the node and twelve places
 abbrev pub gather : Function gather-claims.ended (ℕ × List ℕ × ℕ × List ℕ) Bool (List ℕ)

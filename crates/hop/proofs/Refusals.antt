@@ -20,8 +20,9 @@ use Rattle.cube.proofs.Refused.{accepted, passed_on, refusing}
 use Rattle.cube.proofs.Tables.{dimension_is}
 use Rattle.jobs.specs.Jobs.{Halved, half, is_job, label_bytes}
 use Rattle.jobs.proofs.Laws.{half_long}
-use Rattle.hop.specs.Helpers.{Asked, Placed, near_refusal, place_refusal, place_tests}
+use Rattle.hop.specs.Helpers.{Asked, Placed, at_node, gathered, near_refusal, place_refusal, place_tests}
 use Rattle.hop.specs.Hop.{hop, hop_refusal, hopped, near_tests}
+use Rattle.hop.specs.declared.Around.{Around}
 use Rattle.hop.specs.declared.Decision.{Decision}
 
 -- a table that refuses gives the refusal, whatever comes after it
@@ -68,6 +69,18 @@ unfolding label_bytes
 half_placed n j a b l p =
     record { small = p.halved.small; sized = half_long (2 ^ n) l p.halved.sized j p.halved.job; first = p.first; second = p.second }
 
+-- ---- what is read at a node
+
+module _ (n c d : ℕ) (lab : ℕ → ℕ) (high : Bool) (h : high ≡ some n (λ i. ltb highest (lab (flip i c)))) where
+  pub node_refuses : {A : Type 0} (x : A) (r : Refusal) → answered (near_refusal c d (lab c) high) x ≡ Err r → at_node n c d lab ≡ Err r
+  unfolding at_node
+  node_refuses x r e = passed_on _ _ _ r (rw h at e)
+
+  pub node_reads : (near : List ℕ) → near ≡ gathered n lab c → {A : Type 0} (x y : A) → answered (near_refusal c d (lab c) high) x ≡ Ok y
+      → Ok (record { own = lab c; near = near }) ≡ at_node n c d lab
+  unfolding at_node
+  node_reads near g x y e = rw (g, (accepted _ _ _ (rw h at e)).0)
+
 -- ---- the hop
 
 module _ (n j c d m : ℕ) (lab : ℕ → ℕ) where
@@ -84,17 +97,18 @@ module _ (n j c d m : ℕ) (lab : ℕ → ℕ) where
   hop_placed e = well_placed n j c d m false near e
 
   -- what the labels refuse, or do not
-  module _ (high : Bool) (h : high ≡ some n (λ i. ltb highest (lab (flip i c)))) (e : place_refusal n j c d m false ≡ 0) where
-    by_labels : hop_refusal n j c d m lab ≡ near_refusal c d (lab c) high
+  module _ (e : place_refusal n j c d m false ≡ 0) where
+    by_labels : hop_refusal n j c d m lab ≡ near_refusal c d (lab c) (some n (λ i. ltb highest (lab (flip i c))))
     unfolding near_refusal
-    by_labels = hop_placed e ∙ rw h
+    by_labels = hop_placed e
 
-    pub hop_refuses : {A B : Type 0} (x : A) (y : B) (r : Refusal) → answered (near_refusal c d (lab c) high) x ≡ Err r
-        → answered (hop_refusal n j c d m lab) y ≡ Err r
-    hop_refuses x y r f = rw by_labels (passed_on (near_refusal c d (lab c) high) x y r f)
+    pub hop_refuses : {A : Type 0} (x : A) (r : Refusal) → at_node n c d lab ≡ Err r → answered (hop_refusal n j c d m lab) x ≡ Err r
+    unfolding at_node
+    hop_refuses x r f = rw by_labels (passed_on _ _ x r f)
 
-    pub hop_passes : {A : Type 0} (x y : A) → answered (near_refusal c d (lab c) high) x ≡ Ok y → hop_refusal n j c d m lab ≡ 0
-    hop_passes x y f = by_labels ∙ (accepted (near_refusal c d (lab c) high) x y f).0
+    pub hop_reads : (a : Around) → at_node n c d lab ≡ Ok a → (hop_refusal n j c d m lab ≡ 0) × (record { own = lab c; near = gathered n lab c } ≡ a)
+    unfolding at_node
+    hop_reads a f = let r = accepted _ _ _ f in (by_labels ∙ r.0, r.1)
 
   -- where nothing is refused, the place is good
   pub hop_good : hop_refusal n j c d m lab ≡ 0 → Asked n j c d m

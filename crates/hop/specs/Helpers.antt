@@ -1,12 +1,16 @@
 -- What the functions inside the crate answer, and what they may assume; the walk shares the refusals that need no label. No contract of a question cites
 -- these: proofs/Refusals.antt shows how the refusals of a hop are made of them, proofs/Scanning.antt how the decision is.
-use Rattle.std.specs.Prelude.{Bool, cond, ◌&&◌, List, ◌∷◌, ◌++◌, ◌≡◌, ℕ, ◌^◌, ◌<◌, ◌≤◌, leb, ltb, Option, Some, None}
+use Rattle.std.specs.Prelude.{Bool, cond, ◌&&◌, List, ◌∷◌, ◌++◌, ◌≡◌, ℕ, ◌^◌, ◌<◌, ◌≤◌, leb, ltb, Option, Some, None, Result}
+use Rattle.cube.specs.Count.{some}
 use Rattle.cube.specs.Cube.{bit, flip}
 use Rattle.cube.specs.Refusal.{Test, first, ◌⇒◌}
-use Rattle.cube.specs.Tables.{tab}
+use Rattle.cube.specs.Refused.{answered}
+use Rattle.cube.specs.Tables.{highest, tab}
+use Rattle.cube.specs.declared.refusals.Refusal.{Refusal}
 use Rattle.jobs.specs.Jobs.{Halved}
 use Rattle.scans.specs.Scans.{first_scan, lowest, no_scan}
 use Rattle.hop.specs.Hop.{label_tests, node_tests, size_tests}
+use Rattle.hop.specs.declared.Around.{Around}
 use Rattle.hop.specs.declared.Decision.{Decision}
 use Rattle.hop.specs.declared.Decision.TheVariants.{Hop, Halted}
 
@@ -42,6 +46,11 @@ near_refusal c d own high = first (label_tests c d own high)
 -- the labels of c's n neighbours in twelve places, the others 0
 unfoldable pub gathered : (n : ℕ) (lab : ℕ → ℕ) (c : ℕ) → List ℕ
 gathered n lab c = tab 12 (λ i. cond (ltb i n) (lab (flip i c)) 0)
+
+-- what is read at c on the way to d, or refused by it
+unfoldable pub at_node : (n c d : ℕ) (lab : ℕ → ℕ) → Result Around Refusal
+at_node n c d lab =
+    answered (near_refusal c d (lab c) (some n (λ i. ltb highest (lab (flip i c))))) (record { own = lab c; near = gathered n lab c })
 
 -- dimension i is in the set, a number whose bits are the dimensions, and the label of the neighbour across it is at most top
 unfoldable pub in_set : (set : ℕ) (near : ℕ → ℕ) (top i : ℕ) → Bool

@@ -1,6 +1,6 @@
 // One hop: the decision at a node, for a job. `hop` is the question: it takes any numbers and bytes, and tests them. What reads labels is handed the job's
-// half alone. `place_refusal` and `hop_at` are lent to the walk, which tests that half once; `place_refusal`, `near_refusal`, `gather` and `chosen` to the crate
-// why, which says which scan took a hop; `near_refusal`, `gather`, `lowest` and `last_hop` to the hop by networks. The other functions are theirs.
+// half alone. `place_refusal` and `hop_at` are lent to the walk, which tests that half once; `place_refusal`, `at_node` and `chosen` to the crate why, which
+// says which scan took a hop; `at_node`, `gather`, `lowest` and `last_hop` to the hop by networks. The other functions are theirs.
 #![tactic(auto)]
 
 ghost use Rattle.std.specs.Prelude.{◌-◌, ◌+◌, ◌<◌, ◌≤◌, ◌^◌, ltb, get_or, length, replicate, ◌≢◌, ◌≡◌, bit_xor, option_map};
@@ -8,7 +8,7 @@ ghost use Rattle.cube.specs.Count.{least, some};
 ghost use Rattle.cube.specs.Cube.{flip};
 ghost use Rattle.cube.specs.Refused.{answered};
 ghost use Rattle.cube.specs.Tables.{highest, label_in};
-ghost use Rattle.hop.specs.Helpers.{Placed, across, chosen, found, gathered, in_set, near_refusal, place_refusal};
+ghost use Rattle.hop.specs.Helpers.{Placed, across, at_node, chosen, found, gathered, in_set, near_refusal, place_refusal};
 ghost use Rattle.hop.specs.Hop as spec;
 ghost use Rattle.jobs.specs.Jobs.{label_for};
 ghost use Rattle.scans.specs.Scans as scans;
@@ -25,6 +25,13 @@ pub enum Decision {
     Deliver,
     Hop(usize),
     Halted,
+}
+
+// The labels that are read at a node: its own, and its neighbours' in the first n places, the others 0.
+#[derive(Clone, Copy)]
+pub struct Around {
+    pub own: u8,
+    pub near: [u8; 12],
 }
 
 // The refusals that need no label: of a job, two nodes, a label buffer of len bytes, and whether another lent buffer has a wrong length.
@@ -201,18 +208,26 @@ pub fn near_refusal(c: usize, d: usize, own: u8, high: bool) -> Result<(), Refus
     Ok(())
 }
 
+// The labels at c by which a question on the way to d is answered, or why they refuse it. It reads c's label and each neighbour's once, and no other byte.
+pub fn at_node(n: usize, c: usize, d: usize, labels: &[u8]) -> Result<Around, Refusal>
+    requires { Placed n c d (length labels.now) }
+    ensures { result ≡ at_node n c d (label_in labels.now) }
+{
+    let own = labels[c];
+    let mut near = [0u8; 12];
+    let high = gather(n, labels, c, &mut near);
+    near_refusal(c, d, own, high)?;
+    Ok(Around { own, near })
+}
+
 // The decision at c on the way to d, for a job. Of the job's half it reads c's label and each neighbour's once, and no other byte.
 pub fn hop(n: usize, job: usize, c: usize, d: usize, labels: &[u8]) -> Result<Decision, Refusal>
     ensures { result ≡ spec.hopped n job c d (length labels.now) (label_for n job labels.now) }
 {
     place_refusal(n, job, c, d, labels.len(), false)?;
-    let table = half(n, job, labels);
-    let own = table[c];
-    let mut near = [0u8; 12];
-    let high = gather(n, table, c, &mut near);
-    near_refusal(c, d, own, high)?;
+    let around = at_node(n, c, d, half(n, job, labels))?;
     if c != d {
-        return Ok(across(chosen(n, c, d, own, &near)));
+        return Ok(across(chosen(n, c, d, around.own, &around.near)));
     }
     Ok(Decision::Deliver)
 }
