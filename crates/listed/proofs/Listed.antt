@@ -9,7 +9,7 @@ listed =
     record {
       head_tied = record { clauses = λ w. refl; asked = refl; post = refl };
       line_tied = record { clauses = λ w. refl; asked = refl; post = refl };
-      head = λ m. let h = printed.head_line_says _ _ _ m in (h.line, h.dimension, h.labelled);
+      head = λ m. let h = printed.head_line_says _ _ _ m in (h.line, h.given, h.dimension, h.labelled);
       line = λ m. printed.line_at_says _ _ _ m;
       line_asked = printed.line_at_asks;
       laws = listing_laws;
