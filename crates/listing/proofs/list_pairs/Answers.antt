@@ -11,15 +11,11 @@ pub loop-at-init : goal.loop-at-init
 loop-at-init g c =
     let s = c.args.bytes.now in
     let behind = ap length c.tail-pairs.ensures.bytes ∙ length-drop (tail_at s) s in
-    (omega (arith, behind, tail_within s), omega arith)
-
-pub line_at-line-requires-clause-bytes_bound : goal.line_at-line-requires-clause-bytes_bound
-line_at-line-requires-clause-bytes_bound g c = (c.loop-at.invariant.0, omega arith)
+    omega (arith, behind, tail_within s)
 
 -- the next pair lies behind
 pub loop-at-smaller : goal.loop-at-smaller
-loop-at-smaller g c = omega (arith, next_beyond c.args.bytes.now c.loop-at.at (omega arith), c.line_at-line.ensures.next)
+loop-at-smaller g c = omega (arith, next_beyond c.args.bytes.now c.loop-at.at (omega arith), c.line_at-pair.ensures.next)
 
 pub loop-at-preserved : goal.loop-at-preserved
-loop-at-preserved g c =
-    (omega (arith, next_beyond c.args.bytes.now c.loop-at.at (omega arith), c.line_at-line.ensures.next, c.loop-at.invariant.0), omega arith)
+loop-at-preserved g c = omega (arith, next_beyond c.args.bytes.now c.loop-at.at (omega arith), c.line_at-pair.ensures.next, c.loop-at.invariant)
