@@ -2,13 +2,13 @@
 -- and 10 that it reaches, and its last digit.
 use mathlib.Core.Bool.{true, false}
 use mathlib.Core.List.{List, [], ◌∷◌, ◌++◌}
-use mathlib.Core.Logic.{◌⊎◌, inl, inr, ⊎_elim, ◌≢◌}
+use mathlib.Core.Logic.{◌⊎◌, inl, inr, ◌≢◌}
 use mathlib.Core.Path.{◌≡◌, sym, ap, ap₂, ◌∙◌}
 use Prim.Native.Nat.{ℕ, zero, suc, ◌+◌, ◌/◌, ◌%◌, ◌≤◌, ◌<◌}
 use native.Mathlib.Omega.{arith}
 use lib.Dec.{eqb, ltb}
 use lib.ListN.{length, length-append}
-use borrow.Author.Tests.{eq-eqb, eqb-false, eqb-true, le-ltb, lt-ltb, ltb-false, ltb-true, ne_eqb}
+use borrow.Author.Tests.{eq-eqb, le-ltb, lt-ltb, ltb-false, ltb-true, ne_eqb}
 use Rattle.cube.proofs.Bools.{by_cases, either}
 use Rattle.ranges.specs.Grammar.{dash}
 use Rattle.ranges.specs.Written.{decimal, digits_of, entry_text}
@@ -47,13 +47,6 @@ pub decimal_more : (v : ℕ) → 10 ≤ v → decimal v ≡ decimal (v / 10) ++ 
 unfolding decimal
 decimal_more v h = digits_more v v h ∙ ap (λ (d : List ℕ). d ++ last v) (enough v (suc (v / 10)) (v / 10) (omega arith) (omega arith))
 
--- so its length is one more than its tenth's
-pub length_one : (v : ℕ) → v < 10 → length (decimal v) ≡ 1
-length_one v h = ap length (decimal_one v h)
-
-pub length_more : (v : ℕ) → 10 ≤ v → length (decimal v) ≡ length (decimal (v / 10)) + 1
-length_more v h = ap length (decimal_more v h) ∙ length-append (decimal (v / 10)) (last v)
-
 -- ---- a number, digit by digit
 
 pub digit_none : (unit v : ℕ) → v < unit → digit_at unit v ≡ []
@@ -63,10 +56,6 @@ digit_none unit v h = rw (lt-ltb v unit h)
 pub digit_some : (unit v : ℕ) → unit ≤ v → digit_at unit v ≡ (48 + v / unit % 10) ∷ []
 unfolding digit_at
 digit_some unit v h = rw (le-ltb v unit h)
-
-pub digit_few : (unit v : ℕ) → length (digit_at unit v) ≤ 1
-unfolding digit_at
-digit_few unit v = by_cases (λ (l : List ℕ). length l ≤ 1) (ltb v unit) (λ e. omega arith) (λ e. omega arith)
 
 -- a digit of the tenth stands for ten times as many in the number
 shifted : (unit ten v : ℕ) → (v / 10 < unit → v < ten) → (unit ≤ v / 10 → ten ≤ v) → v / 10 / unit ≡ v / ten → digit_at unit (v / 10) ≡ digit_at ten v
@@ -124,12 +113,8 @@ four_digits v h = go (either (ltb v 10))
         (three_digits (v / 10) (omega arith)
         ∙ ap₂ (λ (a b : List ℕ). a ++ b) (ap₂ (λ (a b : List ℕ). a ++ b) (digit_1000 v) (digit_100 v)) (digit_10 v l))
 
--- so it has one to four digits
-pub decimal_few : (v : ℕ) → v < 10000 → length (decimal v) ≤ 4
-decimal_few v h = omega (arith, simp length-append at (ap length (four_digits v h)), digit_few 1000 v, digit_few 100 v, digit_few 10 v)
-
-pub decimal_some : (v : ℕ) → v < 10000 → 1 ≤ length (decimal v)
-decimal_some v h = omega (arith, simp length-append at (ap length (four_digits v h)))
+pub decimal_length : (v : ℕ) → v < 10000 → length (decimal v) ≡ length (digit_at 1000 v) + length (digit_at 100 v) + length (digit_at 10 v) + 1
+decimal_length v h = simp length-append at (ap length (four_digits v h))
 
 -- ---- the entry of a run: one number, or two with a dash between
 
@@ -151,14 +136,3 @@ module _ (low high : ℕ) where
       by_cases (λ (l : List ℕ). length (decimal low) ≤ length l) (eqb low high)
       (λ e. omega arith)
       (λ e. omega (arith, length-append (decimal low) (dash ∷ decimal high)))
-
-  module _ (l : low < 10000) (h : high < 10000) where
-    pub entry_few : length (entry_text low high) ≤ 9
-    entry_few =
-        ⊎_elim
-        (λ (e : eqb low high ≡ true). omega (arith, ap length (entry_one (eqb-true low high e)), decimal_few low l))
-        (λ (e : eqb low high ≡ false). omega (arith, entry_two_length (eqb-false low high e), decimal_few low l, decimal_few high h))
-        (either (eqb low high))
-
-    pub entry_some : 1 ≤ length (entry_text low high)
-    entry_some = omega (arith, entry_low, decimal_some low l)

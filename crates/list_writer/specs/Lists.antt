@@ -1,6 +1,6 @@
 -- Writing a list text (RULES, List text): the answer, and what the buffer holds then, as for a notice, with the text in the notice's place; and what the code
 -- goes by.
-use Rattle.std.specs.Prelude.{Bool, cond, List, [], ◌∷◌, ℕ, zero, suc, ◌+◌, ◌/◌, ◌%◌, eqb, ltb}
+use Rattle.std.specs.Prelude.{Bool, true, false, cond, List, [], ◌∷◌, ℕ, zero, suc, ◌+◌, ◌/◌, ◌%◌, ltb}
 use Rattle.ranges.specs.Grammar.{comma}
 use Rattle.ranges.specs.Written.{list_text}
 use Rattle.writer.specs.Writing.{Wrote, after_bytes, wrote_bytes}
@@ -15,9 +15,10 @@ list_after n faults out = after_bytes n faults (list_text n faults) out
 
 -- ---- what the code goes by
 
--- the comma between what stands up to a place and the next entry
-unfoldable pub gap : (at : ℕ) → List ℕ
-gap at = cond (eqb at 0) [] (comma ∷ [])
+-- the comma between what stands there and the next entry, which may be the first
+unfoldable pub gap : (first : Bool) → List ℕ
+gap true = []
+gap false = comma ∷ []
 
 -- the place behind the run that begins at k, of so many numbers
 unfoldable pub run_end : (left k : ℕ) (p : ℕ → Bool) → ℕ

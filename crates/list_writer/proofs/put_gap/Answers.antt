@@ -1,23 +1,15 @@
--- `put_gap` makes the test by which `gap` chooses, and stores the comma.
-use mathlib.Core.Path.{sym, ap}
+-- `put_gap` makes the test by which `gap` chooses.
+use mathlib.Core.Path.{ap}
 use native.Mathlib.Omega.{arith}
 use lib.ListN.{length}
 use Rattle.list_writer.proofs.Passes.{gap_none, gap_some}
-use Rattle.list_writer.proofs.Pieces.{put_as, put_none, put_one}
 use Rattle.list_writer.proofs.put_gap.Goals as goal
 
-pub returns-then-at-eq0 : goal.returns-then-at-eq0
-returns-then-at-eq0 c =
-    let a = c.args in
-    let P = put_as (sym (gap_none a.at c.if-at-eq0.true)) (put_none a.out.now a.at) in
-    record { next = omega (arith, P.place); bytes = P.bytes }
+pub put-requires : goal.put-requires
+put-requires g c = omega (arith, c.requires, ap length (gap_some _ c.if-not-first.true))
 
-pub bounds-out-at : goal.bounds-out-at
-bounds-out-at c = let a = c.args in omega (arith, c.requires, ap length (gap_some a.at c.if-at-eq0.false))
+pub returns-then-not-first : goal.returns-then-not-first
+returns-then-not-first g c = rw (gap_some _ c.if-not-first.true) c.put.ensures
 
-pub returns : goal.returns
-returns c =
-    let a = c.args in
-    let e = gap_some a.at c.if-at-eq0.false in
-    let P = put_as (sym e) (put_one a.out.now a.at _ (omega (arith, c.requires, ap length e))) in
-    record { next = P.place; bytes = P.bytes }
+pub returns-else-not-first : goal.returns-else-not-first
+returns-else-not-first g c = rw (gap_none _ c.if-not-first.false) (g.met.S.Sink.nothing _)

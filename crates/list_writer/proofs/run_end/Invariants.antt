@@ -1,12 +1,9 @@
 -- `run_end` goes on while the nodes are faulty: the run that begins at k ends where that from the node in hand on ends.
 use mathlib.Core.Path.{◌≡◌}
-use Prim.Native.Nat.{◌-◌, ◌≤◌}
+use Prim.Native.Nat.{◌-◌}
 use Rattle.cube.specs.Tables.{node_bit}
 use Rattle.list_writer.specs.Lists.{run_end}
 use Rattle.list_writer.proofs.run_end.Given as goal
 
 abbrev pub invariant-loop-end : goal.invariant-loop-end
-invariant-loop-end l = (l.end ≤ l.size) × (run_end (l.size - l.end) l.end (node_bit l.faults) ≡ run_end (l.size - l.k) l.k (node_bit l.faults))
-
-abbrev pub decreases-loop-end : goal.decreases-loop-end
-decreases-loop-end l = l.size - l.end
+invariant-loop-end l = run_end (l.size - l.end) l.end (node_bit l.faults) ≡ run_end (l.size - l.k) l.k (node_bit l.faults)
