@@ -80,31 +80,45 @@ fn put_all(n: usize, w: usize, mask: u16, res: &mut [u8], row: &mut [u16])
     }
 }
 
-// Hears node w, unless the old table calls it faulty. Most masks are 0, and those are done with at once.
-fn hear(n: usize, w: usize, faults: &[u8], masks: &[u16], res: &mut [u8], row: &mut [u16])
-    requires n_bound { (n ≤ 12) × ((length faults.now ≡ table_len n) × ((length masks.now ≡ 2 ^ n) × (w < 2 ^ n))) }
-    requires res_len { (length res.old ≡ table_len n) × (length row.old ≡ 2 ^ n) }
-    ensures { HeardBy n faults.now masks.now w res.old row.old res.new row.new }
-{
-    let mask = masks[w];
-    if mask == 0 {
-        return;
-    }
-    if node_bit(faults, w) {
-        return;
-    }
-    put_all(n, w, mask, res, row);
+// What is asked: the old fault table of an n-cube, and a mask for each node.
+#[derive(Clone, Copy)]
+struct Asked<'a> {
+    n: usize,
+    faults: &'a [u8],
+    masks: &'a [u16],
+    ghost small: { n ≤ 12 },
+    ghost table: { length faults.now ≡ table_len n },
+    ghost bytes: { Bytes faults.now },
+    ghost masked: { length masks.now ≡ 2 ^ n },
 }
 
-// Hears all nodes, in rising order.
-fn hear_all(n: usize, faults: &[u8], masks: &[u16], res: &mut [u8], row: &mut [u16])
-    requires n_bound { (n ≤ 12) × ((length faults.now ≡ table_len n) × ((length masks.now ≡ 2 ^ n) × (res.old ≡ faults.now))) }
-    requires bytes { Bytes faults.now × (row.old ≡ replicate (2 ^ n) 0) }
-    ensures table { res.new ≡ repaired n faults.now masks.now }
-    ensures row { row.new ≡ namers n faults.now masks.now }
-{
-    for w in 0..masks.len() {
-        hear(n, w, faults, masks, res, row);
+impl Asked<'_> {
+    // Hears node w, unless the old table calls it faulty. Most masks are 0, and those are done with at once.
+    fn hear(&self, w: usize, res: &mut [u8], row: &mut [u16])
+        requires node { w < 2 ^ self.now.n }
+        requires res_len { (length res.old ≡ table_len self.now.n) × (length row.old ≡ 2 ^ self.now.n) }
+        ensures { HeardBy self.now.n self.now.faults.now self.now.masks.now w res.old row.old res.new row.new }
+    {
+        let mask = self.masks[w];
+        if mask == 0 {
+            return;
+        }
+        if node_bit(self.faults, w) {
+            return;
+        }
+        put_all(self.n, w, mask, res, row);
+    }
+
+    // Hears all nodes, in rising order.
+    fn hear_all(&self, res: &mut [u8], row: &mut [u16])
+        requires table { res.old ≡ self.now.faults.now }
+        requires row { row.old ≡ replicate (2 ^ self.now.n) 0 }
+        ensures table { res.new ≡ repaired self.now.n self.now.faults.now self.now.masks.now }
+        ensures row { row.new ≡ namers self.now.n self.now.faults.now self.now.masks.now }
+    {
+        for w in 0..self.masks.len() {
+            self.hear(w, res, row);
+        }
     }
 }
 
@@ -124,6 +138,7 @@ pub fn repair(
     refusal(n, faults, masks, res.len(), row.len())?;
     res.copy_from_slice(faults);
     row.fill(0);
-    hear_all(n, faults, masks, res, row);
+    let asked = Asked { n, faults, masks };
+    asked.hear_all(res, row);
     Ok(())
 }

@@ -28,13 +28,20 @@ right c = accepted _ _ _ _ _ (none c)
 pub copy_from_slice-requires : goal.copy_from_slice-requires
 copy_from_slice-requires c = let r = right (goal.at.copy_from_slice-requires c).In_ok-refusal in r.resulting ∙ sym r.table.sized
 
+pub invariant_of-asked : goal.invariant_of-asked
+invariant_of-asked c =
+    let r = right (goal.at.invariant_of-asked c).In_ok-refusal in
+    record {
+      small = r.table.dimension.1;
+      table = r.table.sized;
+      bytes = λ i. omega (arith, c.type_inv.faults i);
+      masked = r.masked;
+    }
+
 pub hear_all-requires : goal.hear_all-requires
 hear_all-requires c =
     let r = right (goal.at.hear_all-requires c).In_ok-refusal in
-    record {
-      n_bound = (r.table.dimension.1, (r.table.sized, (r.masked, c.copy_from_slice.ensures.after)));
-      bytes = (λ i. omega (arith, c.type_inv.faults i), c.fill.ensures.after (λ y e. cc) ∙ ap (λ (m : ℕ). replicate m 0) r.rowed);
-    }
+    record { table = c.copy_from_slice.ensures.after; row = c.fill.ensures.after (λ y e. cc) ∙ ap (λ (m : ℕ). replicate m 0) r.rowed }
 
 pub returns : goal.returns
 returns c =
