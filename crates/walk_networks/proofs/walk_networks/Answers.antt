@@ -19,7 +19,7 @@ use Rattle.blocks.specs.Board.{hops_on, last_on, most_hops}
 use Rattle.hop_networks.specs.Helpers.{board_refusal, list_refusal}
 use Rattle.hop_networks.specs.Hopping.{is_board}
 use Rattle.hop_networks.proofs.Refusals.{board_good, board_is, list_good}
-use Rattle.walk_networks.specs.Crossing.{ended_by, made, too_short}
+use Rattle.walk_networks.specs.Crossing.{ended_by, too_short}
 use Rattle.walk_networks.proofs.Refusals.{made_few, unboarded, unlabelled, unlisted, unwalked, walked}
 use Rattle.walk_networks.proofs.Steps.{most_few}
 use Rattle.walk_networks.proofs.walk_networks.Goals as goal
@@ -60,9 +60,6 @@ found : (c : In_ok-found) → let a = c.args in
     let lab = label_in (half a.job (2 ^ a.n) a.labels.now) in
     Ok c.in_ok-found.found ≡ ended_by (hops_on a.n a.networks lab a.d a.s) (last_on a.n a.networks lab a.d a.s)
 found c = rw c.half-table.ensures.bytes at c.in_ok-found.ensures.answer
-
-few : (c : In_ok-found) → let a = c.args in 0 < a.networks → a.s < 2 ^ a.n → made c.in_ok-found.found ≤ most_hops a.n a.networks
-few c some h = made_few _ _ _ _ _ _ some h (found c)
 
 pub returns-in_err-board_refusal : goal.returns-in_err-board_refusal
 returns-in_err-board_refusal c =
@@ -113,9 +110,9 @@ pub returns-in_err-found : goal.returns-in_err-found
 returns-in_err-found c =
     let g = goal.at.returns-in_err-found c in
     let p = err_from_is_err_and c.from_residual-in_err-found.result c.from_residual-in_err-found.ensures.1 in
-    let r = unwalked _ _ _ _ _ _ _ c.args.hops.now (board g.In_ok-board_refusal) (listed g.In_ok-list_refusal) (labelled g.In_ok-table_refusal) _
+    let w = unwalked _ _ _ _ _ _ _ c.args.hops.now (board g.In_ok-board_refusal) (listed g.In_ok-list_refusal) (labelled g.In_ok-table_refusal) _
     (rw c.half-table.ensures.bytes at c.in_err-found.ensures.answer) in
-    record { answer = rw (p.1, p.2) r.0; hops = r.1 }
+    record { answer = rw (p.1, p.2) w.0; hops = w.1 }
 
 -- the hops are few enough for both lists
 pub write-requires : goal.write-requires
@@ -123,7 +120,7 @@ write-requires c =
     let g = goal.at.write-requires c in
     let b = g.In_ok-board_refusal in
     let p = asked g.In_ok-list_refusal (small b) in
-    let f = few g.In_ok-found (networks-few b).0 p.0.first in
+    let f = made_few _ _ _ _ _ _ (networks-few b).0 p.0.first (found g.In_ok-found) in
     (omega (arith, c.hops.ensures, f, most b), omega (arith, c.hops.ensures, f, p.1))
 
 pub returns : goal.returns
