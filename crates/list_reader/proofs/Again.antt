@@ -10,9 +10,8 @@ use lib.ListN.{length, get_or, drop, length-drop}
 use lib.Seq.{drop-drop, get_or-drop}
 use borrow.Author.Tests.{eq-eqb, eqb-false, eqb-true, le-ltb, lt-ltb, ne_eqb}
 use Rattle.cube.proofs.Bools.{by_cases}
-use Rattle.list_reader.specs.Front.{above, bytes_at, capped, closing, dashed, entry_at, entry_on, front, high_at, lead, range_on}
-use Rattle.list_reader.specs.declared.Entry.{Entry}
-use Rattle.list_reader.specs.declared.Entry.TheVariants.{Range, Bad}
+use Rattle.list_reader.specs.Front.{Entry, a_run, above, bytes_at, capped, closing, dashed, entry_at, entry_on, front, high_at, lead, range_on}
+use Rattle.std.specs.Prelude.{Some, None}
 use Rattle.ranges.specs.Grammar.{comma, dash, no_zero, value}
 use Rattle.list_reader.proofs.Fronts.{front_length, lead_within}
 use Rattle.list_reader.proofs.Parts.{and_none}
@@ -59,8 +58,8 @@ pub record Again (s : List ℕ) (lo hi next : ℕ) : Type 0 where
   pub next_is : next ≡ cond (ltb (bytes_at s) (length s)) (bytes_at s + 1) (bytes_at s)
 
 abbrev Known : List ℕ → Entry → Type 0
-Known s (Range lo hi next) = Again s lo hi next
-Known s Bad = Unit {0}
+Known s (Some r) = Again s r.low r.high r.bytes
+Known s None = Unit {0}
 
 -- closed behind its bytes, with what is left behind them
 known_closed : (s : List ℕ) (end lo hi : ℕ) (left : List ℕ) → lo ≡ capped (value (front s)) → hi ≡ high_at s → end ≡ bytes_at s → length s ≡ end + length left
@@ -125,5 +124,5 @@ module _ (s : List ℕ) where
   unfolding entry_at
   known = by_cases (Known s) (no_zero (front s)) (λ e. known_on (drop (lead s) s) refl) (λ e. tt)
 
-  pub again : {lo hi next : ℕ} → Range lo hi next ≡ entry_at s → Again s lo hi next
+  pub again : {lo hi next : ℕ} → a_run lo hi next ≡ entry_at s → Again s lo hi next
   again e = subst (Known s) (sym e) known

@@ -11,9 +11,8 @@ use lib.ListN.{length, drop, length-append, length-drop, take-append-drop}
 use lib.Seq.{drop-append-add}
 use borrow.Author.Tests.{eqb-true}
 use Rattle.cube.proofs.Bools.{either, by_cases, clash}
-use Rattle.list_reader.specs.Front.{above, capped, closing, entry_at, entry_on, front, lead, range_on}
-use Rattle.list_reader.specs.declared.Entry.{Entry}
-use Rattle.list_reader.specs.declared.Entry.TheVariants.{Range, Bad}
+use Rattle.list_reader.specs.Front.{Entry, above, capped, closing, entry_at, entry_on, front, lead, range_on}
+use Rattle.std.specs.Prelude.{Some, None}
 use Rattle.ranges.specs.Grammar.{all_digits, comma, dash, every, high, is_entry, is_list, low, no_zero, parts_of, split, value}
 use Rattle.list_reader.proofs.Order.{in_order}
 use Rattle.ranges.proofs.Decimal.{digits_lack}
@@ -34,8 +33,8 @@ pub record Taken (s : List ℕ) (lo hi next : ℕ) : Type 0 where
   pub within : next ≤ length s
 
 abbrev pub Judged : List ℕ → Entry → Type 0
-Judged s (Range lo hi next) = Taken s lo hi next
-Judged s Bad = is_list s ≡ false
+Judged s (Some r) = Taken s r.low r.high r.bytes
+Judged s None = is_list s ≡ false
 
 -- ---- parts of a text that has some
 

@@ -6,15 +6,14 @@ use Prim.Native.Nat.{ℕ, ◌+◌, ◌≤◌, ◌<◌}
 use native.Mathlib.Omega.{arith}
 use lib.Dec.{leb}
 use lib.ListN.{length, drop}
-use Rattle.std.specs.Prelude.{Result, Ok, Err}
+use Rattle.std.specs.Prelude.{Result, Ok, Err, None}
 use Rattle.cube.specs.declared.refusals.Refusal.{Refusal}
 use Rattle.cube.specs.declared.refusals.Refusal.TheVariants.{Address, Text}
 use Rattle.cube.specs.Refusal.{first}
 use Rattle.cube.specs.Refused.{answered}
 use Rattle.cube.proofs.Bools.{or_none}
-use Rattle.list_reader.specs.Front.{entry_at}
+use Rattle.list_reader.specs.Front.{a_run, entry_at}
 use Rattle.list_reader.specs.Reading.{text_tests}
-use Rattle.list_reader.specs.declared.Entry.TheVariants.{Range, Bad}
 use Rattle.ranges.specs.Grammar.{is_list, reaches}
 use Rattle.list_reader.proofs.Left.{bad_at, beyond_on, next_within, none_beyond, none_rules, nothing_left, rules_on, taken_at}
 
@@ -44,10 +43,10 @@ or_assoc false b c = refl
 
 module _ {text : List ℕ} {size : ℕ} {far : Bool} {at : ℕ} (P : Judging text size far at) where
   module _ (h : at < length text) where
-    pub judge_bad : Bad ≡ entry_at (drop at text) → Answers (Err Text) size text
+    pub judge_bad : None ≡ entry_at (drop at text) → Answers (Err Text) size text
     judge_bad e = tests_bad size text (P.rules ∙ bad_at text at h e)
 
-    pub judge_on : size ≤ 4096 → {lo hi next : ℕ} → Range lo hi next ≡ entry_at (drop at text) → Judging text size (far || leb size hi) (at + next)
+    pub judge_on : size ≤ 4096 → {lo hi next : ℕ} → a_run lo hi next ≡ entry_at (drop at text) → Judging text size (far || leb size hi) (at + next)
     judge_on small {lo} {hi} {next} e =
         let t = taken_at text at h e in
         record {

@@ -11,8 +11,8 @@ use lib.ListN.{length, drop, drop_of_length-le, length-drop}
 use lib.Seq.{drop-drop}
 use borrow.Author.Tests.{le-leb, lt-ltb, ltb-true, ltb-false}
 use Rattle.cube.proofs.Bools.{either}
-use Rattle.list_reader.specs.Front.{capped, entry_at}
-use Rattle.list_reader.specs.declared.Entry.TheVariants.{Range, Bad}
+use Rattle.list_reader.specs.Front.{a_run, capped, entry_at}
+use Rattle.std.specs.Prelude.{None}
 use Rattle.ranges.specs.Grammar.{any, every, high, is_entry, is_list, parts_of, reaches}
 use Rattle.list_reader.proofs.Entries.{Judged, Taken, judged}
 
@@ -56,10 +56,10 @@ unfolding reaches
 reaches_any size s = refl
 
 -- the entry at a place, from where it was taken
-pub taken_at : (text : List ℕ) (at : ℕ) {lo hi next : ℕ} → at < length text → Range lo hi next ≡ entry_at (drop at text) → Taken (drop at text) lo hi next
+pub taken_at : (text : List ℕ) (at : ℕ) {lo hi next : ℕ} → at < length text → a_run lo hi next ≡ entry_at (drop at text) → Taken (drop at text) lo hi next
 taken_at text at h e = subst (Judged (drop at text)) (sym e) (judged (drop at text) (omega (arith, length-drop at text)))
 
-pub bad_at : (text : List ℕ) (at : ℕ) → at < length text → Bad ≡ entry_at (drop at text) → is_list (drop at text) ≡ false
+pub bad_at : (text : List ℕ) (at : ℕ) → at < length text → None ≡ entry_at (drop at text) → is_list (drop at text) ≡ false
 bad_at text at h e = subst (Judged (drop at text)) (sym e) (judged (drop at text) (omega (arith, length-drop at text)))
 
 -- the place behind it

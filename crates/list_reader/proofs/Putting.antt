@@ -10,9 +10,8 @@ use borrow.Author.Tests.{leb-false, lt-ltb, le-ltb}
 use Rattle.cube.proofs.Bools.{clash, or_false}
 use Rattle.notice.specs.Addresses.{with_bits}
 use Rattle.notice.proofs.Bits.{length_bits}
-use Rattle.list_reader.specs.Front.{between, bytes_at, capped, entry_at, front, high_at, with_parts}
-use Rattle.list_reader.specs.declared.Entry.{Entry}
-use Rattle.list_reader.specs.declared.Entry.TheVariants.{Range, Bad}
+use Rattle.list_reader.specs.Front.{Entry, a_run, between, bytes_at, capped, entry_at, front, high_at, with_parts}
+use Rattle.std.specs.Prelude.{Some, None}
 use Rattle.ranges.specs.Grammar.{high, is_list, low, parts_of, reaches, value}
 use Rattle.spelling.specs.Laws.{Bytes}
 use Rattle.spelling.proofs.Tables.{bytes_bits}
@@ -43,10 +42,10 @@ parts_end t = refl
 module _ {text old now : List ℕ} {at : ℕ} (P : Putting text old now at) (few : length old ≤ 512) where
   module _ (h : at < length text) where
     -- no entry is bad any more
-    put_bad : {A : Type 0} → Bad ≡ entry_at (drop at text) → A
+    put_bad : {A : Type 0} → None ≡ entry_at (drop at text) → A
     put_bad e = absurd (clash P.rules (bad_at text at h e))
 
-    module _ {lo hi next : ℕ} (e : Range lo hi next ≡ entry_at (drop at text)) where
+    module _ {lo hi next : ℕ} (e : a_run lo hi next ≡ entry_at (drop at text)) where
       t : Taken (drop at text) lo hi next
       t = taken_at text at h e
 
@@ -90,14 +89,14 @@ module _ {text old now : List ℕ} {at : ℕ} (P : Putting text old now at) (few
       lo : ℕ
       hi : ℕ
       next : ℕ
-      is : Range lo hi next ≡ entry_at (drop at text)
+      is : a_run lo hi next ≡ entry_at (drop at text)
 
     found : Found
     found = go (entry_at (drop at text)) refl
       where
         go : (e : Entry) → e ≡ entry_at (drop at text) → Found
-        go (Range lo hi next) e = record { lo = lo; hi = hi; next = next; is = e }
-        go Bad e = put_bad e
+        go (Some r) e = record { lo = r.low; hi = r.high; next = r.bytes; is = e }
+        go None e = put_bad e
 
     module _
         {rest : List ℕ} {lo hi bytes : ℕ} (is : rest ≡ drop at text) (low_is : lo ≡ capped (value (front rest))) (high_is : hi ≡ high_at rest)

@@ -8,10 +8,12 @@ use native.Mathlib.Omega.{arith}
 use lib.Dec.{eqb, ltb}
 use lib.ListN.{length, get_or, take, drop, drop_of_length-le}
 use lib.Seq.{drop-cons, drop-drop, length-take-le}
-use borrow.Author.Tests.{eq-eqb, eqb-false, eqb-true, ne_eqb, not-true}
+use borrow.Author.Tests.{eq-eqb, eqb-false, eqb-true, ltb-true, ne_eqb, not-true}
 use Rattle.cube.proofs.Bools.{and_true, clash, either, or_none, or_right}
-use Rattle.list_reader.specs.Front.{above, capped, closing, entry_at, entry_on, front, later, lead, range_on}
-use Rattle.list_reader.specs.declared.Entry.TheVariants.{Range, Bad}
+use Rattle.list_reader.specs.Front.{a_run, above, capped, closing, entry_at, entry_on, front, later, lead, range_on}
+use Rattle.std.specs.Prelude.{None}
+use Rattle.std.specs.Cmp.Lexicographic.{slice_partial_cmp}
+use Rattle.std.specs.Ordering.{as_partial_cmp, is_lt, is_some_and, nat_cmp}
 use Rattle.ranges.specs.Grammar.{comma, dash, no_zero, value}
 use Rattle.list_reader.proofs.Fronts.{lead_within}
 
@@ -37,53 +39,29 @@ pub above_by_length : (a b : List ℕ) → length a ≢ length b → ltb (length
 unfolding above
 above_by_length a b d = rw (ne_eqb (length a) (length b) d)
 
-pub record Comparing (a b : List ℕ) (i : ℕ) : Type 0 where
-  pub as_long : length a ≡ length b
-  pub upto : i ≤ length a
-  pub same : above a b ≡ later (drop i a) (drop i b)
+-- as bytes: of the same count the order is that of slices
+bytes_later : (a b : List ℕ) → length a ≡ length b → is_some_and is_lt (slice_partial_cmp (as_partial_cmp nat_cmp) b a) ≡ later a b
+unfolding later
+bytes_later [] [] e = refl
+bytes_later [] (y ∷ b) e = absurd (omega arith)
+bytes_later (x ∷ a) [] e = absurd (omega arith)
+bytes_later (x ∷ a) (y ∷ b) e = go (bytes_later a b (omega arith)) (either (ltb y x)) (either (eqb x y))
+  where
+    go : is_some_and is_lt (slice_partial_cmp (as_partial_cmp nat_cmp) b a) ≡ later a b → (ltb y x ≡ true) ⊎ (ltb y x ≡ false)
+        → (eqb x y ≡ true) ⊎ (eqb x y ≡ false)
+        → is_some_and is_lt (slice_partial_cmp (as_partial_cmp nat_cmp) (y ∷ b) (x ∷ a)) ≡ later (x ∷ a) (y ∷ b)
+    go more (inl l) _ = let h = ltb-true y x l in rw (l, ne_eqb x y (λ q. omega arith))
+    go more (inr g) (inl q) = let p = eqb-true x y q in rw (g, eq-eqb y x (sym p), q) more
+    go more (inr g) (inr d) = let p = eqb-false x y d in rw (g, ne_eqb y x (λ q. p (sym q)), d)
 
-pub compare_start : (a b : List ℕ) → length a ≡ length b → Comparing a b 0
+pub above_by_bytes : (a b : List ℕ) → length a ≡ length b → is_some_and is_lt (slice_partial_cmp (as_partial_cmp nat_cmp) b a) ≡ above a b
 unfolding above
-compare_start a b e = record { as_long = e; upto = omega arith; same = rw (eq-eqb (length a) (length b) e) }
-
-later_same : (x y : ℕ) (a b : List ℕ) → x ≡ y → later (x ∷ a) (y ∷ b) ≡ later a b
-unfolding later
-later_same x y a b e = rw (eq-eqb x y e)
-
-later_other : (x y : ℕ) (a b : List ℕ) → x ≢ y → later (x ∷ a) (y ∷ b) ≡ ltb y x
-unfolding later
-later_other x y a b d = rw (ne_eqb x y d)
-
-later_none : (b : List ℕ) → later [] b ≡ false
-unfolding later
-later_none b = refl
-
-module _ {a b : List ℕ} {i : ℕ} (P : Comparing a b i) where
-  module _ (h : i < length a) where
-    here : later (drop i a) (drop i b) ≡ later (get_or a i 0 ∷ drop (suc i) a) (get_or b i 0 ∷ drop (suc i) b)
-    here = ap₂ later (drop-cons a i 0 h) (drop-cons b i 0 (omega (arith, P.as_long)))
-
-    pub compare_on : get_or a i 0 ≡ get_or b i 0 → Comparing a b (i + 1)
-    compare_on e =
-        let next : suc i ≡ i + 1 = omega arith in
-        record {
-          as_long = P.as_long;
-          upto = omega arith;
-          same =
-              P.same ∙ here ∙ later_same (get_or a i 0) (get_or b i 0) (drop (suc i) a) (drop (suc i) b) e
-              ∙ ap (λ (k : ℕ). later (drop k a) (drop k b)) next;
-        }
-
-    pub compare_off : get_or a i 0 ≢ get_or b i 0 → ltb (get_or b i 0) (get_or a i 0) ≡ above a b
-    compare_off d = sym (P.same ∙ here ∙ later_other (get_or a i 0) (get_or b i 0) (drop (suc i) a) (drop (suc i) b) d)
-
-  pub compare_end : length a ≤ i → false ≡ above a b
-  compare_end h = sym (P.same ∙ ap (λ (l : List ℕ). later l (drop i b)) (drop_of_length-le a h) ∙ later_none (drop i b))
+above_by_bytes a b e = rw (eq-eqb (length a) (length b) e) (bytes_later a b e)
 
 -- ---- how an entry closes
 
 module _ (s : List ℕ) (end lo hi : ℕ) where
-  pub close_end : end ≡ length s → Range lo hi end ≡ closing end lo hi (drop end s)
+  pub close_end : end ≡ length s → a_run lo hi end ≡ closing end lo hi (drop end s)
   unfolding closing
   close_end e = let h : length s ≤ end = omega (arith, e) in rw (drop_of_length-le s h)
 
@@ -94,7 +72,7 @@ module _ (s : List ℕ) (end lo hi : ℕ) where
     left_bytes : end + 1 ≢ length s → drop end s ≡ get_or s end 0 ∷ get_or s (suc end) 0 ∷ drop (suc (suc end)) s
     left_bytes d = left_byte ∙ ap (λ (l : List ℕ). get_or s end 0 ∷ l) (drop-cons s (suc end) 0 (omega arith))
 
-    pub close_comma : (eqb (get_or s end 0) comma && not (eqb (end + 1) (length s))) ≡ true → Range lo hi (end + 1) ≡ closing end lo hi (drop end s)
+    pub close_comma : (eqb (get_or s end 0) comma && not (eqb (end + 1) (length s))) ≡ true → a_run lo hi (end + 1) ≡ closing end lo hi (drop end s)
     unfolding closing
     close_comma e =
         let r = and_true (eqb (get_or s end 0) comma) (not (eqb (end + 1) (length s))) e in
@@ -103,12 +81,12 @@ module _ (s : List ℕ) (end lo hi : ℕ) where
     last_byte : end + 1 ≡ length s → drop end s ≡ get_or s end 0 ∷ []
     last_byte e = let l : length s ≤ suc end = omega (arith, e) in left_byte ∙ ap (λ (l : List ℕ). get_or s end 0 ∷ l) (drop_of_length-le s l)
 
-    pub close_not : (eqb (get_or s end 0) comma && not (eqb (end + 1) (length s))) ≡ false → Bad ≡ closing end lo hi (drop end s)
+    pub close_not : (eqb (get_or s end 0) comma && not (eqb (end + 1) (length s))) ≡ false → None ≡ closing end lo hi (drop end s)
     unfolding closing
     close_not e = go (either (eqb (end + 1) (length s))) (either (eqb (get_or s end 0) comma))
       where
         go : (eqb (end + 1) (length s) ≡ true) ⊎ (eqb (end + 1) (length s) ≡ false) → (eqb (get_or s end 0) comma ≡ true) ⊎ (eqb (get_or s end 0) comma ≡ false)
-            → Bad ≡ closing end lo hi (drop end s)
+            → None ≡ closing end lo hi (drop end s)
         go (inl q) _ = rw (last_byte (eqb-true (end + 1) (length s) q))
         go (inr q) (inl r) = absurd (clash (rw (q, r)) e)
         go (inr q) (inr r) = rw (left_bytes (eqb-false (end + 1) (length s) q), r)
@@ -119,12 +97,12 @@ module _ (s : List ℕ) (at count : ℕ) (rest : List ℕ) (is : rest ≡ drop (
   digits_are : take count rest ≡ front (drop (at + 1) s)
   digits_are = ap (λ (k : ℕ). take k rest) counted ∙ ap front is
 
-  pub range_zero : no_zero (take count rest) ≡ false → Bad ≡ range_on (take at s) (drop (at + 1) s)
+  pub range_zero : no_zero (take count rest) ≡ false → None ≡ range_on (take at s) (drop (at + 1) s)
   unfolding range_on
   range_zero e = rw (sym (ap no_zero digits_are) ∙ e)
 
   module _ (number : no_zero (take count rest) ≡ true) where
-    pub range_below : above (take at s) (take count rest) ≡ true → Bad ≡ range_on (take at s) (drop (at + 1) s)
+    pub range_below : above (take at s) (take count rest) ≡ true → None ≡ range_on (take at s) (drop (at + 1) s)
     unfolding range_on
     range_below e = rw (sym (ap no_zero digits_are) ∙ number, sym (ap (above (take at s)) digits_are) ∙ e)
 
@@ -165,7 +143,7 @@ module _ (s : List ℕ) (count : ℕ) (counted : count ≡ lead s) where
   left_is : drop count s ≡ drop (lead s) s
   left_is = ap (λ (k : ℕ). drop k s) counted
 
-  pub entry_zero : no_zero (take count s) ≡ false → Bad ≡ entry_at s
+  pub entry_zero : no_zero (take count s) ≡ false → None ≡ entry_at s
   unfolding entry_at
   entry_zero e = rw (sym (ap no_zero front_is) ∙ e)
 

@@ -1,11 +1,17 @@
 -- The entry at the front of a text, as the code takes it from there: what `first_entry` answers of any bytes. That this is the first part of the text, and an
 -- entry exactly where the rules say so, is shown in proofs/Entries.antt.
-use Rattle.std.specs.Prelude.{Bool, true, false, cond, not, ◌&&◌, List, [], ◌∷◌, ℕ, suc, ◌+◌, ◌-◌, eqb, ltb, length, get_or, take, drop}
+use Rattle.std.specs.Prelude.{Bool, true, false, cond, not, ◌&&◌, List, [], ◌∷◌, ℕ, suc, ◌+◌, ◌-◌, eqb, ltb, length, get_or, take, drop, Option, Some, None}
 use Rattle.notice.specs.Addresses.{with_bits}
 use Rattle.spelling.specs.Spelled.{having}
 use Rattle.ranges.specs.Grammar.{comma, dash, high, is_digit, low, no_zero, value}
-use Rattle.list_reader.specs.declared.Entry.{Entry}
-use Rattle.list_reader.specs.declared.Entry.TheVariants.{Range, Bad}
+use Rattle.list_reader.specs.declared.Run.{Run}
+
+-- what is taken of the front of a text: a run of nodes with the bytes that it takes, where an entry stands there
+abbrev pub Entry : Type 0
+Entry = Option Run
+
+abbrev pub a_run : (low high bytes : ℕ) → Entry
+a_run low high bytes = Some (record { low = low; high = high; bytes = bytes })
 
 -- 4,096 stands for every number from there on, as no cube has such a node
 abbrev pub capped : ℕ → ℕ
@@ -30,15 +36,15 @@ above a b = cond (eqb (length a) (length b)) (later a b) (ltb (length b) (length
 
 -- what was read takes `end` bytes: it is an entry where nothing is left of the text, or a comma with something behind it
 unfoldable pub closing : (end low high : ℕ) (left : List ℕ) → Entry
-closing end low high [] = Range low high end
-closing end low high (x ∷ []) = Bad
-closing end low high (x ∷ y ∷ left) = cond (eqb x comma) (Range low high (end + 1)) Bad
+closing end low high [] = a_run low high end
+closing end low high (x ∷ []) = None
+closing end low high (x ∷ y ∷ left) = cond (eqb x comma) (a_run low high (end + 1)) None
 
 -- the number a, a dash, and what is left behind it: the second number is not below the first
 unfoldable pub range_on : (a left : List ℕ) → Entry
 range_on a left =
     cond (no_zero (front left) && not (above a (front left)))
-    (closing (length a + 1 + lead left) (capped (value a)) (capped (value (front left))) (drop (lead left) left)) Bad
+    (closing (length a + 1 + lead left) (capped (value a)) (capped (value (front left))) (drop (lead left) left)) None
 
 -- the number a, and what is left behind it
 unfoldable pub entry_on : (a left : List ℕ) → Entry
@@ -46,7 +52,7 @@ entry_on a [] = closing (length a) (capped (value a)) (capped (value a)) []
 entry_on a (x ∷ left) = cond (eqb x dash) (range_on a left) (closing (length a) (capped (value a)) (capped (value a)) (x ∷ left))
 
 unfoldable pub entry_at : List ℕ → Entry
-entry_at s = cond (no_zero (front s)) (entry_on (front s) (drop (lead s) s)) Bad
+entry_at s = cond (no_zero (front s)) (entry_on (front s) (drop (lead s) s)) None
 
 -- ---- the second pass
 

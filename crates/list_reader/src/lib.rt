@@ -14,13 +14,6 @@ use cube::refusals::Refusal;
 use cube::{is_dimension, nodes, table_len};
 use notice::{clear, set_bit};
 
-// The entry at the front of a text: its first and its last node, 4096 for all from there on, and the bytes that it takes with the comma behind it.
-#[derive(Drop)]
-enum Entry {
-    Range(usize, usize, usize),
-    Bad,
-}
-
 // The digits at the front of a text: how many, and their value, 4096 for all from there on.
 #[derive(Drop)]
 struct Digits {
@@ -28,7 +21,7 @@ struct Digits {
     value: usize,
 }
 
-// A run of nodes at the front of a text, with the bytes that it takes.
+// A run of nodes at the front of a text: its first and its last node, 4096 for all from there on, and the bytes that it takes.
 #[derive(Drop)]
 struct Run {
     low: usize,
@@ -36,21 +29,11 @@ struct Run {
     bytes: usize,
 }
 
-// Whether a byte is a digit.
-fn is_digit(x: u8) -> bool
-    ensures { result ≡ is_digit x }
-{
-    (48 <= x) & (x <= 57)
-}
-
 // Whether a digit stands at a place.
 fn digit_at(s: &[u8], i: usize) -> bool
     ensures { result ≡ is_digit (get_or s.now i 0) }
 {
-    if i < s.len() {
-        return is_digit(s[i]);
-    }
-    false
+    i < s.len() && s[i].is_ascii_digit()
 }
 
 // The value of digits with one more digit behind them.
@@ -58,17 +41,14 @@ fn and_digit(v: usize, x: u8) -> usize
     requires { (v ≤ 4096) × (is_digit x ≡ true) }
     ensures { result ≡ 10 * v + (x - 48) }
 {
-    10 * v + (x - 48) as usize
+    10 * v + (x - b'0') as usize
 }
 
 // A value, 4096 for all from there on.
 fn cap(v: usize) -> usize
     ensures { result ≡ capped v }
 {
-    if v < 4096 {
-        return v;
-    }
-    4096
+    v.min(4096)
 }
 
 // The digits from a place on, behind others of a known value.
@@ -91,15 +71,13 @@ fn leading(s: &[u8]) -> Digits
     ensures value { result.value ≡ capped (value (front s.now)) }
 {
     let mut value: usize = 0;
-    let mut count: usize = 0;
-    while count < 4 {
+    for count in 0..4 {
         if !digit_at(s, count) {
             return Digits { count, value };
         }
         value = and_digit(value, s[count]);
-        count += 1;
     }
-    more_digits(s, count, value)
+    more_digits(s, 4, value)
 }
 
 // Whether so many digits at the front are a number: there is one, and the first of several is not 0.
@@ -110,43 +88,44 @@ fn is_number(s: &[u8], count: usize) -> bool
     if count == 0 {
         return false;
     }
-    (s[0] != 48) | (count == 1)
+    (s[0] != b'0') | (count == 1)
 }
 
-// Whether the first number is above the second, by their digits: the count of them, then one by one. Numbers are never cut short for this.
+// Whether the first number is above the second, by their digits: the count of them, and then their order as bytes. Numbers are never cut short for this.
 fn is_above(a: &[u8], b: &[u8]) -> bool
     ensures { result ≡ above a.now b.now }
 {
     if a.len() != b.len() {
         return b.len() < a.len();
     }
-    let mut i: usize = 0;
-    while i < a.len() {
-        if a[i] != b[i] {
-            return b[i] < a[i];
-        }
-        i += 1;
-    }
-    false
+    b < a
 }
 
 // What was read up to a place is an entry where the text ends there, or where a comma stands there and something behind it.
-fn close(s: &[u8], end: usize, low: usize, high: usize) -> Entry
+fn close(s: &[u8], end: usize, low: usize, high: usize) -> Option<Run>
     requires { end ≤ length s.now }
     ensures { result ≡ closing end low high (drop end s.now) }
 {
     if end == s.len() {
-        return Entry::Range(low, high, end);
+        return Some(Run {
+            low,
+            high,
+            bytes: end,
+        });
     }
     let next = end + 1;
-    if (s[end] == 44) & (next != s.len()) {
-        return Entry::Range(low, high, next);
+    if (s[end] == b',') & (next != s.len()) {
+        return Some(Run {
+            low,
+            high,
+            bytes: next,
+        });
     }
-    Entry::Bad
+    None
 }
 
 // The second number of a range, behind the dash at a place, where the first one ends.
-fn range(s: &[u8], at: usize, low: usize) -> Entry
+fn range(s: &[u8], at: usize, low: usize) -> Option<Run>
     requires { (at < length s.now) × (low ≡ capped (value (take at s.now))) }
     ensures { result ≡ range_on (take at s.now) (drop (at + 1) s.now) }
 {
@@ -154,25 +133,25 @@ fn range(s: &[u8], at: usize, low: usize) -> Entry
     let rest = &s[start..];
     let second = leading(rest);
     if !is_number(rest, second.count) {
-        return Entry::Bad;
+        return None;
     }
     if is_above(&s[..at], &rest[..second.count]) {
-        return Entry::Bad;
+        return None;
     }
     close(s, start + second.count, low, second.value)
 }
 
 // The entry at the front of a text.
-fn first_entry(s: &[u8]) -> Entry
+fn first_entry(s: &[u8]) -> Option<Run>
     ensures { result ≡ entry_at s.now }
 {
     let first = leading(s);
     let at = first.count;
     if !is_number(s, at) {
-        return Entry::Bad;
+        return None;
     }
     if at < s.len() {
-        if s[at] == 45 {
+        if s[at] == b'-' {
             return range(s, at, first.value);
         }
     }
@@ -187,12 +166,11 @@ fn check(text: &[u8], size: usize) -> Result<(), Refusal>
     let mut far: bool = false;
     let mut at: usize = 0;
     while at < text.len() {
-        let found = first_entry(&text[at..]);
-        let Entry::Range(_, high, taken) = found else {
+        let Some(found) = first_entry(&text[at..]) else {
             return Err(Refusal::Text);
         };
-        far = far | (size <= high);
-        at += taken;
+        far = far | (size <= found.high);
+        at += found.bytes;
     }
     if far {
         return Err(Refusal::Address);
@@ -226,7 +204,7 @@ fn run_at(s: &[u8]) -> Run
     let first = leading(s);
     let at = first.count;
     if at < s.len() {
-        if s[at] == 45 {
+        if s[at] == b'-' {
             let start = at + 1;
             let second = leading(&s[start..]);
             return Run {
