@@ -7,15 +7,17 @@ use Prim.Native.Nat.{ℕ, ◌+◌, ◌*◌, ◌/◌, ◌%◌, ◌<◌}
 use native.Mathlib.Omega.{arith}
 use lib.Dec.{eqb, leb}
 use lib.ListN.{get_or, length}
-use borrow.Author.Tests.{eqb-false, eqb-true}
+use borrow.Author.Tests.{eqb-true, ne_eqb}
+use Rattle.std.specs.Prelude.{Result, Ok, Err}
+use Rattle.cube.specs.Refused.{number, refusal}
+use Rattle.cube.specs.declared.refusals.Refusal.{Refusal}
 use Rattle.cube.specs.Tables.{tab}
 use Rattle.cube.proofs.Bools.{by_cases}
 use Rattle.cube.proofs.Front.{get_d_tab, tab_cong}
 use Rattle.cube.proofs.Tables.{nodes_few}
 use Rattle.jobs.specs.Jobs.{label_for}
-use Rattle.rule.specs.Cabinet.{Cabinet, exchanges_of}
+use Rattle.rule.specs.Cabinet.{Cabinet}
 use Rattle.labels.specs.Labelling as L
-use Rattle.labels.specs.declared.Labelled.TheVariants as labelled
 use Rattle.walk.specs.Walk as W
 use Rattle.walk.specs.declared.Ending.{Ending}
 use Rattle.walk.specs.declared.Ending.TheVariants as ending
@@ -45,25 +47,18 @@ use Rattle.hcube.specs.Decoded.{
 use Rattle.hcube.proofs.DecodedNotices.{dimension_decoded, list_decoded, list_refused, notice_decoded, repair_refused, written_decoded}
 use Rattle.hcube.proofs.DecodedHops.{channels_decoded, hop_decoded, hop_networks_decoded, walk_networks_decoded}
 use Rattle.hcube.proofs.DecodedReasons.{hop_reason_decoded, node_reason_decoded}
-use Rattle.hcube.proofs.Parts.{accepted, cut, kind_is, refusal_is, refused, value_is}
+use Rattle.hcube.proofs.Parts.{accepted, cut, few, kind_is, refusal_back, refusal_is, refuses, some, value_is}
 use Rattle.hcube.proofs.Small.{LabelFits, has-row, label_small, walk_small, written}
 
 -- ---- labelling
 
-module _ (K : Cabinet) (j m : ℕ) where
-  abbrev label_k : ℕ
-  label_k = L.label_refusal K j m
+labelled_back : (a : Result ℕ Refusal) → LabelFits a → labelled_from (label_number a) ≡ a
+unfolding labelled_from
+labelled_back (Ok v) f = accepted _ (refusal_is 0 0 v (omega arith) (omega arith) f) (value_is 0 0 v f)
+labelled_back (Err r) f = refuses _ _ r (refusal_is (number r) 0 0 (few r) (omega arith) (omega arith))
 
-  label_decoded : labelled_from (label_number (L.labelled K j m)) ≡ L.labelled K j m
-  unfolding L.labelled labelled_from
-  label_decoded =
-      by_cases (λ a. LabelFits a → labelled_from (label_number a) ≡ a) (eqb label_k 0)
-      (λ _ f. accepted (labelled.Exchanges (value_part (packed 0 0 (exchanges_of K)))) labelled.Refused (refusal_part (packed 0 0 (exchanges_of K)))
-      (refusal_is 0 0 (exchanges_of K) (omega arith) (omega arith) f.1)
-      ∙ ap labelled.Exchanges (value_is 0 0 (exchanges_of K) f.1))
-      (λ e f. refused (labelled.Exchanges (value_part (packed label_k 0 0))) labelled.Refused (refusal_part (packed label_k 0 0)) label_k
-      (refusal_is label_k 0 0 f.0 (omega arith) (omega arith)) (eqb-false label_k 0 e))
-      (label_small K j m)
+label_decoded : (K : Cabinet) (j m : ℕ) → labelled_from (label_number (L.labelled K j m)) ≡ L.labelled K j m
+label_decoded K j m = labelled_back (L.labelled K j m) (label_small K j m)
 
 -- ---- the walk
 
@@ -97,17 +92,17 @@ row_decoded f small =
     (λ k h. let e = get_d_tab 17 f k h in node_decoded (tab 17 f) k h (omega (arith, small k h)) ∙ e)
 
 -- the kind, the count and the row of a walk that has a row
-module _ (w : Walked) (fits : W.refusal_of w.ending < 256) (few : w.hops < 65536) where
+module _ (w : Walked) (few_hops : w.hops < 65536) where
   abbrev walk-number : ℕ
   walk-number = walk_number w
 
   none : (kind : ℕ) → kind < 256 → refusal_part (packed 0 kind w.hops) ≡ 0
-  none kind h = refusal_is 0 kind w.hops (omega arith) h few
+  none kind h = refusal_is 0 kind w.hops (omega arith) h few_hops
 
   ended : (e : Ending) → has_row e ≡ true → w.ending ≡ e
       → (refusal_part walk-number ≡ 0) × (value_part walk-number ≡ w.hops) × (ending_from (kind_part walk-number) ≡ e)
-  ended ending.Delivered h e = rw e (none 0 (omega arith), value_is 0 0 w.hops few, rw (kind_is 0 0 w.hops (omega arith) few))
-  ended ending.Halted h e = rw e (none 1 (omega arith), value_is 0 1 w.hops few, rw (kind_is 0 1 w.hops (omega arith) few))
+  ended ending.Delivered h e = rw e (none 0 (omega arith), value_is 0 0 w.hops few_hops, rw (kind_is 0 0 w.hops (omega arith) few_hops))
+  ended ending.Halted h e = rw e (none 1 (omega arith), value_is 0 1 w.hops few_hops, rw (kind_is 0 1 w.hops (omega arith) few_hops))
   ended (ending.Refused k) h e = let z : ◌≡◌ {A = ℕ} 0 1 = cc in absurd (omega arith)
 
   ended_decoded : (before : List ℕ) → has_row w.ending ≡ true → tab 17 (node_at (tab W.row_bytes (row_byte w.row))) ≡ w.row
@@ -116,18 +111,13 @@ module _ (w : Walked) (fits : W.refusal_of w.ending < 256) (few : w.hops < 65536
   ended_decoded before h r =
       let t = ended w.ending h refl in
       ap (walked_from walk-number) (sym (written w before h))
-      ∙ accepted
-      (record { row = tab 17 (node_at (tab W.row_bytes (row_byte w.row))); hops = value_part walk-number; ending = ending_from (kind_part walk-number) })
-      W.refused
-      (refusal_part walk-number) t.0
-      ∙ rw (r, t.1, t.2)
+      ∙ rw (t.0, r, t.1, t.2)
 
-refused_decoded : (before : List ℕ) (k : ℕ) → k < 256 → (k ≡ 0 → ⊥) → walked_from (walk_number (W.refused k)) (row_after (W.refused k) before) ≡ W.refused k
+refused_decoded : (before : List ℕ) (k : ℕ) → walked_from (walk_number (W.refused k)) (row_after (W.refused k) before) ≡ W.refused k
 unfolding walked_from W.refused
-refused_decoded before k l h =
-    refused (record { row = tab 17 (node_at (row_after (W.refused k) before)); hops = value_part (packed k 0 0); ending = ending_from (kind_part (packed k 0 0)) })
-    W.refused
-    (refusal_part (packed k 0 0)) k (refusal_is k 0 0 l (omega arith) (omega arith)) h
+refused_decoded before k =
+    let r : Refusal = refusal k in
+    rw (refusal_is (number r) 0 0 (few r) (omega arith) (omega arith), ne_eqb (number r) 0 (some r), refusal_back r)
 
 module _ (n j s d : ℕ) (labels before : List ℕ) where
   abbrev lab : ℕ → ℕ
@@ -146,12 +136,12 @@ module _ (n j s d : ℕ) (labels before : List ℕ) where
       (λ _. omega (arith, spot_lt n lab d s p.first k, nodes_few n p.halved.small)) (λ _. omega arith))
 
   walk_decoded : walked_from (walk_number (walked_by n j s d labels before)) (row_after (walked_by n j s d labels before) before) ≡ walked_by n j s d labels before
-  unfolding W.walked W.walk_from W.refused
+  unfolding W.walked W.walk_from
   walk_decoded =
       by_cases (λ w. WalkFits w → walked_from (walk_number w) (row_after w before) ≡ w) (eqb walk_k 0)
-      (λ e f. ended_decoded (W.walk_from n (W.route n lab d) s) f.0 f.1 before
+      (λ e f. ended_decoded (W.walk_from n (W.route n lab d) s) f before
       (has-row n j s d (length labels) (length before) lab (eqb-true walk_k 0 e)) (row_back (eqb-true walk_k 0 e)))
-      (λ e f. refused_decoded before walk_k f.0 (eqb-false walk_k 0 e))
+      (λ _ f. refused_decoded before walk_k)
       (walk_small n j s d (length labels) (length before) lab)
 
 pub decodes : Decodes

@@ -1,10 +1,12 @@
 -- A reason comes out of its number as it was put in. A node's label tells the cases apart, and of an unsafe node the number of its cause and the rule.
-use mathlib.Core.Path.{◌≡◌, refl, ap, ◌∙◌}
+use mathlib.Core.Path.{◌≡◌, refl, ap, subst, ◌∙◌}
 use Prim.Native.Nat.{ℕ, ◌+◌, ◌*◌, ◌≤◌, ◌<◌}
 use native.Mathlib.Omega.{arith}
-use lib.Dec.{eqb}
-use borrow.Author.Tests.{eqb-false, eqb-true, le-leb, lt-leb, ne_eqb}
-use Rattle.cube.proofs.Bools.{by_cases}
+use borrow.Author.Tests.{le-leb, lt-leb, ne_eqb}
+use Rattle.std.specs.Prelude.{Result, Ok, Err}
+use Rattle.cube.specs.Refused.{number}
+use Rattle.cube.specs.declared.refusals.Refusal.{Refusal}
+use Rattle.cube.proofs.Refused as cube
 use Rattle.rule.specs.Cabinet.{Cabinet}
 use Rattle.causes.specs.Laws.{TrueCause, faulty, three, two}
 use Rattle.causes.specs.declared.Cause.{Cause}
@@ -18,7 +20,7 @@ use Rattle.why.specs.declared.HopReason.TheVariants as reason
 use Rattle.why.specs.declared.NodeReason.{NodeReason}
 use Rattle.why.specs.declared.NodeReason.TheVariants as node
 use Rattle.why.proofs.Laws.{why_laws}
-use Rattle.why.proofs.Refusal.{accepted}
+use Rattle.why.proofs.Refusal as refusing
 use Rattle.hcube.specs.Answers.{hop_reason_number, node_reason_number, packed}
 use Rattle.hcube.specs.Decoded.{
   across_part,
@@ -34,22 +36,23 @@ use Rattle.hcube.specs.Decoded.{
   third_part,
   value_part,
 }
-use Rattle.hcube.proofs.Parts.{cause_is, first_is, kind_is, reason_shows, refusal_is, second_is, third_is, value_is}
-use Rattle.hcube.proofs.Reasons.{HopReasonFits, NodeFits, hop_reason_small, node_small}
+use Rattle.hcube.specs.Fits.{ScanFits}
+use Rattle.hcube.proofs.Parts.{cause_is, few, first_is, kind_is, reason_shows, refusal_is, refuses, second_is, third_is, value_is}
+use Rattle.hcube.proofs.Reasons.{NodeFits, hop_reason_small, node_small}
 
 -- ---- a hop
 
-hop_back : (a : HopReason) → HopReasonFits a → hop_reason_from (hop_reason_number a) ≡ a
+hop_back : (a : Result HopReason Refusal) → ((b : HopReason) → a ≡ Ok b → ScanFits b) → hop_reason_from (hop_reason_number a) ≡ a
 unfolding hop_reason_from
-hop_back reason.Deliver f = refl
-hop_back (reason.Hop s i) f =
-    let v : s * 256 + i < 65536 = omega (arith, f.0, f.1) in
-    let t : scan_part (packed 0 1 (s * 256 + i)) ≡ s = omega (arith, f.0, f.1) in
-    let u : across_part (packed 0 1 (s * 256 + i)) ≡ i = omega (arith, f.0, f.1) in
+hop_back (Ok reason.Deliver) f = refl
+hop_back (Ok (reason.Hop s i)) f =
+    let b = f (reason.Hop s i) refl in
+    let v : s * 256 + i < 65536 = omega (arith, b.0, b.1) in
+    let t : scan_part (packed 0 1 (s * 256 + i)) ≡ s = omega (arith, b.0, b.1) in
+    let u : across_part (packed 0 1 (s * 256 + i)) ≡ i = omega (arith, b.0, b.1) in
     rw (refusal_is 0 1 (s * 256 + i) (omega arith) (omega arith) v, kind_is 0 1 (s * 256 + i) (omega arith) v, t, u)
-hop_back reason.Halted f = refl
-hop_back (reason.Refused k) f =
-    rw (refusal_is k 0 0 f.1 (omega arith) (omega arith), ne_eqb k 0 (λ z. omega (arith, f.0)))
+hop_back (Ok reason.Halted) f = refl
+hop_back (Err r) f = refuses _ _ r (refusal_is (number r) 0 0 (few r) (omega arith) (omega arith))
 
 pub hop_reason_decoded : (n j c d m : ℕ) (lab : ℕ → ℕ) → hop_reason_from (hop_reason_number (hop_reason n j c d m lab)) ≡ hop_reason n j c d m lab
 hop_reason_decoded n j c d m lab = hop_back (hop_reason n j c d m lab) (hop_reason_small n j c d m lab)
@@ -65,7 +68,6 @@ abbrev Shaped : (rule : ℕ) → NodeReason → Type 0
 Shaped rule (node.Safe a b) = Unit {0}
 Shaped rule (node.Unsafe l r c) = (1 ≤ l) × (l ≤ 2) × CauseShaped rule c
 Shaped rule (node.Out l) = 3 ≤ l
-Shaped rule (node.Refused k) = 1 ≤ k
 
 cause_shaped : (n k : ℕ) (Out Earlier : ℕ → Type 0) (x : ℕ) (c : Cause) → TrueCause n k Out Earlier x c → CauseShaped k c
 cause_shaped n k Out Earlier x _ (faulty L) = tt
@@ -77,43 +79,43 @@ explained_shaped K lab x _ (is-out o e h) = h
 explained_shaped K lab x _ (is_safe z f b) = tt
 explained_shaped K lab x _ (is-unsafe e h M r {c} t) = (h.0, h.1, cause_shaped K.n K.rule _ _ x c t)
 
-node_shaped : (K : Cabinet) (j m x : ℕ) → Shaped K.rule (Y.node_reason K j m x)
+node_shaped : (K : Cabinet) (j m x : ℕ) (a : NodeReason) → Y.node_reason K j m x ≡ Ok a → Shaped K.rule a
 unfolding Y.node_reason
-node_shaped K j m x =
-    by_cases (Shaped K.rule) (eqb (Y.node_refusal K j m x) 0)
-    (λ e. let a = accepted K j m x (eqb-true (Y.node_refusal K j m x) 0 e) in
-    let r = (fitting K j m a.0).rule in
-    explained_shaped K _ x (Y.reason_of K x) (why_laws.node K r.0 r.1 x a.1))
-    (λ e. let z = eqb-false (Y.node_refusal K j m x) 0 e in omega (arith, z))
+node_shaped K j m x a e =
+    let p = cube.accepted (Y.node_refusal K j m x) (Y.reason_of K x) a e in
+    let q = refusing.accepted K j m x p.0 in
+    let r = (fitting K j m q.0).rule in
+    subst (Shaped K.rule) p.1 (explained_shaped K _ x (Y.reason_of K x) (why_laws.node K r.0 r.1 x q.1))
 
 -- its parts are those that were put in
 record Back (a : NodeReason) : Type 0 where
-  refusal : refusal_part (node_reason_number a) ≡ Y.refusal_of a
-  kind : kind_part (node_reason_number a) ≡ Y.kind_of a
-  value : value_part (node_reason_number a) ≡ Y.value_of a
-  cause : cause_part (node_reason_number a) ≡ Y.cause_in a
-  first : first_part (node_reason_number a) ≡ Y.first_of a
-  second : second_part (node_reason_number a) ≡ Y.second_of a
-  third : third_part (node_reason_number a) ≡ Y.third_of a
+  refusal : refusal_part (node_reason_number (Ok a)) ≡ 0
+  kind : kind_part (node_reason_number (Ok a)) ≡ Y.kind_of (Ok a)
+  value : value_part (node_reason_number (Ok a)) ≡ Y.value_of (Ok a)
+  cause : cause_part (node_reason_number (Ok a)) ≡ Y.cause_in (Ok a)
+  first : first_part (node_reason_number (Ok a)) ≡ Y.first_of (Ok a)
+  second : second_part (node_reason_number (Ok a)) ≡ Y.second_of (Ok a)
+  third : third_part (node_reason_number (Ok a)) ≡ Y.third_of (Ok a)
 
-back : (a : NodeReason) → NodeFits a → Back a
-back a f =
+back : (b : NodeReason) → NodeFits b → Back b
+back b f =
+    let a : Result NodeReason Refusal = Ok b in
     let h : Y.kind_of a < 256 = omega (arith, f.kind) in
     let v : Y.value_of a < 65536 = omega (arith, f.value) in
-    let l : packed (Y.refusal_of a) (Y.kind_of a) (Y.value_of a) < 4294967296 = omega (arith, f.refusal) in
+    let l : packed 0 (Y.kind_of a) (Y.value_of a) < 4294967296 = omega arith in
     let c : Y.cause_in a < 256 = omega (arith, f.cause) in
     let t : Y.third_of a < 256 = omega (arith, f.third) in
     let s : Y.second_of a < 256 = omega (arith, f.second) in
     let i : Y.first_of a < 256 = omega (arith, f.first) in
-    let shown = reason_shows (Y.cause_in a) (Y.third_of a) (Y.second_of a) (Y.first_of a) (packed (Y.refusal_of a) (Y.kind_of a) (Y.value_of a)) c t s i l in
+    let shown = reason_shows (Y.cause_in a) (Y.third_of a) (Y.second_of a) (Y.first_of a) (packed 0 (Y.kind_of a) (Y.value_of a)) c t s i l in
     record {
-      refusal = shown.refusal ∙ refusal_is (Y.refusal_of a) (Y.kind_of a) (Y.value_of a) f.refusal h v;
-      kind = shown.kind ∙ kind_is (Y.refusal_of a) (Y.kind_of a) (Y.value_of a) h v;
-      value = shown.value ∙ value_is (Y.refusal_of a) (Y.kind_of a) (Y.value_of a) v;
-      cause = cause_is (Y.cause_in a) (Y.third_of a) (Y.second_of a) (Y.first_of a) (packed (Y.refusal_of a) (Y.kind_of a) (Y.value_of a)) c t s i l;
-      first = first_is (Y.cause_in a) (Y.third_of a) (Y.second_of a) (Y.first_of a) (packed (Y.refusal_of a) (Y.kind_of a) (Y.value_of a)) c t s i l;
-      second = second_is (Y.cause_in a) (Y.third_of a) (Y.second_of a) (Y.first_of a) (packed (Y.refusal_of a) (Y.kind_of a) (Y.value_of a)) c t s i l;
-      third = third_is (Y.cause_in a) (Y.third_of a) (Y.second_of a) (Y.first_of a) (packed (Y.refusal_of a) (Y.kind_of a) (Y.value_of a)) c t s i l;
+      refusal = shown.refusal ∙ refusal_is 0 (Y.kind_of a) (Y.value_of a) (omega arith) h v;
+      kind = shown.kind ∙ kind_is 0 (Y.kind_of a) (Y.value_of a) h v;
+      value = shown.value ∙ value_is 0 (Y.kind_of a) (Y.value_of a) v;
+      cause = cause_is (Y.cause_in a) (Y.third_of a) (Y.second_of a) (Y.first_of a) (packed 0 (Y.kind_of a) (Y.value_of a)) c t s i l;
+      first = first_is (Y.cause_in a) (Y.third_of a) (Y.second_of a) (Y.first_of a) (packed 0 (Y.kind_of a) (Y.value_of a)) c t s i l;
+      second = second_is (Y.cause_in a) (Y.third_of a) (Y.second_of a) (Y.first_of a) (packed 0 (Y.kind_of a) (Y.value_of a)) c t s i l;
+      third = third_is (Y.cause_in a) (Y.third_of a) (Y.second_of a) (Y.first_of a) (packed 0 (Y.kind_of a) (Y.value_of a)) c t s i l;
     }
 
 -- the cause, by the rule
@@ -122,17 +124,27 @@ cause_back rule (cause.Faulty a b) h = refl
 cause_back rule (cause.Two a b) h = rw h
 cause_back rule (cause.Three a b c) h = rw h
 
-node_back : (rule : ℕ) (a : NodeReason) → NodeFits a → Shaped rule a → node_reason_from rule (node_reason_number a) ≡ a
+reason_back : (rule : ℕ) (a : NodeReason) → NodeFits a → Shaped rule a → node_reason_from rule (node_reason_number (Ok a)) ≡ Ok a
 unfolding node_reason_from
-node_back rule (node.Safe x y) f s = let B = back (node.Safe x y) f in rw (B.refusal, B.kind, B.first, B.second)
-node_back rule (node.Unsafe l r c) f s =
+reason_back rule (node.Safe x y) f s = let B = back (node.Safe x y) f in rw (B.refusal, B.kind, B.first, B.second)
+reason_back rule (node.Unsafe l r c) f s =
     let B = back (node.Unsafe l r c) f in
     rw (B.refusal, B.kind, ne_eqb l 0 (λ z. omega (arith, s.0)), lt-leb 3 l (omega (arith, s.1)), B.value, B.cause, B.first, B.second, B.third)
-    (ap (node.Unsafe l r) (cause_back rule c s.2))
-node_back rule (node.Out l) f s =
+    (ap (λ (q : Cause). Ok (node.Unsafe l r q)) (cause_back rule c s.2))
+reason_back rule (node.Out l) f s =
     let B = back (node.Out l) f in
     rw (B.refusal, B.kind, ne_eqb l 0 (λ z. omega arith), le-leb 3 l s)
-node_back rule (node.Refused k) f s = let B = back (node.Refused k) f in rw (B.refusal, ne_eqb k 0 (λ z. omega arith))
+
+-- a refusal has nothing above its number
+refusal_alone : (rule : ℕ) (r : Refusal) → node_reason_from rule (node_reason_number (Err r)) ≡ Err r
+unfolding node_reason_from
+refusal_alone rule r =
+    let e : node_reason_number (Err r) ≡ packed (number r) 0 0 = omega arith in
+    refuses _ _ r (ap refusal_part e ∙ refusal_is (number r) 0 0 (few r) (omega arith) (omega arith))
 
 pub node_reason_decoded : (K : Cabinet) (j m x : ℕ) → node_reason_from K.rule (node_reason_number (Y.node_reason K j m x)) ≡ Y.node_reason K j m x
-node_reason_decoded K j m x = node_back K.rule (Y.node_reason K j m x) (node_small K j m x) (node_shaped K j m x)
+node_reason_decoded K j m x = go (Y.node_reason K j m x) refl
+  where
+    go : (a : Result NodeReason Refusal) → Y.node_reason K j m x ≡ a → node_reason_from K.rule (node_reason_number a) ≡ a
+    go (Ok a) e = reason_back K.rule a (node_small K j m x a e) (node_shaped K j m x a e)
+    go (Err r) e = refusal_alone K.rule r

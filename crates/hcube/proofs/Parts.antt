@@ -1,11 +1,34 @@
 -- The parts of a packed number: where they are small they come out as they were put in, and what stands above the low 32 bits is in none of the three that
 -- every answer has.
-use mathlib.Core.Bool.{cond}
-use mathlib.Core.Path.{◌≡◌}
-use Prim.Native.Nat.{ℕ, ◌+◌, ◌*◌, ◌/◌, ◌%◌, ◌≤◌, ◌<◌}
+use mathlib.Core.Logic.{◌≢◌}
+use mathlib.Core.Path.{◌≡◌, refl, sym, ap, ◌∙◌}
+use Prim.Native.Nat.{ℕ, zero, suc, ◌+◌, ◌*◌, ◌/◌, ◌%◌, ◌≤◌, ◌<◌}
 use native.Mathlib.Omega.{arith}
-use lib.Dec.{eqb}
-use borrow.Author.Tests.{ne_eqb}
+use Rattle.std.specs.Prelude.{Ok, Err}
+use Rattle.cube.specs.Refused.{answered, number, refusal}
+use Rattle.cube.specs.declared.refusals.Refusal.{Refusal}
+use Rattle.cube.specs.declared.refusals.Refusal.TheVariants.{
+  Dimension,
+  Length,
+  Unused,
+  Label,
+  Node,
+  Source,
+  Destination,
+  Hops,
+  Cut,
+  Group,
+  Count,
+  Address,
+  Room,
+  Text,
+  Board,
+  Network,
+  Mask,
+  Rule,
+  Job,
+}
+use Rattle.cube.proofs.Refused.{number_range}
 use Rattle.hcube.specs.Answers.{packed, packed_notice, packed_reason}
 use Rattle.hcube.specs.Decoded.{
   Shows,
@@ -29,12 +52,41 @@ kind_is k kind v a b = omega arith
 pub value_is : (k kind v : ℕ) → v < 65536 → value_part (packed k kind v) ≡ v
 value_is k kind v b = omega arith
 
--- the choice by a number's refusal
-pub accepted : {A : Type 0} (x : A) (y : ℕ → A) (k : ℕ) → k ≡ 0 → cond (eqb k 0) x (y k) ≡ x
-accepted x y k e = rw e
+-- a refusal's number is small, and it is that of its answer
+pub few : (r : Refusal) → number r < 256
+few r = omega (arith, (number_range r).1)
 
-pub refused : {A : Type 0} (x : A) (y : ℕ → A) (k j : ℕ) → k ≡ j → (j ≡ 0 → ⊥) → cond (eqb k 0) x (y k) ≡ y j
-refused x y k j e h = rw (e, ne_eqb j 0 h)
+pub some : (r : Refusal) → number r ≢ 0
+some r z = omega (arith, (number_range r).0)
+
+pub refusal_back : (r : Refusal) → refusal (number r) ≡ r
+refusal_back Dimension = refl
+refusal_back Length = refl
+refusal_back Unused = refl
+refusal_back Label = refl
+refusal_back Node = refl
+refusal_back Source = refl
+refusal_back Destination = refl
+refusal_back Hops = refl
+refusal_back Cut = refl
+refusal_back Group = refl
+refusal_back Count = refl
+refusal_back Address = refl
+refusal_back Room = refl
+refusal_back Text = refl
+refusal_back Board = refl
+refusal_back Network = refl
+refusal_back Mask = refl
+refusal_back Rule = refl
+refusal_back Job = refl
+
+-- the answer by a packed number: accepted, and refused
+pub accepted : {A : Type 0} (k : ℕ) {x y : A} → k ≡ 0 → x ≡ y → answered k x ≡ Ok y
+accepted k e f = rw (e, f)
+
+pub refuses : {A : Type 0} (k : ℕ) (x : A) (r : Refusal) → k ≡ number r → answered k x ≡ Err r
+refuses zero x r e = absurd (some r (sym e))
+refuses (suc k) x r e = ap (λ (j : ℕ). Err (refusal j)) e ∙ ap Err (refusal_back r)
 
 -- what stands above the low 32 bits is in none of the three
 pub shows : (high low : ℕ) → Shows (high * 4294967296 + low) low

@@ -1,14 +1,16 @@
 -- The parts of a reason are small too: a label is at most 4, a round at most 4097, a dimension or a count of neighbours at most 12, and a scan is one of six.
 use mathlib.Core.Bool.{Bool, not}
+use mathlib.Core.Path.{◌≡◌, subst}
 use Prim.Native.Nat.{ℕ, ◌^◌, ◌≤◌, ◌<◌}
 use native.Mathlib.Omega.{arith}
 use lib.Dec.{eqb, leb}
-use borrow.Author.Tests.{eqb-false, eqb-true}
+use Rattle.std.specs.Prelude.{Ok}
 use Rattle.cube.specs.Count.{count}
 use Rattle.cube.specs.Cube.{flip}
 use Rattle.cube.specs.Tables.{highest}
 use Rattle.cube.proofs.Bools.{by_cases}
 use Rattle.cube.proofs.Count.{count_bound}
+use Rattle.cube.proofs.Refused as cube
 use Rattle.rule.specs.Cabinet.{Cabinet, exchanges_of, faulty, out, out_byte}
 use Rattle.rule.specs.Rule.{label, marked, safe}
 use Rattle.rule.proofs.Cabinet.{exchanges_few, label-bytes, label-in}
@@ -24,25 +26,27 @@ use Rattle.labels.proofs.Refusal.{fitting}
 use Rattle.why.specs.HopReasons as X
 use Rattle.why.specs.NodeReasons as Y
 use Rattle.why.specs.declared.HopReason.{HopReason}
-use Rattle.why.specs.declared.HopReason.TheVariants.{Deliver, Hop, Halted, Refused}
 use Rattle.why.specs.declared.NodeReason.{NodeReason}
 use Rattle.why.specs.declared.NodeReason.TheVariants.{Safe, Unsafe, Out}
 use Rattle.why.specs.Laws.{HopExplained, arrived, stopped, took}
 use Rattle.why.proofs.Laws.{hop_explained}
-use Rattle.why.proofs.Refusal.{accepted, refusal_le}
-use Rattle.hcube.specs.Fits.{CauseFits}
-use Rattle.hcube.proofs.Small.{hop-refusal}
+use Rattle.why.proofs.Refusal.{accepted}
+use Rattle.hcube.specs.Fits.{CauseFits, ReasonFits, ScanFits}
 
 -- ---- a node
 
 pub record NodeFits (a : NodeReason) : Type 0 where
-  pub refusal : Y.refusal_of a < 256
-  pub kind : Y.kind_of a ≤ highest
-  pub value : Y.value_of a ≤ 4097
-  pub cause : Y.cause_in a ≤ 2
-  pub first : Y.first_of a ≤ 12
-  pub second : Y.second_of a ≤ 12
-  pub third : Y.third_of a ≤ 12
+  pub kind : Y.kind_of (Ok a) ≤ highest
+  pub value : Y.value_of (Ok a) ≤ 4097
+  pub cause : Y.cause_in (Ok a) ≤ 2
+  pub first : Y.first_of (Ok a) ≤ 12
+  pub second : Y.second_of (Ok a) ≤ 12
+  pub third : Y.third_of (Ok a) ≤ 12
+
+pub reason_fits : (a : NodeReason) → NodeFits a → ReasonFits a
+reason_fits (Safe x y) f = (f.first, f.second)
+reason_fits (Unsafe l r c) f = (f.value, (f.first, f.second, f.third))
+reason_fits (Out l) f = tt
 
 cause_few : (c : Cause) → Y.cause_number c ≤ 2
 cause_few (cause.Faulty a b) = omega arith
@@ -79,7 +83,6 @@ module _ (K : Cabinet) (x : ℕ) (small : K.n ≤ 12) (inside : x < 2 ^ K.n) whe
       of_out : NodeFits (Out (out_byte K x))
       of_out =
           record {
-            refusal = omega arith;
             kind = by_cases (λ b. b ≤ highest) (faulty K x) (λ _. omega arith) (λ _. omega arith);
             value = omega arith;
             cause = omega arith;
@@ -91,7 +94,6 @@ module _ (K : Cabinet) (x : ℕ) (small : K.n ≤ 12) (inside : x < 2 ^ K.n) whe
       of_safe : NodeFits (Safe (count n (λ i. out K (flip i x))) (count n (λ i. not (safe n K.rule (out K) (flip i x)))))
       of_safe =
           record {
-            refusal = omega arith;
             kind = omega arith;
             value = omega arith;
             cause = omega arith;
@@ -104,7 +106,6 @@ module _ (K : Cabinet) (x : ℕ) (small : K.n ≤ 12) (inside : x < 2 ^ K.n) whe
       of_unsafe =
           let fits = cause_small n K.rule (out K) (marked n K.rule (out K) (earlier n K.rule (out K) x)) x small in
           record {
-            refusal = omega arith;
             kind = label_small;
             value = round_small;
             cause = cause_few (cause_of n K.rule (out K) x);
@@ -113,38 +114,22 @@ module _ (K : Cabinet) (x : ℕ) (small : K.n ≤ 12) (inside : x < 2 ^ K.n) whe
             third = fits.2;
           }
 
-pub node_small : (K : Cabinet) (j m x : ℕ) → NodeFits (Y.node_reason K j m x)
+pub node_small : (K : Cabinet) (j m x : ℕ) (a : NodeReason) → Y.node_reason K j m x ≡ Ok a → NodeFits a
 unfolding Y.node_reason
-node_small K j m x =
-    by_cases NodeFits (eqb (Y.node_refusal K j m x) 0)
-    (λ e. let a = accepted K j m x (eqb-true (Y.node_refusal K j m x) 0 e) in reason_small K x (fitting K j m a.0).halved.small a.1)
-    (λ _. record {
-      refusal = omega (arith, refusal_le K j m x);
-      kind = omega arith;
-      value = omega arith;
-      cause = omega arith;
-      first = omega arith;
-      second = omega arith;
-      third = omega arith;
-    })
+node_small K j m x a e =
+    let p = cube.accepted (Y.node_refusal K j m x) (Y.reason_of K x) a e in
+    let q = accepted K j m x p.0 in
+    subst NodeFits p.1 (reason_small K x (fitting K j m q.0).halved.small q.1)
 
 -- ---- a hop
 
--- the scan and the dimension of a hop, and a refusal, which is none of 0
-abbrev pub HopReasonFits : HopReason → Type 0
-HopReasonFits Deliver = Unit {0}
-HopReasonFits (Hop s i) = (s < 6) × (i < 12)
-HopReasonFits Halted = Unit {0}
-HopReasonFits (Refused k) = (1 ≤ k) × (k < 256)
-
-explained_small : (n : ℕ) (lab : ℕ → ℕ) (c d : ℕ) (a : HopReason) → HopExplained n lab c d a → n ≤ 12 → HopReasonFits a
+explained_small : (n : ℕ) (lab : ℕ → ℕ) (c d : ℕ) (a : HopReason) → HopExplained n lab c d a → n ≤ 12 → ScanFits a
 explained_small n lab c d _ (arrived e) h = tt
 explained_small n lab c d _ (took {s} {i} far p) h = (hit_scan n lab c d p.hits, omega (arith, p.dimension))
 explained_small n lab c d _ (stopped far none) h = tt
 
-pub hop_reason_small : (n j c d m : ℕ) (lab : ℕ → ℕ) → HopReasonFits (X.hop_reason n j c d m lab)
+pub hop_reason_small : (n j c d m : ℕ) (lab : ℕ → ℕ) (a : HopReason) → X.hop_reason n j c d m lab ≡ Ok a → ScanFits a
 unfolding X.hop_reason
-hop_reason_small n j c d m lab =
-    by_cases HopReasonFits (eqb (H.hop_refusal n j c d m lab) 0)
-    (λ e. explained_small n lab c d _ (hop_explained n lab c d) (hop_good n j c d m lab (eqb-true (H.hop_refusal n j c d m lab) 0 e)).halved.small)
-    (λ e. let z = eqb-false (H.hop_refusal n j c d m lab) 0 e in (omega (arith, z), omega (arith, hop-refusal n j c d m lab)))
+hop_reason_small n j c d m lab a e =
+    let p = cube.accepted (H.hop_refusal n j c d m lab) (X.explain n c d (lab c) (λ i. lab (flip i c))) a e in
+    subst ScanFits p.1 (explained_small n lab c d _ (hop_explained n lab c d) (hop_good n j c d m lab p.0).halved.small)

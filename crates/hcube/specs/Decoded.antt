@@ -1,21 +1,19 @@
 -- What C takes out of an answer, by the header's own macros, and of a row, two bytes a node (RULES, To C): so the answers that C has are the library's own.
 -- Proved in proofs/Decoded.antt.
-use Rattle.std.specs.Prelude.{cond, List, ◌≡◌, ℕ, ◌+◌, ◌*◌, ◌/◌, ◌%◌, ◌≤◌, ◌<◌, eqb, leb, get_or}
+use Rattle.std.specs.Prelude.{cond, List, ◌≡◌, ℕ, ◌+◌, ◌*◌, ◌/◌, ◌%◌, ◌≤◌, ◌<◌, eqb, leb, get_or, Result, Err}
+use Rattle.cube.specs.Refused.{answered, refusal}
+use Rattle.cube.specs.declared.refusals.Refusal.{Refusal}
 use Rattle.cube.specs.Tables.{tab}
 use Rattle.rule.specs.Cabinet.{Cabinet}
 use Rattle.causes.specs.declared.Cause.{Cause}
 use Rattle.causes.specs.declared.Cause.TheVariants as cause
 use Rattle.labels.specs.Labelling.{labelled}
-use Rattle.labels.specs.declared.Labelled.{Labelled}
-use Rattle.labels.specs.declared.Labelled.TheVariants as labelled
 use Rattle.list_reader.specs.Reading.{list_refusal}
 use Rattle.list_writer.specs.Lists.{wrote_list}
 use Rattle.repair.specs.Repairing.{repair_refusal}
 use Rattle.hop.specs.Hop.{hopped}
 use Rattle.hop.specs.declared.Decision.{Decision}
 use Rattle.hop.specs.declared.Decision.TheVariants.{Deliver, Hop, Halted}
-use Rattle.hop.specs.declared.Hopped.{Hopped}
-use Rattle.hop.specs.declared.Hopped.TheVariants as hopped
 use Rattle.walk.specs.Walk.{refused}
 use Rattle.walk.specs.declared.Ending.{Ending}
 use Rattle.walk.specs.declared.Ending.TheVariants as ending
@@ -31,12 +29,8 @@ use Rattle.why.specs.declared.HopReason.{HopReason}
 use Rattle.why.specs.declared.HopReason.TheVariants as reason
 use Rattle.why.specs.declared.NodeReason.{NodeReason}
 use Rattle.why.specs.declared.NodeReason.TheVariants as node
-use Rattle.notice.specs.Notice.{Told, dimension_at, noticed}
-use Rattle.notice.specs.declared.Noticed.{Noticed}
-use Rattle.notice.specs.declared.Noticed.TheVariants as noticed
-use Rattle.writer.specs.Writing.{wrote}
-use Rattle.writer.specs.declared.Wrote.{Wrote}
-use Rattle.writer.specs.declared.Wrote.TheVariants as written
+use Rattle.notice.specs.Notice.{Noticed, Told, a_notice, dimension_at, noticed}
+use Rattle.writer.specs.Writing.{Wrote, wrote}
 use Rattle.hcube.specs.Answers.{
   crossed_number,
   dimension_number,
@@ -108,15 +102,17 @@ decision_from kind value = cond (eqb kind 0) Deliver (cond (eqb kind 1) (Hop val
 abbrev pub ending_from : (kind : ℕ) → Ending
 ending_from kind = cond (eqb kind 0) ending.Delivered ending.Halted
 
-unfoldable pub labelled_from : ℕ → Labelled
-labelled_from r = cond (eqb (refusal_part r) 0) (labelled.Exchanges (value_part r)) (labelled.Refused (refusal_part r))
+unfoldable pub labelled_from : ℕ → Result ℕ Refusal
+labelled_from r = answered (refusal_part r) (value_part r)
 
-unfoldable pub hopped_from : ℕ → Hopped
-hopped_from r = cond (eqb (refusal_part r) 0) (hopped.Decided (decision_from (kind_part r) (value_part r))) (hopped.Refused (refusal_part r))
+unfoldable pub hopped_from : ℕ → Result Decision Refusal
+hopped_from r = answered (refusal_part r) (decision_from (kind_part r) (value_part r))
 
-unfoldable pub crossed_from : ℕ → Crossed
-crossed_from r =
-    cond (eqb (refusal_part r) 0) (cond (eqb (kind_part r) 0) (crossed.Delivered (value_part r)) (crossed.Halted (value_part r))) (crossed.Refused (refusal_part r))
+abbrev pub crossing_from : (kind value : ℕ) → Crossed
+crossing_from kind value = cond (eqb kind 0) (crossed.Delivered value) (crossed.Halted value)
+
+unfoldable pub crossed_from : ℕ → Result Crossed Refusal
+crossed_from r = answered (refusal_part r) (crossing_from (kind_part r) (value_part r))
 
 unfoldable pub walked_from : ℕ → (row : List ℕ) → Walked
 walked_from r row =
@@ -127,28 +123,29 @@ abbrev pub cause_from : (rule number first second third : ℕ) → Cause
 cause_from rule number first second third =
     cond (eqb number 1) (cause.Faulty first second) (cond (eqb rule 2) (cause.Two first second) (cause.Three first second third))
 
-unfoldable pub node_reason_from : (rule : ℕ) → ℕ → NodeReason
-node_reason_from rule r =
-    cond (eqb (refusal_part r) 0)
-    (cond (eqb (kind_part r) 0)
-    (node.Safe (first_part r) (second_part r))
-    (cond (leb 3 (kind_part r))
-    (node.Out (kind_part r))
-    (node.Unsafe (kind_part r) (value_part r) (cause_from rule (cause_part r) (first_part r) (second_part r) (third_part r)))))
-    (node.Refused (refusal_part r))
+abbrev pub label_reason : (rule label round cause first second third : ℕ) → NodeReason
+label_reason rule label round cause first second third =
+    cond (eqb label 0)
+    (node.Safe first second)
+    (cond (leb 3 label)
+    (node.Out label)
+    (node.Unsafe label round (cause_from rule cause first second third)))
 
-unfoldable pub hop_reason_from : ℕ → HopReason
+unfoldable pub node_reason_from : (rule : ℕ) → ℕ → Result NodeReason Refusal
+node_reason_from rule r =
+    answered (refusal_part r) (label_reason rule (kind_part r) (value_part r) (cause_part r) (first_part r) (second_part r) (third_part r))
+
+unfoldable pub hop_reason_from : ℕ → Result HopReason Refusal
 hop_reason_from r =
-    cond (eqb (refusal_part r) 0)
+    answered (refusal_part r)
     (cond (eqb (kind_part r) 0) reason.Deliver (cond (eqb (kind_part r) 1) (reason.Hop (scan_part r) (across_part r)) reason.Halted))
-    (reason.Refused (refusal_part r))
 
 unfoldable pub noticed_from : ℕ → Noticed
 noticed_from r =
-    cond (eqb (refusal_part r) 0) (noticed.Notice (dimension_part r) (count_part r) (value_part r)) (noticed.Refused (refusal_part r) (value_part r))
+    cond (eqb (refusal_part r) 0) (a_notice (dimension_part r) (count_part r) (value_part r)) (Err (refusal (refusal_part r), value_part r))
 
 unfoldable pub wrote_from : ℕ → Wrote
-wrote_from r = cond (eqb (refusal_part r) 0) (written.Length (value_part r)) (written.Refused (refusal_part r))
+wrote_from r = answered (refusal_part r) (value_part r)
 
 -- the three parts of r are those of low
 pub record Shows (r low : ℕ) : Type 0 where

@@ -2,35 +2,34 @@
 // numbers are widened and never narrowed, so none is mistaken for a smaller one.
 #![tactic(auto)]
 
-ghost use Rattle.std.specs.Prelude.{◌<◌, ◌≤◌, length, ◌≡◌};
+ghost use Rattle.std.specs.Prelude.{◌<◌, ◌≤◌, length, ◌≡◌, Ok};
 ghost use Rattle.cube.specs.Tables.{tab};
-ghost use Rattle.hcube.specs.Answers.{crossed_number, dimension_number, done_number, has_row, hop_number, hop_reason_number, label_number, node_reason_number, notice_number, packed, packed_notice, packed_reason, row_after, row_byte, walk_number, walked_by, written_number};
-ghost use Rattle.hcube.specs.Fits.{CauseFits, CrossedFits, HopFits, RowFits, WalkFits};
+ghost use Rattle.cube.specs.Refused.{number, refused};
+ghost use Rattle.hcube.specs.Answers.{crossed_number, decision_number, dimension_number, done_number, has_row, hop_number, hop_reason_number, label_number, node_reason_number, notice_number, packed, packed_notice, packed_reason, row_after, row_byte, value_in, walk_number, walked_by, written_number};
+ghost use Rattle.hcube.specs.Fits.{CauseFits, CrossedFits, HopFits, ReasonFits, RowFits, ScanFits, WalkFits};
 ghost use Rattle.hop_networks.specs.Hopping.{hopped_in};
 ghost use Rattle.jobs.specs.Jobs.{label_for};
 ghost use Rattle.list_reader.specs.Reading.{list_refusal, list_table};
 ghost use Rattle.list_writer.specs.Lists.{list_after, wrote_list};
 ghost use Rattle.labels.specs.Labelling.{labelled, labels_after};
 ghost use Rattle.notice.specs.Notice.{dimension_at, noticed, table_after};
-ghost use Rattle.hop.specs.Hop.{decision_kind, decision_value, hopped};
+ghost use Rattle.hop.specs.Hop.{decision_value, hopped};
 ghost use Rattle.repair.specs.Repairing.{namers_after, repair_refusal, result_after};
 ghost use Rattle.walk.specs.Walk.{row_bytes};
 ghost use Rattle.walk_networks.specs.Crossing.{crossing, hops_after};
 ghost use Rattle.why.specs.HopReasons.{hop_reason};
 ghost use Rattle.why.specs.NodeReasons.{labels_left, node_reason};
 ghost use Rattle.why.specs.declared.NodeReason.TheVariants.{Unsafe};
-ghost use Rattle.writer.specs.Writing.{buffer_after, length_of, refusal_of, wrote};
+ghost use Rattle.writer.specs.Writing.{buffer_after, wrote};
 ghost use Rattle.rule.specs.Cabinet.{cabinet};
 
 use causes::Cause;
-use groups::Number;
-use hop::{Decision, Hopped};
-use labels::Labelled;
-use notice::Noticed;
+use cube::refusals::Refusal;
+use hop::Decision;
+use notice::Notice;
 use walk::{Ending, Walked};
 use walk_networks::Crossed;
 use why::{HopReason, NodeReason};
-use writer::Wrote;
 
 // One number for the refusal, the kind and the value.
 fn pack(refusal: u32, kind: u32, value: usize) -> u32
@@ -38,6 +37,35 @@ fn pack(refusal: u32, kind: u32, value: usize) -> u32
     ensures { result ≡ packed refusal kind value }
 {
     refusal * 16777216 + kind * 65536 + value as u32
+}
+
+// That of a refusal, of kind 0 and with a value: the place in a notice, and else 0.
+fn refuse(refusal: Refusal, value: usize) -> u32
+    requires { value < 65536 }
+    ensures { result ≡ packed (number refusal) 0 value }
+{
+    pack(u32::from(refusal), 0, value)
+}
+
+// What is answered with a number of kind 0: exchanges, or the length of what was written.
+fn pack_value(answer: Result<usize, Refusal>) -> u32
+    requires { value_in answer < 65536 }
+    ensures { result ≡ written_number answer }
+{
+    match answer {
+        Ok(value) => pack(0, 0, value),
+        Err(refusal) => refuse(refusal, 0),
+    }
+}
+
+// What is answered with nothing else.
+fn pack_done(answer: Result<(), Refusal>) -> u32
+    ensures { result ≡ done_number (refused answer) }
+{
+    match answer {
+        Ok(()) => 0,
+        Err(refusal) => refuse(refusal, 0),
+    }
 }
 
 // Labels every node by the rule, for a job: the number of exchanges, or the refusal, which leaves the labels as they were.
@@ -63,16 +91,13 @@ pub extern "C" fn hcube_label(
         closed,
         labels,
     );
-    match answer {
-        Labelled::Exchanges(exchanges) => pack(0, 0, exchanges),
-        Labelled::Refused(k) => pack(k, 0, 0),
-    }
+    pack_value(answer)
 }
 
 // A decision by its kind and value.
 fn pack_decision(x: Decision) -> u32
     requires { decision_value x < 65536 }
-    ensures { result ≡ packed 0 (decision_kind x) (decision_value x) }
+    ensures { result ≡ decision_number x }
 {
     match x {
         Decision::Deliver => pack(0, 0, 0),
@@ -82,13 +107,13 @@ fn pack_decision(x: Decision) -> u32
 }
 
 // What a hop answers.
-fn pack_hop(answer: Hopped) -> u32
+fn pack_hop(answer: Result<Decision, Refusal>) -> u32
     requires { HopFits answer }
     ensures { result ≡ hop_number answer }
 {
     match answer {
-        Hopped::Refused(k) => pack(k, 0, 0),
-        Hopped::Decided(x) => pack_decision(x),
+        Ok(x) => pack_decision(x),
+        Err(refusal) => refuse(refusal, 0),
     }
 }
 
@@ -106,11 +131,7 @@ fn row_byte(row: &[u16; 17], k: usize) -> u8
     requires { k < 34 }
     ensures { result ≡ row_byte row.now k }
 {
-    let node = row[k / 2];
-    if k % 2 == 0 {
-        return (node % 256) as u8;
-    }
-    (node / 256 % 256) as u8
+    row[k / 2].to_le_bytes()[k % 2]
 }
 
 // All 34 bytes of a row.
@@ -118,10 +139,8 @@ fn put_row(row: &[u16; 17], out: &mut [u8])
     requires { length out.old ≡ row_bytes }
     ensures { out.new ≡ tab row_bytes (row_byte row.now) }
 {
-    let mut k: usize = 0;
-    while k < 34 {
+    for k in 0..34 {
         out[k] = row_byte(row, k);
-        k += 1;
     }
 }
 
@@ -135,7 +154,7 @@ fn pack_walk(walked: Walked) -> u32
     match ending {
         Ending::Delivered => pack(0, 0, hops),
         Ending::Halted => pack(0, 1, hops),
-        Ending::Refused(k) => pack(k, 0, hops),
+        Ending::Refused(refusal) => refuse(refusal, hops),
     }
 }
 
@@ -143,11 +162,7 @@ fn pack_walk(walked: Walked) -> u32
 fn has_row(ending: Ending) -> bool
     ensures { result ≡ has_row ending }
 {
-    match ending {
-        Ending::Delivered => true,
-        Ending::Halted => true,
-        Ending::Refused(_) => false,
-    }
+    !matches!(ending, Ending::Refused(_))
 }
 
 // Writes the row of a walk that is not refused.
@@ -208,14 +223,14 @@ pub extern "C" fn hcube_hop_networks(
 }
 
 // What a walk by networks answers: how it ended and its hop count.
-fn pack_crossed(answer: Crossed) -> u32
+fn pack_crossed(answer: Result<Crossed, Refusal>) -> u32
     requires { CrossedFits answer }
     ensures { result ≡ crossed_number answer }
 {
     match answer {
-        Crossed::Delivered(hops) => pack(0, 0, hops),
-        Crossed::Halted(hops) => pack(0, 1, hops),
-        Crossed::Refused(k) => pack(k, 0, 0),
+        Ok(Crossed::Delivered(hops)) => pack(0, 0, hops),
+        Ok(Crossed::Halted(hops)) => pack(0, 1, hops),
+        Err(refusal) => refuse(refusal, 0),
     }
 }
 
@@ -267,12 +282,24 @@ fn pack_reason(
 // That of an unsafe node, by its cause.
 fn pack_cause(label: u8, round: usize, cause: Cause) -> u64
     requires { (round < 65536) × CauseFits cause }
-    ensures { result ≡ node_reason_number (Unsafe label round cause) }
+    ensures { result ≡ node_reason_number (Ok (Unsafe label round cause)) }
 {
     match cause {
         Cause::Faulty(a, b) => pack_reason(label, round, 1, a, b, 0),
         Cause::Two(a, b) => pack_reason(label, round, 2, a, b, 0),
         Cause::Three(a, b, c) => pack_reason(label, round, 2, a, b, c),
+    }
+}
+
+// That of a node's reason, by its case.
+fn pack_node(reason: NodeReason) -> u64
+    requires { ReasonFits reason }
+    ensures { result ≡ node_reason_number (Ok reason) }
+{
+    match reason {
+        NodeReason::Safe(out, not_safe) => pack_reason(0, 0, 0, out, not_safe, 0),
+        NodeReason::Unsafe(label, round, cause) => pack_cause(label, round, cause),
+        NodeReason::Out(label) => pack_reason(label, 0, 0, 0, 0, 0),
     }
 }
 
@@ -302,10 +329,20 @@ pub extern "C" fn hcube_why_node(
         labels,
     );
     match answer {
-        NodeReason::Safe(out, not_safe) => pack_reason(0, 0, 0, out, not_safe, 0),
-        NodeReason::Unsafe(label, round, cause) => pack_cause(label, round, cause),
-        NodeReason::Out(label) => pack_reason(label, 0, 0, 0, 0, 0),
-        NodeReason::Refused(k) => pack(k, 0, 0) as u64,
+        Ok(reason) => pack_node(reason),
+        Err(refusal) => refuse(refusal, 0) as u64,
+    }
+}
+
+// The number of a hop's reason: its scan and its dimension are the value.
+fn pack_scan(reason: HopReason) -> u32
+    requires { ScanFits reason }
+    ensures { result ≡ hop_reason_number (Ok reason) }
+{
+    match reason {
+        HopReason::Deliver => pack(0, 0, 0),
+        HopReason::Hop(scan, i) => pack(0, 1, scan * 256 + i),
+        HopReason::Halted => pack(0, 2, 0),
     }
 }
 
@@ -316,10 +353,8 @@ pub extern "C" fn hcube_why_hop(n: u32, job: u32, c: u32, d: u32, labels: &[u8])
 {
     let answer = why::why_hop(n as usize, job as usize, c as usize, d as usize, labels);
     match answer {
-        HopReason::Deliver => pack(0, 0, 0),
-        HopReason::Hop(scan, i) => pack(0, 1, scan * 256 + i),
-        HopReason::Halted => pack(0, 2, 0),
-        HopReason::Refused(k) => pack(k, 0, 0),
+        Ok(reason) => pack_scan(reason),
+        Err(refusal) => refuse(refusal, 0),
     }
 }
 
@@ -330,17 +365,19 @@ pub extern "C" fn hcube_notice_dimension(bytes: &[u8]) -> u32
 {
     let answer = notice::dimension(bytes);
     match answer {
-        Number::Value(n, _) => pack(0, 0, n),
-        Number::Refused(k, at) => pack(k, 0, at),
+        Ok((n, _)) => pack(0, 0, n),
+        Err((refusal, at)) => refuse(refusal, at),
     }
 }
 
 // The number of an accepted notice: the bytes that it took are the value, and above stand its dimension and its count.
-fn pack_notice(n: usize, m: usize, taken: usize) -> u64
-    requires { (n ≤ 12) × ((m ≤ 4096) × (taken ≤ 4099)) }
-    ensures { result ≡ packed_notice n m (packed 0 0 taken) }
+fn pack_notice(notice: Notice) -> u64
+    requires { (notice.n ≤ 12) × ((notice.count ≤ 4096) × (notice.taken ≤ 4099)) }
+    ensures { result ≡ packed_notice notice.n notice.count (packed 0 0 notice.taken) }
 {
-    n as u64 * 281474976710656 + m as u64 * 4294967296 + pack(0, 0, taken) as u64
+    notice.n as u64 * 281474976710656
+        + notice.count as u64 * 4294967296
+        + pack(0, 0, notice.taken) as u64
 }
 
 // Reads the notice at the front of the bytes into the fault table, or refuses, says where, and leaves the table as it was.
@@ -351,19 +388,8 @@ pub extern "C" fn hcube_read_notice(bytes: &[u8], faults: &mut [u8]) -> u64
 {
     let answer = notice::read(bytes, faults);
     match answer {
-        Noticed::Notice(n, m, taken) => pack_notice(n, m, taken),
-        Noticed::Refused(k, at) => pack(k, 0, at) as u64,
-    }
-}
-
-// What writing answers.
-fn pack_written(answer: Wrote) -> u32
-    requires { (refusal_of answer < 256) × (length_of answer < 65536) }
-    ensures { result ≡ written_number answer }
-{
-    match answer {
-        Wrote::Length(length) => pack(0, 0, length),
-        Wrote::Refused(k) => pack(k, 0, 0),
+        Ok(notice) => pack_notice(notice),
+        Err((refusal, at)) => refuse(refusal, at) as u64,
     }
 }
 
@@ -374,7 +400,7 @@ pub extern "C" fn hcube_write_notice(n: u32, faults: &[u8], out: &mut [u8]) -> u
     ensures out { out.new ≡ buffer_after n faults.now out.old }
 {
     let answer = writer::write(n as usize, faults, out);
-    pack_written(answer)
+    pack_value(answer)
 }
 
 // Reads a list text into the fault table: 0, or the refusal, which leaves the table as it was.
@@ -384,7 +410,7 @@ pub extern "C" fn hcube_read_list(n: u32, text: &[u8], faults: &mut [u8]) -> u32
     ensures faults { faults.new ≡ list_table n text.now faults.old }
 {
     let answer = list_reader::read(n as usize, text, faults);
-    pack(answer, 0, 0)
+    pack_done(answer)
 }
 
 // Writes the list text of a fault table to the front of the buffer: its length, or the refusal, which leaves the buffer as it was.
@@ -394,7 +420,7 @@ pub extern "C" fn hcube_write_list(n: u32, faults: &[u8], out: &mut [u8]) -> u32
     ensures out { out.new ≡ list_after n faults.now out.old }
 {
     let answer = list_writer::write(n as usize, faults, out);
-    pack_written(answer)
+    pack_value(answer)
 }
 
 // Repairs a fault table by what its working nodes find dead: 0, or the refusal, which leaves the result and the row as they were.
@@ -411,5 +437,5 @@ pub extern "C" fn hcube_repair(
     ensures row { row.new ≡ namers_after n faults.now masks.now res.old row.old }
 {
     let answer = repair::repair(n as usize, faults, masks, res, row);
-    pack(answer, 0, 0)
+    pack_done(answer)
 }

@@ -5,11 +5,7 @@ use Rattle.hcube.proofs.Small.{dimension_small}
 use Rattle.hcube.proofs.hcube_notice_dimension.Goals as goal
 
 pub pack-requires : goal.pack-requires
-pack-requires c =
-    let f = dimension_small _ _ (sym c.in-Value.ensures) in
-    (omega arith, (omega arith, f.1))
+pack-requires c = (omega arith, (omega arith, dimension_small _ _ (sym c.in-Ok.ensures)))
 
-pub pack-requires-in-Refused : goal.pack-requires-in-Refused
-pack-requires-in-Refused c =
-    let f = dimension_small _ _ (sym c.in-Refused.ensures) in
-    (f.0, (omega arith, f.1))
+pub refuse-requires : goal.refuse-requires
+refuse-requires c = dimension_small _ _ (sym c.in-Err.ensures)

@@ -1,9 +1,14 @@
--- `hcube_read_list` packs the answer of `read`, which is small.
+-- `hcube_read_list` packs the answer of `read`, whose refusal is that of the definition.
+use mathlib.Core.Path.{ap, ◌∙◌}
 use native.Mathlib.Omega.{arith}
+use Rattle.cube.specs.Refused.{refused}
+use Rattle.cube.proofs.Refused.{refused_is}
 use Rattle.list_reader.proofs.Outcomes.{refusal_few}
+use Rattle.hcube.specs.Answers.{done_number}
 use Rattle.hcube.proofs.hcube_read_list.Goals as goal
 
-pub pack-requires : goal.pack-requires
-pack-requires c =
+pub returns-clause-answer : goal.returns-clause-answer
+returns-clause-answer c =
     let a = c.args in
-    (omega (arith, c.read-answer.ensures.answer, refusal_few a.n a.text.now a.faults.now), (omega arith, omega arith))
+    c.pack_done.ensures
+    ∙ ap done_number (ap refused c.read-answer.ensures.answer ∙ refused_is _ tt (omega (arith, refusal_few a.n a.text.now a.faults.now)))
