@@ -19,10 +19,11 @@ use hop::{Decision, gather, last_hop, lowest, near_refusal};
 use jobs::{half, is_job, label_bytes};
 
 // Whether a board may have so many networks.
+#[tactic(auto, unfolding(crate::specs::Hopping::is_board))]
 pub fn is_board(networks: usize) -> bool
     ensures { result ≡ is_board networks }
 {
-    (1 <= networks) & (networks <= 5)
+    (1..=5).contains(&networks)
 }
 
 // The refusals of the dimension and the board: lacking says that the board is none, or has not what is asked of it.
@@ -85,6 +86,7 @@ enum Side {
 
 impl Side {
     // Its dimensions at c, as the bits of a number.
+    #[tactic(auto, unfolding(crate::specs::Helpers::side_set))]
     fn set(self, n: usize, c: usize, d: usize) -> usize
         requires { n ≤ 12 }
         ensures { result ≡ side_set n c d (is_forward self) }
@@ -96,18 +98,28 @@ impl Side {
     }
 }
 
+// Whether a phase goes down: it is twice the network, and one more where it does.
+#[tactic(auto, unfolding(blocks::specs::Phase::down))]
+fn goes_down(phase: usize) -> bool
+    ensures { result ≡ phases.down phase }
+{
+    phase % 2 == 1
+}
+
 // The dimensions in which a hop from c goes on in the phase's direction: going down the bits of c that are 1, going up those that are 0.
+#[tactic(auto, unfolding(crate::specs::Helpers::on_set))]
 fn on_set(n: usize, c: usize, phase: usize) -> usize
     requires { n ≤ 12 }
     ensures { result ≡ on_set n c phase }
 {
-    if phase % 2 == 1 {
+    if goes_down(phase) {
         return c;
     }
     c ^ (nodes(n) - 1)
 }
 
 // "c is strongly unsafe or l ≤ 2".
+#[tactic(auto, unfolding(blocks::specs::Blocks::eager))]
 fn eager(own: u8, l: u32) -> bool
     ensures { result ≡ blocks.eager own l }
 {
@@ -115,17 +127,19 @@ fn eager(own: u8, l: u32) -> bool
 }
 
 // Whether the fourth block makes the hop that it finds: from down to up in network 0 alone, or where the destination is near.
+#[tactic(auto, unfolding(blocks::specs::Blocks::may_fourth))]
 fn may_fourth(l: u32, phase: usize) -> bool
     ensures { result ≡ blocks.may_fourth l phase }
 {
-    (phase % 2 != 1) | ((phase <= 1) | (l <= 2))
+    !goes_down(phase) | ((phase <= 1) | (l <= 2))
 }
 
 // Whether the sixth block does: from down to up only where the destination is near.
+#[tactic(auto, unfolding(blocks::specs::Blocks::may_sixth))]
 fn may_sixth(l: u32, phase: usize) -> bool
     ensures { result ≡ blocks.may_sixth l phase }
 {
-    (phase % 2 != 1) | (l <= 2)
+    !goes_down(phase) | (l <= 2)
 }
 
 // One call of FORWARD, for the dimensions of one side: the dimension of its hop. on are those of the phase's direction, turning the others.

@@ -37,7 +37,9 @@ impl Crossed {
 }
 
 // The walk from s: how it ends, and in the front of list its hops, each network * 16 + dimension. It is refused where a hop needs a network that the board
-// lacks. No walk has more than 120 hops, 12 in each of ten phases.
+// lacks. No walk has more than 120 hops, 12 in each of ten phases. list is an array, since the archive has no heap, and its length is the hop count that is
+// answered. The loop ends at d and not at a count: after 120 hops the walk may still deliver, halt or be refused, so behind a `for` over the places of list the
+// tests would stand again.
 #[tactic(auto, unfolding(hop::specs::Helpers::found))]
 fn find(
     n: usize,

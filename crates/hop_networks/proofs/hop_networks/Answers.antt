@@ -7,7 +7,6 @@ use Prim.Native.Nat.{ℕ, ◌≤◌}
 use native.Mathlib.Omega.{arith}
 use lib.ListN.{length}
 use Rattle.std.specs.Prelude.{Result}
-use Rattle.std.proofs.lemmas.Result.{err_from_is_err_and}
 use Rattle.cube.specs.declared.refusals.Refusal.{Refusal}
 use Rattle.cube.proofs.Refused.{accepted}
 use Rattle.cube.specs.Cube.{flip}
@@ -21,7 +20,7 @@ use Rattle.hop.proofs.Refusals.{half_placed}
 use Rattle.hop_networks.specs.Helpers.{board_refusal, list_refusal}
 use Rattle.hop_networks.specs.Hopping.{hopped_in, lacks}
 use Rattle.hop_networks.proofs.Deciding.{decided_same}
-use Rattle.hop_networks.proofs.Refusals.{Boarded, board_good, boarded, hop_decided, hop_unboarded, hop_unlabelled, hop_unlisted, list_good}
+use Rattle.hop_networks.proofs.Refusals.{Boarded, board_good, boarded, hop_decided, hop_unboarded, hop_unlabelled, hop_unlisted, list_good, passes_on}
 use Rattle.hop_networks.proofs.hop_networks.Goals as goal
 use Rattle.hop_networks.proofs.hop_networks.Goals.{After-half-table, In_ok-board_refusal, In_ok-list_refusal, In_ok-near_refusal}
 
@@ -55,16 +54,14 @@ by-labels c = (accepted _ _ _ (sym (rw c.gather-high.ensures.high at c.in_ok-nea
 pub returns-in_err-board_refusal : goal.returns-in_err-board_refusal
 unfolding lacks
 returns-in_err-board_refusal c =
-    let p = err_from_is_err_and c.from_residual.result c.from_residual.ensures.1 in
-    rw (p.1, p.2) (hop_unboarded _ _ _ _ _ _ _ _ _ _ _ (sym (rw c.is_board.ensures at c.in_err-board_refusal.ensures)))
+    passes_on _ _ _ c.from_residual.ensures.1 (hop_unboarded _ _ _ _ _ _ _ _ _ _ _ (sym (rw c.is_board.ensures at c.in_err-board_refusal.ensures)))
 
 pub list_refusal-requires : goal.list_refusal-requires
 list_refusal-requires c = (board c).small
 
 pub returns-in_err-list_refusal : goal.returns-in_err-list_refusal
 returns-in_err-list_refusal c =
-    let p = err_from_is_err_and c.from_residual-in_err-list_refusal.result c.from_residual-in_err-list_refusal.ensures.1 in
-    rw (p.1, p.2) (hop_unlisted _ _ _ _ _ _ _ _ _ (unrefused (goal.at.returns-in_err-list_refusal c).In_ok-board_refusal) _ _ (sym c.in_err-list_refusal.ensures))
+    passes_on _ _ _ c.from_residual-in_err-list_refusal.ensures.1 (hop_unlisted _ _ _ _ _ _ _ _ _ (unrefused (goal.at.returns-in_err-list_refusal c).In_ok-board_refusal) _ _ (sym c.in_err-list_refusal.ensures))
 
 pub half-table-requires : goal.half-table-requires
 half-table-requires c = (asked c (board (goal.at.half-table-requires c).In_ok-board_refusal).small).halved
@@ -82,9 +79,8 @@ pub returns-in_err-near_refusal : goal.returns-in_err-near_refusal
 unfolding label_in near_refusal
 returns-in_err-near_refusal c =
     let g = goal.at.returns-in_err-near_refusal c in
-    let p = err_from_is_err_and c.from_residual-in_err-near_refusal.result c.from_residual-in_err-near_refusal.ensures.1 in
     answers _ _ _ _ _ _ _ _ _ _ c.half-table.ensures.bytes _
-    (rw (p.1, p.2) (hop_unlabelled _ _ _ _ _ _ _ _ (label_in c.half-table.result.now) (unrefused g.In_ok-board_refusal) (unlisted g.In_ok-list_refusal) _ _
+    (passes_on _ _ _ c.from_residual-in_err-near_refusal.ensures.1 (hop_unlabelled _ _ _ _ _ _ _ _ (label_in c.half-table.result.now) (unrefused g.In_ok-board_refusal) (unlisted g.In_ok-list_refusal) _ _
     (sym (rw c.gather-high.ensures.high at c.in_err-near_refusal.ensures))))
 
 pub overflow_mul-network : goal.overflow_mul-network

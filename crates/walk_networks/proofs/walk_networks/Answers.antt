@@ -7,7 +7,6 @@ use native.Mathlib.Omega.{arith}
 use borrow.Author.Tests.{ltb-false, not-false}
 use lib.ListN.{length}
 use Rattle.std.specs.Prelude.{Ok}
-use Rattle.std.proofs.lemmas.Result.{err_from_is_err_and}
 use Rattle.cube.proofs.Refused.{accepted}
 use Rattle.cube.specs.Tables.{label_in}
 use Rattle.cube.proofs.Tables.{dimension_is}
@@ -18,7 +17,7 @@ use Rattle.walk.specs.Helpers.{table_refusal}
 use Rattle.blocks.specs.Board.{hops_on, last_on, most_hops}
 use Rattle.hop_networks.specs.Helpers.{board_refusal, list_refusal}
 use Rattle.hop_networks.specs.Hopping.{is_board}
-use Rattle.hop_networks.proofs.Refusals.{board_good, board_is, list_good}
+use Rattle.hop_networks.proofs.Refusals.{board_good, board_is, list_good, passes_on}
 use Rattle.walk_networks.specs.Crossing.{ended_by, too_short}
 use Rattle.walk_networks.proofs.Refusals.{made_few, unboarded, unlabelled, unlisted, unwalked, walked}
 use Rattle.walk_networks.proofs.Steps.{most_few}
@@ -63,9 +62,8 @@ found c = rw c.half-table.ensures.bytes at c.in_ok-found.ensures.answer
 
 pub returns-in_err-board_refusal : goal.returns-in_err-board_refusal
 returns-in_err-board_refusal c =
-    let p = err_from_is_err_and c.from_residual.result c.from_residual.ensures.1 in
     let r = unboarded _ _ _ _ _ _ _ c.args.hops.now _ _ (sym (rw c.is_board.ensures at c.in_err-board_refusal.ensures)) in
-    record { answer = rw (p.1, p.2) r.0; hops = r.1 }
+    record { answer = passes_on _ _ _ c.from_residual.ensures.1 r.0; hops = r.1 }
 
 pub overflow_mul-most : goal.overflow_mul-most
 overflow_mul-most c = omega (arith, small c)
@@ -80,9 +78,8 @@ pub returns-in_err-list_refusal : goal.returns-in_err-list_refusal
 unfolding too_short
 returns-in_err-list_refusal c =
     let g = goal.at.returns-in_err-list_refusal c in
-    let p = err_from_is_err_and c.from_residual-in_err-list_refusal.result c.from_residual-in_err-list_refusal.ensures.1 in
     let r = unlisted _ _ _ _ _ _ _ c.args.hops.now (board g.In_ok-board_refusal) _ _ (sym c.in_err-list_refusal.ensures) in
-    record { answer = rw (p.1, p.2) r.0; hops = r.1 }
+    record { answer = passes_on _ _ _ c.from_residual-in_err-list_refusal.ensures.1 r.0; hops = r.1 }
 
 pub half-table-requires : goal.half-table-requires
 half-table-requires c = (asked c (small (goal.at.half-table-requires c).In_ok-board_refusal)).0.halved
@@ -95,10 +92,9 @@ table_refusal-requires c =
 pub returns-in_err-table_refusal : goal.returns-in_err-table_refusal
 returns-in_err-table_refusal c =
     let g = goal.at.returns-in_err-table_refusal c in
-    let p = err_from_is_err_and c.from_residual-in_err-table_refusal.result c.from_residual-in_err-table_refusal.ensures.1 in
     let r = unlabelled _ _ _ _ _ _ _ c.args.hops.now (board g.In_ok-board_refusal) (listed g.In_ok-list_refusal) _ _
     (sym (rw c.half-table.ensures.bytes at c.in_err-table_refusal.ensures)) in
-    record { answer = rw (p.1, p.2) r.0; hops = r.1 }
+    record { answer = passes_on _ _ _ c.from_residual-in_err-table_refusal.ensures.1 r.0; hops = r.1 }
 
 pub find-requires : goal.find-requires
 find-requires c =
@@ -109,10 +105,9 @@ find-requires c =
 pub returns-in_err-found : goal.returns-in_err-found
 returns-in_err-found c =
     let g = goal.at.returns-in_err-found c in
-    let p = err_from_is_err_and c.from_residual-in_err-found.result c.from_residual-in_err-found.ensures.1 in
     let w = unwalked _ _ _ _ _ _ _ c.args.hops.now (board g.In_ok-board_refusal) (listed g.In_ok-list_refusal) (labelled g.In_ok-table_refusal) _
     (rw c.half-table.ensures.bytes at c.in_err-found.ensures.answer) in
-    record { answer = rw (p.1, p.2) w.0; hops = w.1 }
+    record { answer = passes_on _ _ _ c.from_residual-in_err-found.ensures.1 w.0; hops = w.1 }
 
 -- the hops are few enough for both lists
 pub write-requires : goal.write-requires
