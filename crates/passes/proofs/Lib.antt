@@ -1,4 +1,3 @@
-pub mod Crossing
 pub mod Testing
 pub mod Marking
 pub mod Standing

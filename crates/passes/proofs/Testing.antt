@@ -3,13 +3,12 @@
 --
 -- A bad neighbour, one that does not work or is marked, weighs 2, and one that does not work 1 more. With rule 2 or 3 the neighbours are enough exactly where
 -- they weigh twice the rule: two that do not work weigh 6, and less than that is neither two that do not work nor so many bad ones.
-use mathlib.Core.Path.{◌≡◌, sym, ap, ◌∙◌}
+use mathlib.Core.Path.{◌≡◌, refl, sym}
 use mathlib.Core.Logic.{◌⊎◌, inl, inr}
 use mathlib.Core.Bool.{Bool, true, false, ◌||◌}
 use mathlib.Core.List.{List}
-use Prim.Native.Nat.{ℕ, ◌+◌, ◌-◌, ◌*◌, ◌%◌, ◌^◌, ◌≤◌, ◌<◌}
+use Prim.Native.Nat.{ℕ, ◌+◌, ◌-◌, ◌*◌, ◌%◌, ◌≤◌, ◌<◌}
 use native.Mathlib.Omega.{arith}
-use lib.Bits.{bit_xor}
 use lib.Dec.{eqb, leb}
 use lib.Pow.{low}
 use borrow.Author.Tests.{leb-true, leb-false}
@@ -22,7 +21,6 @@ use Rattle.rule.specs.Looks.{Looked}
 use Rattle.rule.specs.Rounds.{Unsafe}
 use Rattle.rule.proofs.Looks.{passed, stopped, unsafe_rises}
 use Rattle.passes.specs.Passes.{KeptByte, kept_plain, kept_mark, kept_out, kept_new, out_in, mark_in}
-use Rattle.passes.proofs.Crossing.{AtBit, across, at_end, at_first, at_next, below}
 
 -- what weighs so much is enough, for rule 2 and 3: of `bad` neighbours `outs` do not work
 enough_weighs : (k outs bad : ℕ) → 2 ≤ k → k ≤ 3 → outs ≤ bad → (2 ≤ outs) ⊎ (k ≤ bad) → 2 * k ≤ 2 * bad + outs
@@ -75,16 +73,14 @@ module _ (n k : ℕ) (l : List ℕ) (x : ℕ) where
   adds j b e kept_out = omega (arith, count-in j is-out (rw e), count-in j is_bad (rw e), count_out j is_new (rw e))
   adds j b e kept_new = omega (arith, count_out j is-out (rw e), count_out j is_bad (rw e), count-in j is_new (rw e))
 
-  pub record Seen (weight looked bit : ℕ) : Type 0 where
-    pub at : AtBit n looked bit
+  pub record Seen (weight looked : ℕ) : Type 0 where
     pub weighed : weight + 2 * k ≡ 64 + weighs looked + 128 * news looked
     pub short : weighs looked < 2 * k
 
   module _ (two : 2 ≤ k) (three : k ≤ 3) where
-    pub seen_none : Seen (64 - 2 * k) 0 1
+    pub seen_none : Seen (64 - 2 * k) 0
     seen_none =
         record {
-          at = at_first n;
           weighed = omega (arith, count_zero is-out, count_zero is_bad, count_zero is_new);
           short = omega (arith, count_zero is-out, count_zero is_bad);
         }
@@ -92,21 +88,21 @@ module _ (n k : ℕ) (l : List ℕ) (x : ℕ) where
     not_yet : (j : ℕ) → weighs j < 2 * k → Enough j → ⊥
     not_yet j h e = omega (arith, enough_weighs k (outs j) (bad j) two three (outs_bad j) e)
 
-    module _ (weight looked bit : ℕ) (S : Seen weight looked bit) where
-      pub weight_few : n ≤ 12 → weight ≤ 2000
-      weight_few h = omega (arith, S.at.upto, S.weighed, S.short, count_bound looked is_new)
+    module _ (weight looked : ℕ) (S : Seen weight looked) where
+      pub weight_few : looked ≤ 12 → weight ≤ 2000
+      weight_few h = omega (arith, S.weighed, S.short, count_bound looked is_new)
 
       -- all were seen
-      pub seen_all : (bit < 2 ^ n → ⊥) → Looked n Enough false looked
-      seen_all h = passed n Enough (unsafe_rises k (out_in l) (mark_in l) x) looked (at_end n looked bit S.at h) (not_yet looked S.short)
+      pub seen_all : looked ≡ n → Looked n Enough false n
+      seen_all e = passed n Enough (unsafe_rises k (out_in l) (mark_in l) x) n refl (not_yet n (rw e at S.short))
 
       -- the next one has the byte b
-      module _ (b : ℕ) (more : bit < 2 ^ n) (e : label_in l (bit_xor x bit) ≡ b) (kept : KeptByte b) where
+      module _ (b : ℕ) (more : looked < n) (e : b ≡ label_in l (flip looked x)) (kept : KeptByte (label_in l (flip looked x))) where
         abbrev next : ℕ
         next = weighs (looked + 1)
 
         added : (next + 128 * news (looked + 1) ≡ weighs looked + 128 * news looked + b) × (next ≤ weighs looked + 3)
-        added = adds looked b (ap (label_in l) (sym (across n looked bit S.at x)) ∙ e) kept
+        added = adds looked b (sym e) (rw e kept)
 
         -- the bit of 64 tells
         tells : (weight + b) % 128 + 2 * k ≡ 64 + next
@@ -118,13 +114,8 @@ module _ (n k : ℕ) (l : List ℕ) (x : ℕ) where
 
         pub seen_enough : 64 ≤ (weight + b) % 128 → Looked n Enough true (looked + 1)
         seen_enough h =
-            stopped n Enough (unsafe_rises k (out_in l) (mark_in l) x) looked (below n looked bit S.at more) (not_yet looked S.short)
+            stopped n Enough (unsafe_rises k (out_in l) (mark_in l) x) looked more (not_yet looked S.short)
             (weighs_enough k (outs (looked + 1)) (bad (looked + 1)) two three (outs_bad (looked + 1)) (omega (arith, tells)))
 
-        pub seen_next : (weight + b) % 128 < 64 → Seen (weight + b) (looked + 1) (bit * 2)
-        seen_next h =
-            record {
-              at = at_next n looked bit S.at more;
-              weighed = omega (arith, added, S.weighed);
-              short = omega (arith, tells);
-            }
+        pub seen_next : (weight + b) % 128 < 64 → Seen (weight + b) (looked + 1)
+        seen_next h = record { weighed = omega (arith, added, S.weighed); short = omega (arith, tells) }

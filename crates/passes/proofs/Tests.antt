@@ -11,19 +11,19 @@ use Rattle.cube.proofs.Contracts.{Says}
 use Rattle.rule.specs.Looks.{looks, looks_near}
 use Rattle.rule.specs.Rule.{meets}
 use Rattle.passes.specs.Passes.{mark_in, out_in, plain_in}
-use Rattle.passes.specs.contracts.meets_rule
-use Rattle.passes.proofs.meets_rule.Reads as meets_rule-reads
-use Rattle.passes.specs.contracts.plain_near
-use Rattle.passes.proofs.plain_near.Reads as plain_near-reads
+use Rattle.passes.specs.contracts.Node.meets_rule
+use Rattle.passes.proofs.Node.meets_rule.Reads as meets_rule-reads
+use Rattle.passes.specs.contracts.Node.plain_near
+use Rattle.passes.proofs.Node.plain_near.Reads as plain_near-reads
 
--- handed the dimension, the rule's number, the table and the node
+-- handed the node, and so the dimension, the table and the node's number, and the rule's number
 abbrev pub meets-rule : Function meets_rule.ended (ℕ × ℕ × List ℕ × ℕ) (Bool × ℕ) Nothing
 meets-rule =
     record {
       clauses = λ w. meets_rule.clauses w.𝓛 w.𝓜.mem w.𝓡.returns;
       asked = meets_rule-reads.Asked;
       post = meets_rule-reads.Post;
-      handed = λ κs a. (a.0, a.1.0, a.1.1.0.now, a.1.1.1.0);
+      handed = λ κs a. (a.0.n, a.1.0, a.0.labels.now, a.0.x);
       answered = λ κs r. (r.holds, r.looked);
       left = λ κs e. tt;
     }
@@ -32,14 +32,14 @@ pub meets_rule_says : Says meets-rule
     (λ i. (meets i.0 i.1 (out_in i.2) (mark_in i.2) i.3, looks i.0 i.1 (out_in i.2) (mark_in i.2) i.3)) (λ i. tt)
 meets_rule_says = record { says = λ κs a r e p. (rw (p.0, p.1), refl) }
 
--- handed the dimension, the table and the node
+-- handed the node
 abbrev pub plain-near : Function plain_near.ended (ℕ × List ℕ × ℕ) (Bool × ℕ) Nothing
 plain-near =
     record {
       clauses = λ w. plain_near.clauses w.𝓛 w.𝓜.mem w.𝓡.returns;
       asked = plain_near-reads.Asked;
       post = plain_near-reads.Post;
-      handed = λ κs a. (a.0, a.1.0.now, a.1.1.0);
+      handed = λ κs a. (a.0.n, a.0.labels.now, a.0.x);
       answered = λ κs r. (r.holds, r.looked);
       left = λ κs e. tt;
     }

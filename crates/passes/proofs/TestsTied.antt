@@ -3,10 +3,10 @@
 use mathlib.Core.Path.{refl}
 use Rattle.cube.specs.Allowed.{Tied}
 use Rattle.passes.proofs.Tests.{meets-rule, plain-near}
-use Rattle.passes.specs.contracts.meets_rule
-use Rattle.passes.proofs.meets_rule.Reads as meets_rule-reads
-use Rattle.passes.specs.contracts.plain_near
-use Rattle.passes.proofs.plain_near.Reads as plain_near-reads
+use Rattle.passes.specs.contracts.Node.meets_rule
+use Rattle.passes.proofs.Node.meets_rule.Reads as meets_rule-reads
+use Rattle.passes.specs.contracts.Node.plain_near
+use Rattle.passes.proofs.Node.plain_near.Reads as plain_near-reads
 
 pub record TestsTied : Type 2 where
   pub rule :

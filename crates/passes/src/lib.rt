@@ -8,12 +8,12 @@
 ghost use Rattle.std.specs.Prelude.{◌/◌, ◌<◌, ◌≤◌, ◌^◌, eqb, length, cond, ◌||◌, ◌≡◌};
 ghost use Rattle.cube.specs.Count.{count, some};
 ghost use Rattle.cube.specs.Cube.{flip};
-ghost use Rattle.cube.specs.Tables.{node_bit, tab, table_len};
+ghost use Rattle.cube.specs.Tables.{label_in, node_bit, tab, table_len};
 ghost use Rattle.passes.specs.Passes.{Kept, NodeOf, Sized, finished, fresh, mark_in, ordinary, out_in, plain_in, settled, started, swept};
 ghost use Rattle.rule.specs.Looks.{looks, looks_near};
 ghost use Rattle.rule.specs.Rule.{meets};
 
-use cube::node_bit;
+use cube::{neighbour, node_bit};
 
 const PLAIN: u8 = 0; // no mark; in the end: safe
 
@@ -27,92 +27,99 @@ const DRAINING: u8 = 4; // in the end: draining
 
 pub const NEW: u8 = 128; // marked by this round
 
-// The answer of a test of a node, and how many of its neighbours' labels were read for it.
+// The answer of a test of a node, and how many of its neighbours' labels were read for it. No Option: so many were read whether it holds or not.
 #[derive(Drop)]
 struct Tested {
     holds: bool,
     looked: usize,
 }
 
-// Whether node x meets the rule with the marks of the earlier rounds. It reads its neighbours' labels one by one, lowest dimension first, and stops where
-// those that it has read settle it. With rule 2 or 3 they do exactly where they weigh twice the rule: two that do not work weigh 6, and of bad ones, as many
-// as the rule names, each weighs 2 at least. The weight begins with 64 less that, so that the bit of 64 tells. Nearly all of labelling's time is spent here.
-fn meets_rule(n: usize, rule: usize, labels: &[u8], x: usize) -> Tested
-    requires le_rule { (2 ≤ rule) × (rule ≤ 3) }
-    requires kept { Kept labels.now }
-    requires node_of { NodeOf n labels.now x }
-    ensures holds { result.holds ≡ meets n rule (out_in labels.now) (mark_in labels.now) x }
-    ensures looked { result.looked ≡ looks n rule (out_in labels.now) (mark_in labels.now) x }
-{
-    let mut weight: usize = 64 - 2 * rule;
-    let mut looked: usize = 0;
-    let mut bit: usize = 1;
-    while bit < labels.len() {
-        let byte = labels[x ^ bit];
-        looked = looked + 1;
-        weight = weight + byte as usize;
-        if 64 <= weight % 128 {
-            return Tested {
-                holds: true,
-                looked,
-            };
+// A node of an n-cube, by the cube's label table.
+#[derive(Clone, Copy)]
+pub struct Node<'a> {
+    pub n: usize,
+    pub labels: &'a [u8],
+    pub x: usize,
+    ghost is_node: { NodeOf n labels.now x },
+}
+
+impl<'a> Node<'a> {
+    // The node's own label.
+    #[tactic(auto, unfolding(cube::specs::Tables::label_in))]
+    pub fn label(self) -> u8
+        ensures { result ≡ label_in self.entry.labels.now self.entry.x }
+    {
+        self.labels[self.x]
+    }
+
+    // The label of its neighbour across dimension i.
+    pub fn near(self, i: usize) -> u8
+        requires { i < self.n }
+        ensures { result ≡ label_in self.entry.labels.now (flip i self.entry.x) }
+    {
+        self.labels[neighbour(self.x, i)]
+    }
+
+    // Whether it meets the rule with the marks of the earlier rounds. The test reads its neighbours' labels one by one, lowest dimension first, and stops where
+    // those that it has read settle it. With rule 2 or 3 they do exactly where they weigh twice the rule: two that do not work weigh 6, and of bad ones, as
+    // many as the rule names, each weighs 2 at least. The weight begins with 64 less that, so that the bit of 64 tells. Nearly all of labelling's time is spent
+    // here.
+    fn meets_rule(self, rule: usize) -> Tested
+        requires le_rule { (2 ≤ rule) × (rule ≤ 3) }
+        requires kept { Kept self.labels.now }
+        ensures holds { result.holds ≡ meets self.entry.n rule (out_in self.entry.labels.now) (mark_in self.entry.labels.now) self.entry.x }
+        ensures looked { result.looked ≡ looks self.entry.n rule (out_in self.entry.labels.now) (mark_in self.entry.labels.now) self.entry.x }
+    {
+        let mut weight: usize = 64 - 2 * rule;
+        for i in 0..self.n {
+            weight += self.near(i) as usize;
+            if 64 <= weight % 128 {
+                return Tested {
+                    holds: true,
+                    looked: i + 1,
+                };
+            }
         }
-        bit = bit * 2;
-    }
-    Tested {
-        holds: false,
-        looked,
-    }
-}
-
-// Whether this round marks node x.
-fn is_fresh(n: usize, rule: usize, labels: &[u8], x: usize) -> bool
-    requires le_rule { (2 ≤ rule) × (rule ≤ 3) }
-    requires kept { Kept labels.now }
-    requires node_of { NodeOf n labels.now x }
-    ensures { result ≡ fresh n rule labels.now x }
-{
-    if labels[x] != PLAIN {
-        return false;
-    }
-    let test = meets_rule(n, rule, labels, x);
-    test.holds
-}
-
-// Whether node x has a neighbour without a mark: in the end, a safe one. It stops at the first.
-fn plain_near(n: usize, labels: &[u8], x: usize) -> Tested
-    requires { NodeOf n labels.now x }
-    ensures holds { result.holds ≡ some n (λ i. plain_in labels.now (flip i x)) }
-    ensures looked { result.looked ≡ looks_near n (plain_in labels.now) x }
-{
-    let mut looked = 0;
-    let mut bit = 1;
-    while bit < labels.len() {
-        looked += 1;
-        if labels[x ^ bit] == PLAIN {
-            return Tested {
-                holds: true,
-                looked,
-            };
+        Tested {
+            holds: false,
+            looked: self.n,
         }
-        bit *= 2;
     }
-    Tested {
-        holds: false,
-        looked,
-    }
-}
 
-// Whether node x is unsafe and has a safe neighbour.
-fn is_ordinary(n: usize, labels: &[u8], x: usize) -> bool
-    requires { NodeOf n labels.now x }
-    ensures { result ≡ ordinary n labels.now x }
-{
-    if labels[x] != MARKED {
-        return false;
+    // Whether this round marks it.
+    fn is_fresh(self, rule: usize) -> bool
+        requires le_rule { (2 ≤ rule) × (rule ≤ 3) }
+        requires kept { Kept self.labels.now }
+        ensures { result ≡ fresh self.entry.n rule self.entry.labels.now self.entry.x }
+    {
+        self.label() == PLAIN && self.meets_rule(rule).holds
     }
-    let test = plain_near(n, labels, x);
-    test.holds
+
+    // Whether it has a neighbour without a mark: in the end, a safe one. The test stops at the first.
+    fn plain_near(self) -> Tested
+        ensures holds { result.holds ≡ some self.entry.n (λ i. plain_in self.entry.labels.now (flip i self.entry.x)) }
+        ensures looked { result.looked ≡ looks_near self.entry.n (plain_in self.entry.labels.now) self.entry.x }
+    {
+        for k in 0..self.n {
+            if self.near(k) == PLAIN {
+                return Tested {
+                    holds: true,
+                    looked: k + 1,
+                };
+            }
+        }
+        Tested {
+            holds: false,
+            looked: self.n,
+        }
+    }
+
+    // Whether it is unsafe and has a safe neighbour.
+    fn is_ordinary(self) -> bool
+        ensures { result ≡ ordinary self.entry.n self.entry.labels.now self.entry.x }
+    {
+        self.label() == MARKED && self.plain_near().holds
+    }
 }
 
 // Whether node k is faulty for the job: faulty, or closed by it.
@@ -161,7 +168,12 @@ pub fn sweep(n: usize, rule: usize, labels: &mut [u8]) -> usize
 {
     let mut marked = 0;
     for x in 0..labels.len() {
-        if is_fresh(n, rule, labels, x) {
+        let node = Node {
+            n,
+            labels: &labels[..],
+            x,
+        };
+        if node.is_fresh(rule) {
             labels[x] = NEW;
             marked += 1;
         }
@@ -195,20 +207,20 @@ fn out_byte(faults: &[u8], closed: &[u8], x: usize) -> u8
     if faulty { OUT } else { DRAINING }
 }
 
-// The byte of node x in the end.
-fn final_byte(n: usize, faults: &[u8], closed: &[u8], labels: &[u8], x: usize) -> u8
-    requires x_in_bounds { x / 8 < length faults.now }
-    requires x_in_bounds_2 { x / 8 < length closed.now }
-    requires node_of { NodeOf n labels.now x }
-    ensures { result ≡ finished n (λ y. cond (node_bit faults.now y || node_bit closed.now y) 3 4) labels.now x }
+// The byte of a node in the end.
+fn final_byte(faults: &[u8], closed: &[u8], node: Node) -> u8
+    requires x_in_bounds { node.x / 8 < length faults.now }
+    requires x_in_bounds_2 { node.x / 8 < length closed.now }
+    ensures { result ≡ finished node.entry.n (λ y. cond (node_bit faults.now y || node_bit closed.now y) 3 4) node.entry.labels.now node.entry.x }
 {
-    if labels[x] == OUT {
-        return out_byte(faults, closed, x);
+    let label = node.label();
+    if label == OUT {
+        return out_byte(faults, closed, node.x);
     }
-    if is_ordinary(n, labels, x) {
+    if node.is_ordinary() {
         return ORDINARY;
     }
-    labels[x]
+    label
 }
 
 // The end of labelling: tells the ordinarily unsafe nodes from the strongly unsafe ones, and the draining nodes from the faulty ones. A node without a mark
@@ -221,7 +233,12 @@ pub fn finish(n: usize, faults: &[u8], closed: &[u8], labels: &mut [u8])
 {
     for x in 0..labels.len() {
         if MARKED <= labels[x] {
-            labels[x] = final_byte(n, faults, closed, labels, x);
+            let node = Node {
+                n,
+                labels: &labels[..],
+                x,
+            };
+            labels[x] = final_byte(faults, closed, node);
         }
     }
 }
