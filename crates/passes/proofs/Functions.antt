@@ -8,11 +8,16 @@ use Prim.Native.Nat.{ℕ, ◌^◌}
 use lib.ListN.{length}
 use Rattle.cube.specs.Allowed.{AsksNothing, Function, Nothing}
 use Rattle.cube.specs.Count.{count}
-use Rattle.cube.specs.Tables.{node_bit, tab}
+use Rattle.cube.specs.Cube.{flip}
+use Rattle.cube.specs.Tables.{label_in, node_bit, tab}
 use Rattle.cube.proofs.Contracts.{Says}
 use Rattle.passes.specs.Passes.{finished, fresh, settled, started, swept}
 use Rattle.passes.specs.contracts.finish as finish-claims
 use Rattle.passes.proofs.finish.Reads as finish-claims-reads
+use Rattle.passes.specs.contracts.Node.label as label-claims
+use Rattle.passes.proofs.Node.label.Reads as label-claims-reads
+use Rattle.passes.specs.contracts.Node.near as near-claims
+use Rattle.passes.proofs.Node.near.Reads as near-claims-reads
 use Rattle.passes.specs.contracts.settle as settle-claims
 use Rattle.passes.proofs.settle.Reads as settle-claims-reads
 use Rattle.passes.specs.contracts.start as start-claims
@@ -80,3 +85,38 @@ finish =
 pub finish_says : Says finish (λ i. tt)
     (λ i. tab (2 ^ i.0) (finished i.0 (λ y. cond (node_bit i.1 y || node_bit i.2 y) 3 4) i.3))
 finish_says = record { says = λ κs a r e p. (refl, p) }
+
+-- ---- a node
+
+-- handed the dimension, the table and the node's number
+abbrev pub label : Function label-claims.ended (ℕ × List ℕ × ℕ) ℕ Nothing
+label =
+    record {
+      clauses = λ w. label-claims.clauses w.𝓛 w.𝓜.mem w.𝓡.returns;
+      asked = label-claims-reads.Asked;
+      post = label-claims-reads.Post;
+      handed = λ κs a. (a.0.n, a.0.labels.now, a.0.x);
+      answered = λ κs r. r;
+      left = λ κs e. tt;
+    }
+
+pub label_asks : AsksNothing label
+label_asks = record { asked = λ κs a. tt; empty = λ w κs a. (tt, refl) }
+
+pub label_says : Says label (λ i. label_in i.1 i.2) (λ i. tt)
+label_says = record { says = λ κs a r e p. (p, refl) }
+
+-- and the neighbour's dimension
+abbrev pub near : Function near-claims.ended (ℕ × List ℕ × ℕ × ℕ) ℕ Nothing
+near =
+    record {
+      clauses = λ w. near-claims.clauses w.𝓛 w.𝓜.mem w.𝓡.returns;
+      asked = near-claims-reads.Asked;
+      post = near-claims-reads.Post;
+      handed = λ κs a. (a.0.n, a.0.labels.now, a.0.x, a.1.0);
+      answered = λ κs r. r;
+      left = λ κs e. tt;
+    }
+
+pub near_says : Says near (λ i. label_in i.1 (flip i.3 i.2)) (λ i. tt)
+near_says = record { says = λ κs a r e p. (p, refl) }

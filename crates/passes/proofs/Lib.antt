@@ -1,3 +1,4 @@
+pub mod Crossing
 pub mod Testing
 pub mod Marking
 pub mod Standing

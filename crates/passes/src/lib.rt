@@ -63,7 +63,7 @@ impl<'a> Node<'a> {
     // Whether it meets the rule with the marks of the earlier rounds. The test reads its neighbours' labels one by one, lowest dimension first, and stops where
     // those that it has read settle it. With rule 2 or 3 they do exactly where they weigh twice the rule: two that do not work weigh 6, and of bad ones, as
     // many as the rule names, each weighs 2 at least. The weight begins with 64 less that, so that the bit of 64 tells. Nearly all of labelling's time is spent
-    // here.
+    // here. The bit is doubled by hand: with `near(i)`, which shifts, labelling took 1.13 to 1.33 times as long.
     fn meets_rule(self, rule: usize) -> Tested
         requires le_rule { (2 ≤ rule) × (rule ≤ 3) }
         requires kept { Kept self.labels.now }
@@ -71,14 +71,17 @@ impl<'a> Node<'a> {
         ensures looked { result.looked ≡ looks self.entry.n rule (out_in self.entry.labels.now) (mark_in self.entry.labels.now) self.entry.x }
     {
         let mut weight: usize = 64 - 2 * rule;
+        let mut bit: usize = 1;
         for i in 0..self.n {
-            weight += self.near(i) as usize;
+            let byte = self.labels[self.x ^ bit];
+            weight += byte as usize;
             if 64 <= weight % 128 {
                 return Tested {
                     holds: true,
                     looked: i + 1,
                 };
             }
+            bit *= 2;
         }
         Tested {
             holds: false,
@@ -100,13 +103,15 @@ impl<'a> Node<'a> {
         ensures holds { result.holds ≡ some self.entry.n (λ i. plain_in self.entry.labels.now (flip i self.entry.x)) }
         ensures looked { result.looked ≡ looks_near self.entry.n (plain_in self.entry.labels.now) self.entry.x }
     {
+        let mut bit = 1;
         for k in 0..self.n {
-            if self.near(k) == PLAIN {
+            if self.labels[self.x ^ bit] == PLAIN {
                 return Tested {
                     holds: true,
                     looked: k + 1,
                 };
             }
+            bit *= 2;
         }
         Tested {
             holds: false,
