@@ -4,14 +4,17 @@ use mathlib.Core.List.{List}
 use mathlib.Core.Path.{refl}
 use Prim.Native.Nat.{ℕ}
 use lib.ListN.{length}
+use Rattle.std.specs.Prelude.{Result}
 use Rattle.cube.specs.Allowed.{AsksNothing, Function}
+use Rattle.cube.specs.Refused.{answered}
+use Rattle.cube.specs.declared.refusals.Refusal.{Refusal}
 use Rattle.cube.proofs.Contracts.{Says}
 use Rattle.counters.specs.Tally.{counters_after, tally_refusal}
 use Rattle.counters.specs.contracts.tally as tally-claims
 use Rattle.counters.proofs.tally.Reads as tally-claims-reads
 
 -- handed: the dimension and the counters; left: the counters
-abbrev pub tally : Function tally-claims.ended (ℕ × List ℕ) ℕ (List ℕ)
+abbrev pub tally : Function tally-claims.ended (ℕ × List ℕ) (Result (Unit {0}) Refusal) (List ℕ)
 tally =
     record {
       clauses = λ w. tally-claims.clauses w.𝓛 w.𝓜.mem w.𝓡.returns;
@@ -25,5 +28,5 @@ tally =
 pub tally_asks : AsksNothing tally
 tally_asks = record { asked = λ κs a. tt; empty = λ w κs a. (tt, refl) }
 
-pub tally_says : Says tally (λ i. tally_refusal i.0 (length i.1)) (λ i. counters_after i.0 i.1)
+pub tally_says : Says tally (λ i. answered (tally_refusal i.0 (length i.1)) tt) (λ i. counters_after i.0 i.1)
 tally_says = record { says = λ κs a r e p. (p.0, p.1) }

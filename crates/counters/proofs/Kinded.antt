@@ -7,6 +7,7 @@ use native.Mathlib.Omega.{arith}
 use lib.Dec.{eqb}
 use borrow.Author.Tests.{eq-eqb, eqb-true}
 use Rattle.cube.specs.Count.{count, least}
+use Rattle.cube.specs.declared.refusals.Refusal.{Refusal}
 use Rattle.cube.proofs.Bools.{clash, either, is_false}
 use Rattle.cube.proofs.Count.{count_pos, count_without, counted, without, without_is}
 use Rattle.cube.proofs.Search.{least_is}
@@ -73,5 +74,5 @@ module _ (w : Walked) (l : ℕ) (one : OneKind w l) where
   pub halted_kind : w.ending ≡ ending.Halted → 3 ≡ kind_of w l
   halted_kind e = is-kind 3 (omega arith) (is-halted w l e)
 
-  pub never_refused : (k : ℕ) → w.ending ≡ ending.Refused k → ⊥
-  never_refused k e = let (i, h, t) = found in clash t (refused_none w l i k e)
+  pub never_refused : (r : Refusal) → w.ending ≡ ending.Refused r → ⊥
+  never_refused r e = let (i, h, t) = found in clash t (refused_none w l i r e)

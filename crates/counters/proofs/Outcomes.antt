@@ -8,7 +8,7 @@ use lib.Dec.{eqb, leb}
 use lib.ListN.{length}
 use borrow.Author.Tests.{eq-eqb, eqb-false, eqb-true, le-leb, leb-true, ne_eqb, not-false}
 use Rattle.cube.specs.Refusal.{first}
-use Rattle.cube.proofs.Bools.{and_both, and_true, either}
+use Rattle.cube.proofs.Bools.{and_true, either}
 use Rattle.cube.proofs.Front.{length_tab}
 use Rattle.cube.proofs.Refusal.{first_none}
 use Rattle.figures.specs.Figures.{counters_of, tally_of}
@@ -19,21 +19,9 @@ unfolding is_tallied
 tallied_is n e = let r = and_true (leb 1 n) (leb n 4) e in (leb-true 1 n r.0, leb-true n 4 r.1)
 
 module _ (n m : ℕ) where
-  pub wrong_dimension : is_tallied n ≡ false → 1 ≡ tally_refusal n m
-  unfolding tally_refusal first
-  wrong_dimension e = rw e
-
-  pub wrong_length : is_tallied n ≡ true → m ≢ counters_of n → 2 ≡ tally_refusal n m
-  unfolding tally_refusal first
-  wrong_length e h = rw (e, ne_eqb m (counters_of n) h)
-
-  pub nothing_wrong : is_tallied n ≡ true → m ≡ counters_of n → 0 ≡ tally_refusal n m
-  unfolding tally_refusal first
-  nothing_wrong e h = rw (e, eq-eqb m (counters_of n) h)
-
   pub accepts : (1 ≤ n) × (n ≤ 4) → m ≡ counters_of n → tally_refusal n m ≡ 0
-  unfolding is_tallied
-  accepts d h = sym (nothing_wrong (and_both (le-leb 1 n d.0) (le-leb n 4 d.1)) h)
+  unfolding is_tallied tally_refusal first
+  accepts d h = rw (le-leb 1 n d.0, le-leb n 4 d.1, eq-eqb m (counters_of n) h)
 
   -- from the number
   pub taken : tally_refusal n m ≡ 0 → ((1 ≤ n) × (n ≤ 4)) × (m ≡ counters_of n)

@@ -11,6 +11,7 @@ use lib.ListN.{drop, length, take}
 use lib.Pow.{pow_mono}
 use lib.Seq.{length-take-le}
 use borrow.Author.Tests.{eq-eqb, eqb-false, eqb-true, le-leb, leb-false, leb-true, le-ltb, lt-ltb, ne_eqb}
+use Rattle.std.specs.Int.{to_le_bytes, w16}
 use Rattle.cube.specs.Tables.{empty_table, label_count, table_len}
 use Rattle.cube.proofs.Bools.{either, or_left}
 use Rattle.cube.proofs.Count.{count_bound, count_same}
@@ -24,8 +25,8 @@ use Rattle.theorems.specs.Words.{label_at}
 use Rattle.theorems.proofs.Demand2.{out_label, works}
 use Rattle.figures.specs.Figures.{bytes_of, columns, counters_of, cube_of, faults_of, figure, table_of, tables}
 use Rattle.figures.proofs.Numbers.{all_tables}
-use Rattle.counters.specs.Helpers.{Room, Tallying, plus, table_adds}
-use Rattle.counters.proofs.Adding.{in_part, part_room, plus_part, plus_same}
+use Rattle.counters.specs.Helpers.{Tallying, plus, table_adds}
+use Rattle.counters.proofs.Adding.{in_part, plus_part, plus_same}
 use Rattle.counters.proofs.Rows.{label-count}
 
 -- the counters from 6 * a on, six of them, are those of line a
@@ -67,8 +68,8 @@ module _ (n : ℕ) (dim : (1 ≤ n) × (n ≤ 4)) where
   len_few = ⊎_elim (λ r. omega (arith, r.1)) (λ r. omega (arith, r.1)) lengths
 
   module _ (len : ℕ) (is-len : len ≡ table_len n) where
-    pub front_length : (a b : ℕ) → len ≡ length (take len (a ∷ b ∷ []))
-    front_length a b = sym (length-take-le len (a ∷ b ∷ []) (omega (arith, is-len, len_few)))
+    pub front_length : (two : List ℕ) → length two ≡ 2 → len ≡ length (take len two)
+    front_length two e = sym (length-take-le len two (omega (arith, is-len, len_few)))
 
     zeros_are : take len (0 ∷ 0 ∷ []) ≡ empty_table n
     zeros_are = rw is-len (⊎_elim (λ r. rw r.1 refl) (λ r. rw r.1 refl) lengths)
@@ -77,18 +78,15 @@ module _ (n : ℕ) (dim : (1 ≤ n) × (n ≤ 4)) where
     abbrev K : Cabinet
     K = cube_of n t
 
-    -- ---- its bytes and labels; `len` is its length, as the code has it
+    -- ---- its bytes and labels; `len` is its length and `two` are the bytes of its number, as the code has them
 
-    module _ (len : ℕ) (is-len : len ≡ table_len n) where
+    module _ (len : ℕ) (is-len : len ≡ table_len n) (two : List ℕ) (are : two ≡ to_le_bytes w16 t) where
       abbrev bytes : List ℕ
-      bytes = take len (t % 256 ∷ t / 256 ∷ [])
+      bytes = take len two
 
       pub bytes_are : bytes ≡ table_of n t
       unfolding bytes_of
-      bytes_are = rw is-len (⊎_elim (λ r. rw r.1 refl) (λ r. rw r.1 (ap (λ (b : ℕ). t % 256 ∷ b ∷ []) small)) lengths)
-        where
-          small : t / 256 ≡ t / 256 % 256
-          small = omega (arith, few_tables)
+      bytes_are = rw (are, is-len) (⊎_elim (λ r. rw r.1 refl) (λ r. rw r.1 refl) lengths)
 
       -- labelling takes the table, and leaves its labels
       module _ (labels after : List ℕ) (sized : length labels ≡ label_bytes n) where
@@ -141,9 +139,6 @@ module _ (n : ℕ) (dim : (1 ≤ n) × (n ≤ 4)) where
       module _ (l : List ℕ) where
         six : columns * F + columns - columns * F ≡ columns
         six = omega arith
-
-        pub line_room : Room (counters_of n) 512 l → Room columns 512 (take (columns * F + columns - columns * F) (drop (columns * F) l))
-        line_room R = rw six (part_room (counters_of n) l R.sized (columns * F) columns line_within 512 R)
 
         pub line_done : (faults r : List ℕ) → length l ≡ counters_of n → faults ≡ table_of n t
             → r ≡ plus columns (λ c. figure c (plain n 3 faults)) (take (columns * F + columns - columns * F) (drop (columns * F) l))

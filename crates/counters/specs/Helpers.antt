@@ -9,6 +9,8 @@ use Rattle.walk.specs.declared.Walked.{Walked}
 use Rattle.theorems.specs.Words.{Accepted}
 use Rattle.figures.specs.Figures.{adds, columns, goes, is_kind}
 use Rattle.figures.specs.Sum.{sum}
+use Rattle.counters.specs.declared.WalkKind.{WalkKind}
+use Rattle.counters.specs.declared.WalkKind.TheVariants.{FourMore, Halted, Least, TwoMore}
 
 -- m counters l, with f i added to each
 unfoldable pub plus : (m : ℕ) (f : ℕ → ℕ) (l : List ℕ) → List ℕ
@@ -40,6 +42,13 @@ walks_from K m k = sum m (λ s. cond (out K s) 0 (walks_to K s (2 ^ K.n) k))
 -- the walk that job 0 goes with a label buffer
 abbrev pub walk_in : (n s d : ℕ) (labels : List ℕ) → Walked
 walk_in n s d labels = walked n 0 s d (length labels) row_bytes (label_for n 0 labels)
+
+-- the place of a kind's counter
+abbrev pub place : WalkKind → ℕ
+place Least = 0
+place TwoMore = 1
+place FourMore = 2
+place Halted = 3
 
 -- the least kind that a walk between nodes that are l apart has
 unfoldable pub kind_of : (w : Walked) (l : ℕ) → ℕ

@@ -1,18 +1,20 @@
 // The tally's counters: what the crate figures defines, counted. `tally` is the library's function: it takes any dimension and any counters, and tests them.
 // The others are its own. They go through the tables by number, label each once as job 0 by rule 3, and add what the walks of all pairs of working nodes come
-// to. A walk's kind is the place of its counter: that it is below 4 is demand 3.
+// to. A walk has one of four kinds, and each has its counter: that there is no fifth is demand 3.
 #![tactic(auto)]
 
 ghost use Rattle.std.specs.Prelude.{◌*◌, ◌%◌, ◌^◌, ◌≤◌, ◌<◌, length, replicate, ◌≡◌};
-ghost use Rattle.counters.specs.Helpers.{Room, Tallying, kind_of, plus, table_adds, walk_in, walks_to};
+ghost use Rattle.counters.specs.Helpers.{Room, Tallying, kind_of, place, plus, table_adds, walk_in, walks_to};
 ghost use Rattle.counters.specs.Tally.{counters_after, is_tallied, tally_refusal};
 ghost use Rattle.cube.specs.Cube.{dist};
+ghost use Rattle.cube.specs.Refused.{answered};
 ghost use Rattle.figures.specs.Figures.{counters_of, figure, tables, tally_of, walks_of};
 ghost use Rattle.figures.specs.Laws.{OneKind};
 ghost use Rattle.jobs.specs.Jobs.{label_bytes};
 ghost use Rattle.rule.specs.Cabinet.{plain};
 ghost use Rattle.theorems.specs.Words.{Works};
 
+use cube::refusals::Refusal;
 use cube::{count_of, distance, node_bit, nodes, table_len};
 use jobs::{half, label_bytes};
 use labels::label;
@@ -22,84 +24,102 @@ const COLUMNS: usize = 6; // the counters of one number of faults: tables, table
 
 // ---- one walk
 
-// The kind of a walk that was delivered with 0, 2 or 4 extra hops.
-fn extra_kind(extra: usize) -> usize
-    requires { (extra ≤ 4) × (extra % 2 ≡ 0) }
-    ensures { extra ≡ 2 * result }
-{
-    if extra == 0 {
-        return 0;
-    }
-    if extra == 2 {
-        return 1;
-    }
-    2
+// The kinds of a walk: delivered with 0, 2 or 4 extra hops, or halted.
+#[derive(Clone, Copy)]
+enum WalkKind {
+    Least,
+    TwoMore,
+    FourMore,
+    Halted,
 }
 
-// The kind of the walk from s to d.
-fn kind(n: usize, s: usize, d: usize, labels: &[u8]) -> usize
-    requires { OneKind (walk_in n s d labels.now) (dist s d) }
-    ensures { result ≡ kind_of (walk_in n s d labels.now) (dist s d) }
+impl WalkKind {
+    // The place of its counter.
+    fn place(self) -> usize
+        ensures { result ≡ place self }
+    {
+        self as usize
+    }
+}
+
+// The kind of a walk that was delivered with 0, 2 or 4 extra hops.
+fn extra_kind(extra: usize) -> WalkKind
+    requires { (extra ≤ 4) × (extra % 2 ≡ 0) }
+    ensures { extra ≡ 2 * place result }
 {
-    let walked = walk(n, 0, s, d, labels);
-    let hops = walked.hops;
-    let ending = walked.ending;
-    match ending {
-        Ending::Delivered => {
-            let least = distance(s, d) as usize;
-            extra_kind(hops - least)
-        }
-        Ending::Halted => 3,
-        Ending::Refused(_) => 4, // no walk that has a kind
+    match extra {
+        0 => WalkKind::Least,
+        2 => WalkKind::TwoMore,
+        _ => WalkKind::FourMore,
     }
 }
 
 // ---- one table
 
-// Adds the walks of one source.
-fn add_walks_from(n: usize, s: usize, faults: &[u8], labels: &[u8], kinds: &mut [u32])
-    requires tallying { Tallying n faults.now labels.now × Works (plain n 3 faults.now) s }
-    requires room { Room 4 (2 ^ n) kinds.old }
-    ensures { kinds.new ≡ plus 4 (walks_to (plain n 3 faults.now) s (2 ^ n)) kinds.old }
-{
-    let size = nodes(n);
-    let mut d: usize = 0;
-    while d < size {
-        if !node_bit(faults, d) {
-            let k = kind(n, s, d, labels);
-            kinds[k] = kinds[k] + 1;
-        }
-        d += 1;
-    }
+// The fault table of an n-cube, and the buffer that labelling left of it as job 0's.
+#[derive(Clone, Copy)]
+struct Table<'a> {
+    n: usize,
+    faults: &'a [u8],
+    labels: &'a [u8],
+    ghost tallying: { Tallying n faults.now labels.now },
 }
 
-// Adds the walks of all sources.
-fn add_walks(n: usize, faults: &[u8], labels: &[u8], kinds: &mut [u32])
-    requires tallying { Tallying n faults.now labels.now }
-    requires room { Room 4 (2 ^ n * 2 ^ n) kinds.old }
-    ensures { kinds.new ≡ plus 4 (walks_of (plain n 3 faults.now)) kinds.old }
-{
-    let size = nodes(n);
-    let mut s: usize = 0;
-    while s < size {
-        if !node_bit(faults, s) {
-            add_walks_from(n, s, faults, labels, kinds);
+impl Table<'_> {
+    // The kind of the walk from s to d.
+    fn kind(&self, s: usize, d: usize) -> WalkKind
+        requires { OneKind (walk_in self.now.n s d self.now.labels.now) (dist s d) }
+        ensures { place result ≡ kind_of (walk_in self.now.n s d self.now.labels.now) (dist s d) }
+    {
+        let walked = walk(self.n, 0, s, d, self.labels);
+        let hops = walked.hops;
+        match walked.ending {
+            Ending::Delivered => {
+                let least = distance(s, d) as usize;
+                extra_kind(hops - least)
+            }
+            Ending::Halted => WalkKind::Halted,
+            Ending::Refused(_) => unreachable!(),
         }
-        s += 1;
     }
-}
 
-// Adds what a table comes to, to the counters of its number of faults.
-fn add_figures(n: usize, faults: &[u8], labels: &[u8], row: &mut [u32])
-    requires tallying { Tallying n faults.now labels.now }
-    requires room { Room 6 512 row.old }
-    ensures { row.new ≡ plus 6 (λ c. figure c (plain n 3 faults.now)) row.old }
-{
-    row[0] = row[0] + 1;
-    if count_of(half(n, 0, labels), 0) == 0 {
-        row[1] = row[1] + 1;
+    // Adds the walks of one source.
+    fn add_walks_from(&self, s: usize, kinds: &mut [u32])
+        requires works { Works (plain self.now.n 3 self.now.faults.now) s }
+        requires room { Room 4 (2 ^ self.now.n) kinds.old }
+        ensures { kinds.new ≡ plus 4 (walks_to (plain self.now.n 3 self.now.faults.now) s (2 ^ self.now.n)) kinds.old }
+    {
+        for d in 0..nodes(self.n) {
+            if !node_bit(self.faults, d) {
+                let k = self.kind(s, d).place();
+                kinds[k] += 1;
+            }
+        }
     }
-    add_walks(n, faults, labels, &mut row[2..]);
+
+    // Adds the walks of all sources.
+    fn add_walks(&self, kinds: &mut [u32])
+        requires { Room 4 (2 ^ self.now.n * 2 ^ self.now.n) kinds.old }
+        ensures { kinds.new ≡ plus 4 (walks_of (plain self.now.n 3 self.now.faults.now)) kinds.old }
+    {
+        for s in 0..nodes(self.n) {
+            if !node_bit(self.faults, s) {
+                self.add_walks_from(s, kinds);
+            }
+        }
+    }
+
+    // Adds what the table comes to, to the counters of its number of faults.
+    fn add_figures(&self, row: &mut [u32])
+        requires { Room 6 512 row.old }
+        ensures { row.new ≡ plus 6 (λ c. figure c (plain self.now.n 3 self.now.faults.now)) row.old }
+    {
+        row[0] += 1;
+        if count_of(half(self.n, 0, self.labels), 0) == 0 {
+            row[1] += 1;
+        }
+        self.add_walks(&mut row[2..]);
+    }
 }
 
 // ---- all tables
@@ -111,15 +131,16 @@ fn add_table(n: usize, t: usize, labels: &mut [u8], counters: &mut [u32])
     requires room { Room (counters_of n) 512 counters.old }
     ensures { counters.new ≡ plus (counters_of n) (table_adds n t) counters.old }
 {
-    let bytes = [(t % 256) as u8, (t / 256) as u8];
+    let bytes = (t as u16).to_le_bytes();
     let zeros = [0u8; 2];
     let len = table_len(n);
     let faults = &bytes[..len];
     let none = &zeros[..len];
-    label(n, 3, 0, faults, none, none, labels);
+    let _ = label(n, 3, 0, faults, none, none, labels);
     let from = COLUMNS * count_of(half(n, 0, labels), 3);
     let to = from + COLUMNS;
-    add_figures(n, faults, labels, &mut counters[from..to]);
+    let table = Table { n, faults, labels };
+    table.add_figures(&mut counters[from..to]);
 }
 
 // Adds all of them.
@@ -129,59 +150,45 @@ fn add_tables(n: usize, labels: &mut [u8], counters: &mut [u32])
     ensures { counters.new ≡ tally_of n }
 {
     let end: usize = 1 << nodes(n);
-    let mut t: usize = 0;
-    while t < end {
+    for t in 0..end {
         add_table(n, t, labels, counters);
-        t += 1;
     }
 }
 
 // ---- the function
 
 // Whether the cube of this dimension is tallied.
+#[tactic(auto, unfolding(crate::specs::Tally::is_tallied))]
 fn is_tallied(n: usize) -> bool
     ensures { result ≡ is_tallied n }
 {
     (1 <= n) & (n <= 4)
 }
 
-// The refusal, 0 for none, where so many counters are lent.
-fn refusal(n: usize, len: usize) -> u32
-    ensures { result ≡ tally_refusal n len }
+// The refusal, if any, where so many counters are lent.
+#[tactic(auto, unfolding(crate::specs::Tally::tally_refusal, crate::specs::Tally::is_tallied, cube::specs::Refusal::first))]
+fn refusal(n: usize, len: usize) -> Result<(), Refusal>
+    ensures { result ≡ answered (tally_refusal n len) tt }
 {
     if !is_tallied(n) {
-        return 1;
+        return Err(Refusal::Dimension);
     }
     if len != COLUMNS * (nodes(n) + 1) {
-        return 2;
+        return Err(Refusal::Length);
     }
-    0
+    Ok(())
 }
 
-// Sets every counter to 0.
-fn clear(counters: &mut [u32])
-    ensures { counters.new ≡ replicate (length counters.old) 0 }
-{
-    let mut i: usize = 0;
-    while i < counters.len() {
-        counters[i] = 0;
-        i += 1;
-    }
-}
-
-// Counts the figures of all fault tables of an n-cube: for each number of faults, from none to all nodes, six counters. Answers 0, or the refusal, which
-// leaves the counters as they were.
-pub fn tally(n: usize, counters: &mut [u32]) -> u32
-    ensures answer { result ≡ tally_refusal n (length counters.old) }
+// Counts the figures of all fault tables of an n-cube: for each number of faults, from none to all nodes, six counters. A refusal leaves the counters as they
+// were.
+pub fn tally(n: usize, counters: &mut [u32]) -> Result<(), Refusal>
+    ensures answer { result ≡ answered (tally_refusal n (length counters.old)) tt }
     ensures counters { counters.new ≡ counters_after n counters.old }
 {
-    let k = refusal(n, counters.len());
-    if k != 0 {
-        return k;
-    }
-    clear(counters);
+    refusal(n, counters.len())?;
+    counters.fill(0);
     let mut labels = [0u8; 32];
     let bytes = label_bytes(n);
     add_tables(n, &mut labels[..bytes], counters);
-    0
+    Ok(())
 }

@@ -5,7 +5,7 @@ use Rattle.walk.specs.declared.Ending.TheVariants as ending
 use Rattle.walk.specs.declared.Walked.{Walked}
 use Rattle.figures.specs.Laws.{OneKind}
 use Rattle.counters.proofs.Kinded.{delivered_kind, extra_even, halted_kind, never_refused}
-use Rattle.counters.proofs.kind.Goals as goal
+use Rattle.counters.proofs.Table.kind.Goals as goal
 
 -- the walk that was asked for has one kind
 one : (v w : Walked) (l : ℕ) → w ≡ v → OneKind v l → OneKind w l
@@ -31,5 +31,5 @@ returns-in-Delivered c =
 pub returns-in-Halted : goal.returns-in-Halted
 returns-in-Halted c = rw (← c.walk-walked.ensures) (halted_kind _ _ (one _ _ _ c.walk-walked.ensures c.requires) c.in-Halted.is)
 
-pub returns-in-Refused : goal.returns-in-Refused
-returns-in-Refused c = absurd (never_refused _ _ (one _ _ _ c.walk-walked.ensures c.requires) _ c.in-Refused.is)
+pub unreachable-requires : goal.unreachable-requires
+unreachable-requires c = never_refused _ _ (one _ _ _ c.walk-walked.ensures c.requires) _ c.in-Refused.is
