@@ -14,7 +14,7 @@ ghost use Rattle.jobs.specs.Jobs.{label_for};
 ghost use Rattle.scans.specs.Scans as scans;
 
 use cube::refusals::Refusal;
-use cube::{HIGHEST, distance, is_dimension, nodes};
+use cube::{HIGHEST, distance, is_dimension, neighbour, nodes};
 use jobs::{half, is_job, label_bytes};
 
 const DRAINING: u8 = 4; // the label of a draining node
@@ -69,37 +69,23 @@ fn some_above(n: usize, near: &[u8; 12]) -> bool
     requires { n ≤ 12 }
     ensures { result ≡ some n (λ i. ltb highest (get_or near.now i 0)) }
 {
-    let mut i = 0;
-    while i < n {
-        if HIGHEST < near[i] {
-            return true;
-        }
-        i += 1;
-    }
-    false
+    near[..n].iter().any(|label| HIGHEST < *label)
 }
 
 // Reads the labels of c's neighbours, each once, into the first n places of near, and answers whether one is above the highest label. None is above all of
-// them joined by `|`: so where that is no higher, as it is where no neighbour drains, they need not be looked at one by one. step is 2 ^ i.
+// them joined by `|`: so where that is no higher, as it is where no neighbour drains, they need not be looked at one by one.
 pub fn gather(n: usize, labels: &[u8], c: usize, near: &mut [u8; 12]) -> bool
     requires { (n ≤ 12) × (c < 2 ^ n) × (length labels.now ≡ 2 ^ n) × (near.old ≡ replicate 12 0) }
     ensures near { near.new ≡ gathered n (label_in labels.now) c }
     ensures high { result ≡ some n (λ i. ltb highest (label_in labels.now (flip i c))) }
 {
-    let mut any: u8 = 0;
-    let mut step: usize = 1;
-    let mut i = 0;
-    while i < n {
-        let y = labels[c ^ step];
-        near[i] = y;
-        any = any | y;
-        step = step + step;
-        i += 1;
+    let mut joined: u8 = 0;
+    for i in 0..n {
+        let label = labels[neighbour(c, i)];
+        near[i] = label;
+        joined |= label;
     }
-    if any <= HIGHEST {
-        return false;
-    }
-    some_above(n, near)
+    (HIGHEST < joined) && some_above(n, near)
 }
 
 // The lowest dimension of a set whose neighbour's label is at most top. The bits of a number are the set's dimensions: its trailing zeros give the lowest of
