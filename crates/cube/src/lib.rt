@@ -30,14 +30,15 @@ pub fn neighbour(x: usize, i: usize) -> usize
 pub fn distance(c: usize, d: usize) -> u32
     ensures { result ≡ dist c d }
 {
-    usize::count_ones(c ^ d)
+    (c ^ d).count_ones()
 }
 
 // Whether n is a dimension that the library takes, 1 to 12.
+#[tactic(auto, unfolding(crate::specs::Tables::is_dimension))]
 pub fn is_dimension(n: usize) -> bool
     ensures { result ≡ is_dimension n }
 {
-    (1 <= n) & (n <= 12)
+    matches!(n, 1..=12)
 }
 
 // The bytes of a fault table.
@@ -45,10 +46,7 @@ pub fn table_len(n: usize) -> usize
     requires { n < 64 }
     ensures { result ≡ table_len n }
 {
-    if n <= 3 {
-        return 1;
-    }
-    nodes(n) / 8
+    if n <= 3 { 1 } else { nodes(n) / 8 }
 }
 
 // Node k's bit in a fault table.

@@ -7,5 +7,5 @@ use Rattle.cube.proofs.table_len.Goals as goal
 pub returns-then-n-le3 : goal.returns-then-n-le3
 returns-then-n-le3 c = sym (len_small c.args.n c.if-n-le3.true)
 
-pub returns : goal.returns
-returns c = ap (λ (x : ℕ). x / 8) c.nodes.ensures ∙ sym (len_large c.args.n c.if-n-le3.false)
+pub returns-else-n-le3 : goal.returns-else-n-le3
+returns-else-n-le3 c = ap (λ (x : ℕ). x / 8) c.nodes.ensures ∙ sym (len_large c.args.n c.if-n-le3.false)

@@ -6,6 +6,7 @@ use native.Mathlib.Omega.{arith}
 use lib.Dec.{eqb}
 use lib.ListN.{get_or}
 use lib.Pow.{pow-lt}
+use Rattle.std.proofs.Common.{rules}
 use Rattle.cube.proofs.Tables.{len_small, unused_none, unused_byte}
 use Rattle.cube.proofs.unused_set.Goals as goal
 
@@ -21,4 +22,4 @@ overflow_shr-result c = omega (arith, pow-lt {i = c.args.n} {j = 3} (omega arith
 pub returns : goal.returns
 returns c =
     ap (λ (m : ℕ). not (eqb (get_or c.args.t.now 0 0 / 2 ^ m) 0)) c.nodes.ensures
-    ∙ unused_byte c.args.n c.args.t.now (omega arith) c.requires (omega (arith, c.shared_slice_known-2-1.given 0))
+    ∙ unused_byte c.args.n c.args.t.now (omega arith) c.requires (search (rules, c.type_inv.t 0))
