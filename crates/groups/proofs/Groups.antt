@@ -2,13 +2,13 @@
 -- 128 * 128, since each group has seven bits, and at least 128, since the second is not zero.
 use mathlib.Core.Path.{◌≡◌, refl, sym, ap, ◌∙◌}
 use mathlib.Core.Logic.{◌⊎◌, inl, inr}
-use mathlib.Core.Bool.{true, false, ◌||◌}
+use mathlib.Core.Bool.{true, false, cond, ◌||◌}
 use mathlib.Core.List.{List}
 use Prim.Native.Nat.{ℕ, zero, suc, ◌+◌, ◌*◌, ◌%◌, ◌≤◌, ◌<◌}
 use native.Mathlib.Omega.{arith}
 use lib.Dec.{eqb, ltb, leb}
 use lib.ListN.{length, get_or}
-use borrow.Author.Tests.{leb-false, ltb-true, lt-leb, le-ltb, ne_eqb}
+use borrow.Author.Tests.{leb-false, ltb-true, le-leb, lt-leb, lt-ltb, le-ltb, ne_eqb}
 use Rattle.std.specs.Prelude.{Ok, Err}
 use Rattle.cube.specs.declared.refusals.Refusal.{Refusal}
 use Rattle.cube.specs.declared.refusals.Refusal.TheVariants.{Cut, Group}
@@ -70,18 +70,34 @@ pub refused_place : (s : List ℕ) (at : ℕ) (r : Refusal) (place : ℕ) → nu
 refused_place s at r place =
     cases s at (λ x. x ≡ Err (r, place) → place ≡ at) (λ e. sym (same_refusal e).1) (λ e. sym (same_refusal e).1) (λ v next _ e. absurd (no_value (sym e)))
 
--- ---- a first group that has its high bit set, and a byte behind it: there are two groups, and the second decides
+-- ---- the outcomes as the code comes to them: it holds the first group, and then the second
 
-module _ (s : List ℕ) (at : ℕ) (more : at + 1 < length s) (high : 128 ≤ get_or s at 0) where
-  both : number_at s at ≡ two_groups (get_or s at 0) (get_or s (at + 1) 0) at
+module _ (s : List ℕ) (at : ℕ) where
+  pub missing : length s ≤ at → Err (Cut, at) ≡ number_at s at
   unfolding number_at
-  both = rw (lt-leb (length s) at (omega arith), le-ltb (get_or s at 0) 128 high, lt-leb (length s) (at + 1) more)
+  missing h = rw (le-leb (length s) at h)
 
-  pub second_refused : (eqb (get_or s (at + 1) 0) 0 || leb 128 (get_or s (at + 1) 0)) ≡ true → Err (Group, at) ≡ number_at s at
-  unfolding two_groups
-  second_refused e = sym (both ∙ rw e)
+  module _ {low : ℕ} (here : at < length s) (is : low ≡ get_or s at 0) where
+    pub one_group : low < 128 → Ok (low, at + 1) ≡ number_at s at
+    unfolding number_at
+    one_group h = rw (lt-leb (length s) at here, lt-ltb (get_or s at 0) 128 (omega arith), is)
 
-  pub second_value : (eqb (get_or s (at + 1) 0) 0 || leb 128 (get_or s (at + 1) 0)) ≡ false
-      → Ok (get_or s at 0 % 128 + get_or s (at + 1) 0 * 128, at + 2) ≡ number_at s at
-  unfolding two_groups
-  second_value e = sym (both ∙ rw e)
+    module _ (more : 128 ≤ low) where
+      second : number_at s at ≡ cond (leb (length s) (at + 1)) (Err (Cut, at)) (two_groups (get_or s at 0) (get_or s (at + 1) 0) at)
+      unfolding number_at
+      second = rw (lt-leb (length s) at here, le-ltb (get_or s at 0) 128 (omega arith))
+
+      pub cut_short : length s ≤ at + 1 → Err (Cut, at) ≡ number_at s at
+      cut_short h = sym (second ∙ rw (le-leb (length s) (at + 1) h))
+
+      module _ {high : ℕ} (there : at + 1 < length s) (is_high : high ≡ get_or s (at + 1) 0) where
+        both : number_at s at ≡ two_groups low high at
+        both = second ∙ rw (lt-leb (length s) (at + 1) there, is, is_high)
+
+        pub second_refused : (eqb high 0 || leb 128 high) ≡ true → Err (Group, at) ≡ number_at s at
+        unfolding two_groups
+        second_refused e = sym (both ∙ rw e)
+
+        pub second_value : (eqb high 0 || leb 128 high) ≡ false → Ok (low % 128 + high * 128, at + 2) ≡ number_at s at
+        unfolding two_groups
+        second_value e = sym (both ∙ rw e)

@@ -13,18 +13,18 @@ pub type Number = Result<(usize, usize), (Refusal, usize)>;
 pub fn number_at(bytes: &[u8], at: usize) -> Number
     ensures { result ≡ number_at bytes.now at }
 {
-    if bytes.len() <= at {
+    let Some(&first) = bytes.get(at) else {
         return Err((Refusal::Cut, at));
-    }
-    let low = bytes[at] as usize;
+    };
+    let low = usize::from(first);
     let second = at + 1;
     if low < 128 {
         return Ok((low, second));
     }
-    if bytes.len() <= second {
+    let Some(&next) = bytes.get(second) else {
         return Err((Refusal::Cut, at));
-    }
-    let high = bytes[second] as usize;
+    };
+    let high = usize::from(next);
     if (high == 0) | (128 <= high) {
         return Err((Refusal::Group, at));
     }

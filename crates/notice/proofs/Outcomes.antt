@@ -3,20 +3,20 @@
 use mathlib.Core.Path.{◌≡◌, refl, sym, ap, ap₂, ◌∙◌}
 use mathlib.Core.Bool.{true}
 use mathlib.Core.List.{List}
-use Prim.Native.Nat.{ℕ, ◌+◌, ◌-◌, ◌*◌, ◌^◌, ◌≤◌}
+use Prim.Native.Nat.{ℕ, ◌+◌, ◌-◌, ◌*◌, ◌^◌, ◌≤◌, ◌<◌}
 use native.Mathlib.Omega.{arith}
 use lib.ListN.{length, take, drop, replicate, length-drop, length-replicate}
 use lib.Seq.{take_all}
-use borrow.Author.Tests.{eq-eqb, ne_eqb}
+use borrow.Author.Tests.{eq-eqb, le-ltb, lt-ltb, ne_eqb}
 use Rattle.std.specs.Prelude.{Ok, Err}
 use Rattle.cube.specs.Refusal.{first}
 use Rattle.cube.specs.declared.refusals.Refusal.{Refusal}
-use Rattle.cube.specs.declared.refusals.Refusal.TheVariants.{Length}
+use Rattle.cube.specs.declared.refusals.Refusal.TheVariants.{Count, Length}
 use Rattle.cube.specs.Tables.{table_len}
 use Rattle.cube.proofs.Tables.{table_few, table_room}
-use Rattle.groups.specs.Number.{Number, further}
+use Rattle.groups.specs.Number.{Number, further, number_at}
 use Rattle.groups.proofs.Groups.{read_number}
-use Rattle.notice.specs.Tests.{tested, length_tests}
+use Rattle.notice.specs.Tests.{tested, count_tests, length_tests}
 use Rattle.notice.specs.Addresses.{addresses_end, addresses_at, rising, with_bits}
 use Rattle.notice.specs.Notice.{Noticed, a_notice, a_rest, count_at, dimension_at, rest_at, notice_from, notice_of, noticed, addresses_of, table_after, tail_at}
 use Rattle.notice.proofs.Cases.{tested_refused, tested_fails, tested_passes}
@@ -35,6 +35,20 @@ module _ (n : ℕ) (s : List ℕ) (at : ℕ) where
   pub rest_refused : {r : Refusal} {p : ℕ} → Err (r, p) ≡ count_at n s at → Err (r, p) ≡ rest_at n s at
   unfolding rest_at
   rest_refused e = rw (sym e)
+
+  -- the count, as the code comes to it
+  pub count_refused : {r : Refusal} {p : ℕ} → Err (r, p) ≡ number_at s at → Err (r, p) ≡ rest_at n s at
+  unfolding count_at
+  count_refused e = rest_refused (tested_refused (count_tests n) at e)
+
+  module _ {m start size : ℕ} (e : Ok (m, start) ≡ number_at s at) (full : size ≡ 2 ^ n) where
+    pub count_many : size < m → Err (Count, at) ≡ rest_at n s at
+    unfolding count_at first
+    count_many h = rest_refused (tested_fails (count_tests n) at 11 e (rw (lt-ltb (2 ^ n) m (omega arith))) refl)
+
+    pub counted : m ≤ size → Ok (m, start) ≡ count_at n s at
+    unfolding count_at first
+    counted h = tested_passes (count_tests n) at e (rw (le-ltb (2 ^ n) m (omega arith)))
 
   module _ {m start size : ℕ} (e : Ok (m, start) ≡ count_at n s at) (full : size ≡ 2 ^ n) where
     pub rest_begins : start ≤ length s

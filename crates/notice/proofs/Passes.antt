@@ -66,9 +66,9 @@ module _ {m : ℕ} {s : List ℕ} {size left at base : ℕ} (I : Checking m s si
       check_over h =
           sym (I.same ∙ end_refused left s at base more size (tested_fails (address_tests base size) at 12 e (rw (le-leb size (base + v) h)) refl))
 
-      pub check_on : base + v < size → Checking m s size (left - 1) next (base + v + 1)
+      pub check_on : base + v < size → {after : ℕ} → after ≡ left - 1 → Checking m s size after next (base + v + 1)
       unfolding first
-      check_on h = record {
+      check_on h f = rw f record {
         low = omega arith;
         same = I.same ∙ end_value left s at base more size (tested_passes (address_tests base size) at e (rw (lt-leb size (base + v) h)));
       }
@@ -97,9 +97,9 @@ module _ {m : ℕ} {s old now : List ℕ} {left at base : ℕ} (I : Writing m s 
       pub write_below : base + v < 8 * length now
       write_below = omega (arith, I.sized, (rises base (8 * length old) (base + v) _ (rw this at I.room)).1)
 
-      pub write_on : {after : List ℕ} → after ≡ with_bit now (base + v) → Writing m s old after (left - 1) next (base + v + 1)
+      pub write_on : {after : List ℕ} {others : ℕ} → after ≡ with_bit now (base + v) → others ≡ left - 1 → Writing m s old after others next (base + v + 1)
       unfolding with_bits
-      write_on f = record {
+      write_on f g = rw g record {
         sized = ap length f ∙ length_with now (base + v) ∙ I.sized;
         room = (rises base (8 * length old) (base + v) _ (rw this at I.room)).2;
         same = I.same ∙ ap (with_bits now) this ∙ ap (λ (t : List ℕ). with_bits t (addresses_at (left - 1) s next (base + v + 1))) (sym f);

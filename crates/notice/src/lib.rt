@@ -4,7 +4,7 @@
 
 ghost use Rattle.std.specs.Prelude.{◌+◌, ◌*◌, ◌/◌, ◌<◌, ◌≤◌, drop, length, replicate, true, ◌≡◌};
 ghost use Rattle.notice.specs.Addresses.{addresses_at, addresses_end, rising, with_bit, with_bits};
-ghost use Rattle.notice.specs.Notice.{count_at, dimension_at, noticed, rest_at, table_after, tail_at};
+ghost use Rattle.notice.specs.Notice.{dimension_at, noticed, rest_at, table_after, tail_at};
 
 use cube::refusals::Refusal;
 use cube::{is_dimension, nodes, table_len};
@@ -45,31 +45,15 @@ pub fn dimension(bytes: &[u8]) -> Number
     Err((Refusal::Dimension, 0))
 }
 
-// The count of faulty nodes behind a dimension n, with the next place, or the refusal.
-fn count(bytes: &[u8], n: usize, at: usize) -> Number
-    requires { n ≤ 12 }
-    ensures { result ≡ count_at n bytes.now at }
-{
-    let number = number_at(bytes, at);
-    let Ok((m, next)) = number else {
-        return number;
-    };
-    if nodes(n) < m {
-        return Err((Refusal::Count, at));
-    }
-    Ok((m, next))
-}
-
 // The checking pass of the address reader: it is handed the bytes behind the count, and writes nothing. It answers where a next address would be
 // counted from, with the next place, or the refusal; places are those of its own bytes.
 fn check_addresses(bytes: &[u8], m: usize, size: usize) -> Number
     requires { size ≤ 4096 }
     ensures { result ≡ addresses_end m bytes.now 0 0 size }
 {
-    let mut due: usize = m;
     let mut at: usize = 0;
     let mut base: usize = 0;
-    while 0 < due {
+    for _ in 0..m {
         let number = number_at(bytes, at);
         let Ok((v, next)) = number else {
             return number;
@@ -80,7 +64,6 @@ fn check_addresses(bytes: &[u8], m: usize, size: usize) -> Number
         }
         base = address + 1;
         at = next;
-        due -= 1;
     }
     Ok((base, at))
 }
@@ -90,8 +73,12 @@ fn check_rest(bytes: &[u8], n: usize, at: usize) -> Rest
     requires { n ≤ 12 }
     ensures { result ≡ rest_at n bytes.now at }
 {
-    let (m, start) = count(bytes, n, at)?;
-    match check_addresses(&bytes[start..], m, nodes(n)) {
+    let size = nodes(n);
+    let (m, start) = number_at(bytes, at)?;
+    if size < m {
+        return Err((Refusal::Count, at));
+    }
+    match check_addresses(&bytes[start..], m, size) {
         Ok((_, taken)) => Ok(Found {
             count: m,
             start,
@@ -123,10 +110,9 @@ fn write_addresses(bytes: &[u8], m: usize, faults: &mut [u8])
     requires bytes_value { rising 0 (8 * length faults.old) (addresses_at m bytes.now 0 0) ≡ true }
     ensures { faults.new ≡ with_bits faults.old (addresses_at m bytes.now 0 0) }
 {
-    let mut left: usize = m;
     let mut at: usize = 0;
     let mut base: usize = 0;
-    while 0 < left {
+    for _ in 0..m {
         let number = number_at(bytes, at);
         let Ok((v, next)) = number else {
             return;
@@ -135,7 +121,6 @@ fn write_addresses(bytes: &[u8], m: usize, faults: &mut [u8])
         set_bit(faults, node);
         base = node + 1;
         at = next;
-        left -= 1;
     }
 }
 

@@ -1,9 +1,7 @@
--- `check_addresses` goes through the addresses and writes nothing: its loop keeps `Checking`. The measure is the count of addresses due.
+-- `check_addresses` goes through the addresses and writes nothing: its loop keeps `Checking`, with as many addresses due as there are turns left.
+use Prim.Native.Nat.{◌-◌}
 use Rattle.notice.proofs.Passes.{Checking}
 use Rattle.notice.proofs.check_addresses.Given as goal
 
-abbrev pub invariant-loop-due : goal.invariant-loop-due
-invariant-loop-due l = Checking l.m l.bytes l.size l.due l.at l.base
-
-abbrev pub decreases-loop-due : goal.decreases-loop-due
-decreases-loop-due l = l.due
+abbrev pub invariant-loop : goal.invariant-loop
+invariant-loop l = Checking l.m l.bytes l.size (l.m - l.counter) l.at l.base
