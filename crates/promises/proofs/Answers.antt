@@ -1,21 +1,23 @@
 -- The answer that a contract gives is one that it allows: lent bytes stand somewhere in memory, and the equations hold of it.
+use Rattle.std.specs.Prelude.{Result}
 use mathlib.Core.List.{List}
 use mathlib.Core.Logic.{inl}
 use mathlib.Core.Path.{refl}
 use Prim.Native.Nat.{ℕ}
+use native.Mathlib.Omega.{arith}
 use lib.ListN.{length, length-replicate, replicate}
 use Rattle.cube.specs.Allowed.{May}
+use Rattle.cube.specs.Refused.{answered}
 use Rattle.cube.proofs.Contracts.{may}
+use Rattle.cube.proofs.Refused.{refused_is}
 use Rattle.jobs.specs.Jobs.{label_for}
 use Rattle.rule.specs.Cabinet.{Cabinet}
 use Rattle.notice.specs.Notice.{dimension_at, noticed, table_after}
-use Rattle.notice.specs.declared.Noticed.{Noticed}
+use Rattle.notice.specs.Notice.{Noticed}
 use Rattle.notice.proofs.Functions as notice
 use Rattle.labels.specs.Labelling.{labelled, labels_after}
-use Rattle.labels.specs.declared.Labelled.{Labelled}
 use Rattle.labels.proofs.Functions as labels-crate
 use Rattle.hop.specs.Hop.{hopped}
-use Rattle.hop.specs.declared.Hopped.{Hopped}
 use Rattle.hop.proofs.Functions as hop
 use Rattle.walk.specs.Walk.{walked}
 use Rattle.walk.specs.declared.Walked.{Walked}
@@ -29,10 +31,12 @@ use Rattle.writer.specs.Writing.{buffer_after, wrote}
 use Rattle.writer.proofs.Functions as writer
 use Rattle.list_reader.specs.Reading.{list_refusal, list_table}
 use Rattle.list_reader.proofs.Functions as list_reader
+use Rattle.list_reader.proofs.Outcomes as reading
 use Rattle.list_writer.specs.Lists.{list_after, wrote_list}
 use Rattle.list_writer.proofs.Functions as list_writer
 use Rattle.repair.specs.Repairing.{namers_after, repair_refusal, result_after}
 use Rattle.repair.proofs.Functions as repair
+use Rattle.repair.proofs.Outcomes as repaired
 use Rattle.hcube.specs.Answers.{
   dimension_number,
   hop_number,
@@ -51,6 +55,8 @@ use Rattle.promises.specs.Answers.{Answers}
 use Rattle.promises.specs.Library.{rattle, c}
 use Rattle.promises.proofs.Lent.{four, lend, lend_mut, one, two}
 use Rattle.promises.proofs.NetworkAnswers as networks
+use Rattle.cube.specs.declared.refusals.Refusal.{Refusal}
+use Rattle.hop.specs.declared.Decision.{Decision}
 
 module _ (bytes : List ℕ) where
   sizes : May notice.dimension bytes (dimension_at bytes) tt
@@ -101,9 +107,12 @@ module _ (n : ℕ) (text before : List ℕ) where
   abbrev read_table : List ℕ
   read_table = list_table n text before
 
-  reads_list : May list_reader.read (n, text, before) (list_refusal n text before) read_table
+  abbrev outcome : Result (Unit {0}) Refusal
+  outcome = answered (list_refusal n text before) tt
+
+  reads_list : May list_reader.read (n, text, before) outcome read_table
   reads_list =
-      may list_reader.read two (n, (lend text, (lend_mut before, tt))) (list_refusal n text before) (n, (lend text, (lend_mut read_table, tt))) (refl, refl)
+      may list_reader.read two (n, (lend text, (lend_mut before, tt))) outcome (n, (lend text, (lend_mut read_table, tt))) (refl, refl)
 
   c_reads_list : May hcube.read_list (n, text, before) (done_number (list_refusal n text before)) read_table
   c_reads_list =
@@ -120,9 +129,12 @@ module _ (n : ℕ) (faults masks result row : List ℕ) where
   abbrev r : List ℕ
   r = namers_after n faults masks result row
 
-  repairs : May repair.repair (n, faults, masks, result, row) done (t, r)
+  abbrev repairing : Result (Unit {0}) Refusal
+  repairing = answered done tt
+
+  repairs : May repair.repair (n, faults, masks, result, row) repairing (t, r)
   repairs =
-      may repair.repair four (n, (lend faults, (lend masks, (lend_mut result, (lend_mut row, tt))))) done (n, (lend faults, (lend masks, (lend_mut t, (lend_mut r, tt)))))
+      may repair.repair four (n, (lend faults, (lend masks, (lend_mut result, (lend_mut row, tt))))) repairing (n, (lend faults, (lend masks, (lend_mut t, (lend_mut r, tt)))))
       (refl, (refl, refl))
 
   c_repairs : May hcube.repair (n, faults, masks, result, row) (done_number done) (t, r)
@@ -131,7 +143,7 @@ module _ (n : ℕ) (faults masks result row : List ℕ) where
       (n, (lend faults, (lend masks, (lend_mut t, (lend_mut r, tt))))) (refl, (refl, refl))
 
 module _ (K : Cabinet) (j : ℕ) (before : List ℕ) where
-  abbrev answer : Labelled
+  abbrev answer : Result ℕ Refusal
   answer = labelled K j (length before)
 
   abbrev after : List ℕ
@@ -148,7 +160,7 @@ module _ (K : Cabinet) (j : ℕ) (before : List ℕ) where
       (K.n, (K.rule, (j, (lend K.faults, (lend K.draining, (lend K.closed, (lend_mut after, tt))))))) (refl, refl)
 
   module _ (x : ℕ) where
-    abbrev because : NodeReason
+    abbrev because : Result NodeReason Refusal
     because = node_reason K j (length before) x
 
     abbrev left : List ℕ
@@ -166,7 +178,7 @@ module _ (K : Cabinet) (j : ℕ) (before : List ℕ) where
         (K.n, (K.rule, (j, (x, (lend K.faults, (lend K.draining, (lend K.closed, (lend_mut left, tt)))))))) (refl, refl)
 
 module _ (n j a b : ℕ) (l : List ℕ) where
-  abbrev taken : HopReason
+  abbrev taken : Result HopReason Refusal
   taken = hop_reason n j a b (length l) (label_for n j l)
 
   why_hops : May why.why-hop (n, j, a, b, l) taken tt
@@ -175,7 +187,7 @@ module _ (n j a b : ℕ) (l : List ℕ) where
   c_why_hops : May hcube.why-hop (n, j, a, b, l) (hop_reason_number taken) tt
   c_why_hops = may hcube.why-hop one (n, (j, (a, (b, (lend l, tt))))) (hop_reason_number taken) (n, (j, (a, (b, (lend l, tt))))) refl
 
-  abbrev decided : Hopped
+  abbrev decided : Result Decision Refusal
   decided = hopped n j a b (length l) (label_for n j l)
 
   hops : May hop.hop (n, j, a, b, l) decided tt
@@ -202,9 +214,11 @@ rattle_answers =
       reads = λ bytes before. (_, _, reads bytes before);
       sizes = λ bytes. (_, _, (dimension_at bytes, sizes bytes, record { refusal = refl; value = refl }));
       writes = λ n faults before. (_, _, writes n faults before);
-      reads_list = λ n text before. (_, _, reads_list n text before);
+      reads_list = λ n text before.
+          (list_refusal n text before, _, (outcome n text before, reads_list n text before, refused_is _ tt (omega (arith, reading.refusal_few n text before))));
       writes_list = λ n faults before. (_, _, writes_list n faults before);
-      repairs = λ n faults masks result row. (_, _, _, repairs n faults masks result row);
+      repairs = λ n faults masks result row.
+          (done n faults masks result row, _, _, (repairing n faults masks result row, repairs n faults masks result row, refused_is _ tt (omega (arith, repaired.refusal_few n faults masks (length result) (length row)))));
       labels = λ K j before. (_, _, labels K j before);
       hops = λ n j a b l. (_, hops n j a b l);
       why_nodes = λ K j x before. (_, _, why_nodes K j before x);

@@ -1,4 +1,5 @@
 -- The demands, of any library that is faithful to the definitions: what they say of the definitions they say of whatever the contracts allow.
+use Rattle.std.specs.Prelude.{Result, Ok}
 use mathlib.Core.List.{List}
 use mathlib.Core.Logic.{◌≢◌}
 use mathlib.Core.Path.{◌≡◌, sym, ap, ap₂, subst, ◌∙◌}
@@ -16,11 +17,8 @@ use Rattle.enough.proofs.Enough.{few_out_safe}
 use Rattle.spelling.specs.Laws.{IsTable}
 use Rattle.notice.specs.Laws.{TableOf}
 use Rattle.notice.specs.Notice as N
-use Rattle.notice.specs.declared.Noticed.TheVariants as noticed
 use Rattle.notice.proofs.Laws.{notice_laws}
 use Rattle.labels.specs.Labelling as L
-use Rattle.labels.specs.declared.Labelled.{Labelled}
-use Rattle.labels.specs.declared.Labelled.TheVariants as labelled
 use Rattle.labels.proofs.Refusal.{fits, fitting, labels_written, length_kept, of_exchanges}
 use Rattle.hop.specs.Hop as H
 use Rattle.hop.proofs.Local.{hop_local}
@@ -50,6 +48,9 @@ use Rattle.promises.proofs.Outcomes.{answered, labels_kept}
 use Rattle.promises.proofs.Refusals.{refusals}
 use Rattle.promises.proofs.Sizes as sizes
 use Rattle.promises.proofs.Walks.{again, blank, decided, ends, frame_once, steps}
+use Rattle.cube.specs.declared.refusals.Refusal.{Refusal}
+use Rattle.cube.specs.Refused.{refused}
+use Rattle.notice.specs.Notice.{a_notice}
 
 module _ (lib : Library) (F : Faithful lib) where
   -- ---- what labelling left
@@ -60,7 +61,7 @@ module _ (lib : Library) (F : Faithful lib) where
     pub long : length buffer ≡ label_bytes K.n
     pub bytes : labels_of K ≡ half j (2 ^ K.n) buffer
 
-  pub left : {K : Cabinet} {j exchanges : ℕ} {before buffer : List ℕ} → lib.labels K j before (labelled.Exchanges exchanges) buffer → Left K j exchanges buffer
+  pub left : {K : Cabinet} {j exchanges : ℕ} {before buffer : List ℕ} → lib.labels K j before (Ok exchanges) buffer → Left K j exchanges buffer
   left {K} {j} {exchanges} {before} {buffer} m =
       let f = F.labels m in
       let o = of_exchanges K j (length before) exchanges (sym f.0) in
@@ -74,13 +75,13 @@ module _ (lib : Library) (F : Faithful lib) where
 
   -- so what holds of the labels and of the count by the definitions holds of those that labelling left
   of_left : {K : Cabinet} {j exchanges : ℕ} {before buffer : List ℕ} (P : (ℕ → ℕ) → ℕ → Type 0)
-      → lib.labels K j before (labelled.Exchanges exchanges) buffer → P (label_at K) (exchanges_of K) → P (label_for K.n j buffer) exchanges
+      → lib.labels K j before (Ok exchanges) buffer → P (label_at K) (exchanges_of K) → P (label_for K.n j buffer) exchanges
   of_left {K} {j} {exchanges} {before} {buffer} P m p =
       let l = left m in
       subst (P (label_for K.n j buffer)) l.count (subst (λ (t : List ℕ). P (label_in t) (exchanges_of K)) l.bytes p)
 
   -- what an accepted notice left
-  table : {bytes old faults : List ℕ} {n m taken : ℕ} → lib.reads bytes old (noticed.Notice n m taken) faults → TableOf n m (N.addresses_of bytes) faults
+  table : {bytes old faults : List ℕ} {n m taken : ℕ} → lib.reads bytes old (a_notice n m taken) faults → TableOf n m (N.addresses_of bytes) faults
   table {bytes} {old} {faults} {n} {m} {taken} r =
       let f = F.reads r in
       subst (TableOf n m (N.addresses_of bytes)) (sym f.1) (notice_laws.written bytes old n m taken (sym f.0))
@@ -98,14 +99,14 @@ module _ (lib : Library) (F : Faithful lib) where
       )
 
   -- a walk with the labels that labelling left is the cabinet's
-  pub is_walk : {K : Cabinet} {j exchanges s d : ℕ} {before buffer : List ℕ} {w : Walked} → lib.labels K j before (labelled.Exchanges exchanges) buffer
+  pub is_walk : {K : Cabinet} {j exchanges s d : ℕ} {before buffer : List ℕ} {w : Walked} → lib.labels K j before (Ok exchanges) buffer
       → lib.walks K.n j s d buffer W.row_bytes w → w ≡ walk_of K j s d
   is_walk {K} {j} {exchanges} {s} {d} m v =
       F.walks v
       ∙ ap₂ (λ (k : ℕ) (t : List ℕ). W.walked K.n j s d k W.row_bytes (label_in t)) (left m).long (sym (left m).bytes)
 
   walks :
-      {K : Cabinet} {j exchanges s d : ℕ} {before buffer : List ℕ} {w : Walked} → lib.labels K j before (labelled.Exchanges exchanges) buffer
+      {K : Cabinet} {j exchanges s d : ℕ} {before buffer : List ℕ} {w : Walked} → lib.labels K j before (Ok exchanges) buffer
       → Works K s → Takes K d → lib.walks K.n j s d buffer W.row_bytes w → Walks K (label_for K.n j buffer) s d w
   walks {K} {j} {exchanges} {s} {d} {before} {buffer} {w} m hs hd v =
       subst (Walks K (label_for K.n j buffer) s d) (sym (is_walk m v))
@@ -113,14 +114,14 @@ module _ (lib : Library) (F : Faithful lib) where
 
   -- ---- the two rules
 
-  moved : (K : Cabinet) {j e e' : ℕ} {before before' old new : List ℕ} → lib.labels (by_rule 2 K) j before (labelled.Exchanges e) old
-      → lib.labels (by_rule 3 K) j before' (labelled.Exchanges e') new → OnlyBetter K.n (label_for K.n j old) (label_for K.n j new)
+  moved : (K : Cabinet) {j e e' : ℕ} {before before' old new : List ℕ} → lib.labels (by_rule 2 K) j before (Ok e) old
+      → lib.labels (by_rule 3 K) j before' (Ok e') new → OnlyBetter K.n (label_for K.n j old) (label_for K.n j new)
   moved K {j} {e} {e'} {before} {before'} {old} {new} a b =
       subst (λ (t : List ℕ). OnlyBetter K.n (label_in t) (label_for K.n j new)) (left a).bytes
       (subst (λ (t : List ℕ). OnlyBetter K.n (label_at (by_rule 2 K)) (label_in t)) (left b).bytes (two_rules.better K))
 
-  moved_walks : (K : Cabinet) {j e e' s d : ℕ} {before before' old new : List ℕ} {w : Walked} → lib.labels (by_rule 2 K) j before (labelled.Exchanges e) old
-      → lib.labels (by_rule 3 K) j before' (labelled.Exchanges e') new → SomeSafe K.n (label_for K.n j old) → Works K s
+  moved_walks : (K : Cabinet) {j e e' s d : ℕ} {before before' old new : List ℕ} {w : Walked} → lib.labels (by_rule 2 K) j before (Ok e) old
+      → lib.labels (by_rule 3 K) j before' (Ok e') new → SomeSafe K.n (label_for K.n j old) → Works K s
       → Takes K d → lib.walks K.n j s d new W.row_bytes w
       → (w.ending ≡ ending.Delivered) × (w.hops ≤ dist s d + more (label_for K.n j old) s d)
   moved_walks K {j} {e} {e'} {s} {d} {before} {before'} {old} {new} {w} a b some hs hd v =
@@ -131,8 +132,8 @@ module _ (lib : Library) (F : Faithful lib) where
         omega (arith, two_rules.bound (by_rule 3 K) (label_for K.n j new) s d w W still, m.bound_falls s d hs.0 hd.0),
       )
 
-  still_arrives : (K : Cabinet) {j e e' s d : ℕ} {before before' old new : List ℕ} {v w : Walked} → lib.labels (by_rule 2 K) j before (labelled.Exchanges e) old
-      → lib.labels (by_rule 3 K) j before' (labelled.Exchanges e') new → Works K s → Takes K d
+  still_arrives : (K : Cabinet) {j e e' s d : ℕ} {before before' old new : List ℕ} {v w : Walked} → lib.labels (by_rule 2 K) j before (Ok e) old
+      → lib.labels (by_rule 3 K) j before' (Ok e') new → Works K s → Takes K d
       → lib.walks K.n j s d old W.row_bytes v → lib.walks K.n j s d new W.row_bytes w → v.ending ≡ ending.Delivered → w.ending ≡ ending.Delivered
   still_arrives K {j} {e} {e'} {s} {d} {before} {before'} {old} {new} {v} {w} a b hs hd p q f =
       let was = is_walk a p in
@@ -140,12 +141,12 @@ module _ (lib : Library) (F : Faithful lib) where
       ap (λ (u : Walked). u.ending) is
       ∙ two_rules.still_delivered K j (left b).accepted s d hs hd (ap (λ (u : Walked). u.ending) (sym was) ∙ f)
 
-  none_strong : (K : Cabinet) {j e : ℕ} {before buffer : List ℕ} → lib.labels (by_rule 2 K) j before (labelled.Exchanges e) buffer
+  none_strong : (K : Cabinet) {j e : ℕ} {before buffer : List ℕ} → lib.labels (by_rule 2 K) j before (Ok e) buffer
       → NoneStrong (by_rule 2 K) (label_for K.n j buffer)
   none_strong K a =
       of_left (λ (lab : ℕ → ℕ) _. NoneStrong (by_rule 2 K) lab) a (two_rules.none_strong K)
 
-  two_more : (K : Cabinet) {j e s d : ℕ} {before buffer : List ℕ} {w : Walked} → lib.labels (by_rule 2 K) j before (labelled.Exchanges e) buffer
+  two_more : (K : Cabinet) {j e s d : ℕ} {before buffer : List ℕ} {w : Walked} → lib.labels (by_rule 2 K) j before (Ok e) buffer
       → SomeSafe K.n (label_for K.n j buffer) → Works K s → Takes K d → lib.walks K.n j s d buffer W.row_bytes w
       → w.hops ≤ dist s d + 2
   two_more K {j} {e} {s} {d} a some hs hd v =
@@ -155,11 +156,11 @@ module _ (lib : Library) (F : Faithful lib) where
 
   -- ---- enough nodes work
 
-  pub some_safe : {K : Cabinet} {j exchanges : ℕ} {before buffer : List ℕ} → lib.labels K j before (labelled.Exchanges exchanges) buffer
+  pub some_safe : {K : Cabinet} {j exchanges : ℕ} {before buffer : List ℕ} → lib.labels K j before (Ok exchanges) buffer
       → FewOut K → SomeSafe K.n (label_for K.n j buffer)
   some_safe {K} m few = of_left (λ (lab : ℕ → ℕ) _. SomeSafe K.n lab) m (few_out_safe K few)
 
-  notice_counts : {bytes old faults : List ℕ} {n m taken : ℕ} → lib.reads bytes old (noticed.Notice n m taken) faults
+  notice_counts : {bytes old faults : List ℕ} {n m taken : ℕ} → lib.reads bytes old (a_notice n m taken) faults
       → (rule : ℕ) → out_of_work (plain n rule faults) ≡ m
   notice_counts {bytes} {old} {faults} {n} r rule =
       count_same (2 ^ n) (out (plain n rule faults)) (node_bit faults) (λ x _. plain_out n rule faults x) ∙ (table r).total
@@ -167,7 +168,7 @@ module _ (lib : Library) (F : Faithful lib) where
   -- ---- as before
 
   label_before :
-      {n rule j : ℕ} {faults before after : List ℕ} {x : Labelled} → Job j → (m : ℕ) → length before ≡ 2 * m
+      {n rule j : ℕ} {faults before after : List ℕ} {x : Result ℕ Refusal} → Job j → (m : ℕ) → length before ≡ 2 * m
       → lib.labels (plain n rule faults) j before x after
       → (x ≡ labelled_then n rule faults m) × (half j m after ≡ labels_after_then n rule faults (half j m before))
   label_before {n} {rule} {j} {faults} {before} job m long l =
@@ -180,9 +181,9 @@ module _ (lib : Library) (F : Faithful lib) where
   demands : Demands lib
   demands =
       record {
-        label-refusal = λ {K} {j} {before} m. subst (λ x. LabelGiven K j (length before) (L.refusal_of x)) (sym (F.labels m).0)
+        label-refusal = λ {K} {j} {before} m. subst (λ x. LabelGiven K j (length before) (refused x)) (sym (F.labels m).0)
             (refusals.labelling K j (length before));
-        hop-refusal = λ {n} {j} {c} {d} {buffer} m. subst (λ x. HopGiven n j c d (length buffer) (label_for n j buffer) (H.refusal_of x)) (sym (F.hops m))
+        hop-refusal = λ {n} {j} {c} {d} {buffer} m. subst (λ x. HopGiven n j c d (length buffer) (label_for n j buffer) (refused x)) (sym (F.hops m))
             (refusals.hop n j c d (length buffer) (label_for n j buffer));
         walk-refusal = λ {n} {j} {s} {d} {room} {buffer} v.
             subst (λ (w : Walked). WalkGiven n j s d (length buffer) room (label_for n j buffer) (W.refusal_of w.ending)) (sym (F.walks v))

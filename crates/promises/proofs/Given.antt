@@ -1,18 +1,20 @@
 -- The number that is given: no two are, and the first test that holds gives it, where each test says what its case says.
 use mathlib.Core.Path.{◌≡◌, refl, sym, ap, ◌∙◌}
-use mathlib.Core.Logic.{◌⊎◌, inl, inr, ⊎_elim, ◌↔◌}
+use mathlib.Core.Logic.{◌⊎◌, inl, inr, ⊎_elim, ◌↔◌, ◌≢◌}
 use mathlib.Core.Bool.{Bool, true, false, cond, not, ◌&&◌, ◌||◌}
 use mathlib.Core.List.{List, ◌∷◌}
-use Prim.Native.Nat.{ℕ, ◌*◌, ◌/◌, ◌%◌, ◌^◌, ◌≤◌, ◌<◌}
+use Prim.Native.Nat.{ℕ, zero, suc, ◌*◌, ◌/◌, ◌%◌, ◌^◌, ◌≤◌, ◌<◌}
 use native.Mathlib.Omega.{arith}
 use lib.Dec.{eqb, leb, ltb}
 use lib.ListN.{get_or, length, get_or-eq_default}
 use borrow.Author.Tests.{eq-eqb, eqb-true, le-leb, leb-false, leb-true, lt-ltb, ltb-false, ltb-true, not-true}
 use Rattle.cube.specs.Count.{some}
+use Rattle.cube.specs.Refused.{number, refusal}
 use Rattle.cube.specs.Cube.{bit}
 use Rattle.cube.specs.Tables.{is_dimension, node_bit, table_len, unused_set}
 use Rattle.cube.proofs.Bools.{and_both, and_true, clash, either, is_false, or_left, or_right, or_true}
 use Rattle.cube.proofs.Cube.{bit_none}
+use Rattle.cube.proofs.Refused.{numbered}
 use Rattle.cube.proofs.Search.{some_found, some_hit}
 use Rattle.cube.proofs.Tables.{dimension_is, len_large, len_small}
 use Rattle.jobs.specs.Jobs.{is_job, label_bytes}
@@ -20,6 +22,11 @@ use Rattle.jobs.proofs.Halves.{is-job, job_is, two_jobs}
 use Rattle.rule.specs.Cabinet.{is_rule}
 use Rattle.rule.proofs.Cabinet.{is-rule, rule_is}
 use Rattle.promises.specs.Refusals.{BothHalves, Dimension, Given, Job, Outside, Rule, TableLength, Unused, here, later, none}
+
+-- the refusal with a number of the table has that number
+pub number_is : (k : ℕ) → k ≢ 0 → k ≤ 19 → number (refusal k) ≡ k
+number_is zero z h = absurd (z refl)
+number_is (suc k) z h = numbered k (omega arith)
 
 module _ {When : ℕ → Type 0} where
   pub given_one : {order : List ℕ} {j k : ℕ} → Given When order j → Given When order k → j ≡ k

@@ -1,4 +1,5 @@
 -- Each number is that of the library's own answer; and where C takes no refusal out of it, the row was written.
+use Rattle.std.specs.Prelude.{Result, Ok, Err}
 use mathlib.Core.Bool.{true}
 use mathlib.Core.List.{List}
 use mathlib.Core.Logic.{◌≢◌, inl}
@@ -17,11 +18,9 @@ use Rattle.notice.proofs.Functions as notice
 use Rattle.notice.proofs.Laws.{notice_laws}
 use Rattle.labels.proofs.Functions as labels
 use Rattle.hop.proofs.Functions as hop
-use Rattle.labels.specs.declared.Labelled.{Labelled}
-use Rattle.hop.specs.declared.Hopped.{Hopped}
-use Rattle.groups.specs.declared.Number.{Number}
+use Rattle.groups.specs.Number.{Number}
 use Rattle.notice.specs.Notice.{dimension_at}
-use Rattle.notice.specs.declared.Noticed.{Noticed}
+use Rattle.notice.specs.Notice.{Noticed}
 use Rattle.walk.specs.declared.Ending.TheVariants as ending
 use Rattle.walk.specs.Walk as W
 use Rattle.walk.specs.declared.Ending.{Ending}
@@ -36,11 +35,13 @@ use Rattle.why.specs.declared.HopReason.{HopReason}
 use Rattle.why.specs.declared.NodeReason.{NodeReason}
 use Rattle.why.specs.declared.NodeReason.TheVariants as because
 use Rattle.why.proofs.Functions as why
-use Rattle.writer.specs.declared.Wrote.{Wrote}
+use Rattle.writer.specs.Writing.{Wrote}
 use Rattle.writer.proofs.Functions as writer
 use Rattle.list_reader.proofs.Functions as list_reader
+use Rattle.list_reader.proofs.Outcomes as reading
 use Rattle.list_writer.proofs.Functions as list_writer
 use Rattle.repair.proofs.Functions as repair
+use Rattle.repair.proofs.Outcomes as repairing
 use Rattle.hcube.specs.Answers.{
   crossed_number,
   dimension_number,
@@ -63,31 +64,34 @@ use Rattle.hcube.proofs.Functions as hcube
 use Rattle.hcube.proofs.Small.{row_fits, written}
 use Rattle.promises.specs.InC.{InC, node_number}
 use Rattle.promises.proofs.Demands.{c_demands, rattle_demands}
-use Rattle.promises.proofs.Library.{c_faithful}
+use Rattle.promises.proofs.Library.{c_faithful, done_is}
 use Rattle.promises.proofs.RowPlaces.{places, within_hops}
 use Rattle.promises.proofs.Numbers.{crossed-in-number, hop-in-number}
+use Rattle.cube.specs.declared.refusals.Refusal.{Refusal}
+use Rattle.cube.specs.Refused.{refused, number}
+use Rattle.hop.specs.declared.Decision.{Decision}
 
 -- ---- the number of the library's own answer
 
-label_same : {n rule j r : ℕ} {x : Labelled} {faults draining closed before after after' : List ℕ}
+label_same : {n rule j r : ℕ} {x : Result ℕ Refusal} {faults draining closed before after after' : List ℕ}
     → May hcube.label (n, rule, j, faults, draining, closed, before) r after
     → May labels.label (n, rule, j, faults, draining, closed, before) x after' → r ≡ label_number x
 label_same m v = (told hcube.label_says m).0 ∙ ap label_number (sym (told labels.label_says v).0)
 
-hop_same : {n j c d r : ℕ} {x : Hopped} {buffer : List ℕ} → May hcube.hop (n, j, c, d, buffer) r tt → May hop.hop (n, j, c, d, buffer) x tt → r ≡ hop_number x
+hop_same : {n j c d r : ℕ} {x : Result Decision Refusal} {buffer : List ℕ} → May hcube.hop (n, j, c, d, buffer) r tt → May hop.hop (n, j, c, d, buffer) x tt → r ≡ hop_number x
 hop_same m v = (told hcube.hop_says m).0 ∙ ap hop_number (sym (told hop.hop_says v).0)
 
-why_hop_same : {n j c d r : ℕ} {x : HopReason} {buffer : List ℕ} → May hcube.why-hop (n, j, c, d, buffer) r tt → May why.why-hop (n, j, c, d, buffer) x tt
+why_hop_same : {n j c d r : ℕ} {x : Result HopReason Refusal} {buffer : List ℕ} → May hcube.why-hop (n, j, c, d, buffer) r tt → May why.why-hop (n, j, c, d, buffer) x tt
     → r ≡ hop_reason_number x
 why_hop_same m v = (told hcube.why_hop_says m).0 ∙ ap hop_reason_number (sym (told why.why_hop_says v).0)
 
-node-number : (a : NodeReason) → node_reason_number a ≡ node_number a
-node-number (because.Safe a b) = omega arith
-node-number (because.Unsafe l q (cause.Faulty a b)) = omega arith
-node-number (because.Unsafe l q (cause.Two a b)) = omega arith
-node-number (because.Unsafe l q (cause.Three a b c)) = omega arith
-node-number (because.Out l) = omega arith
-node-number (because.Refused k) = omega arith
+node-number : (a : Result NodeReason Refusal) → node_reason_number a ≡ node_number a
+node-number (Ok (because.Safe a b)) = omega arith
+node-number (Ok (because.Unsafe l q (cause.Faulty a b))) = omega arith
+node-number (Ok (because.Unsafe l q (cause.Two a b))) = omega arith
+node-number (Ok (because.Unsafe l q (cause.Three a b c))) = omega arith
+node-number (Ok (because.Out l)) = omega arith
+node-number (Err k) = omega arith
 
 walk_same : {n j s d r : ℕ} {buffer before after : List ℕ} {w : Walked} → May hcube.walk (n, j, s, d, buffer, before) r after
     → May walk.walk-for (n, j, s, d, buffer, length before) w tt → (r ≡ walk_number w) × (after ≡ row_after w before)
@@ -108,21 +112,26 @@ written_same : {n r : ℕ} {x : Wrote} {faults before after after' : List ℕ} �
     → May writer.write (n, faults, before) x after' → r ≡ written_number x
 written_same m v = (told hcube.write_notice_says m).0 ∙ ap written_number (sym (told writer.write_says v).0)
 
-list_read_same : {n r k : ℕ} {text before after after' : List ℕ} → May hcube.read_list (n, text, before) r after
-    → May list_reader.read (n, text, before) k after' → r ≡ done_number k
-list_read_same m v = (told hcube.read_list_says m).0 ∙ ap done_number (sym (told list_reader.read_says v).0)
+list_read_same : {n r : ℕ} {x : Result (Unit {0}) Refusal} {text before after after' : List ℕ} → May hcube.read_list (n, text, before) r after
+    → May list_reader.read (n, text, before) x after' → r ≡ done_number (refused x)
+list_read_same {n} {text = text} {before = before} m v =
+    (told hcube.read_list_says m).0
+    ∙ ap done_number (sym (done_is (omega (arith, reading.refusal_few n text before)) (told list_reader.read_says v).0 refl))
 
-repaired_same : {n r k : ℕ} {faults masks result row : List ℕ} {o o' : List ℕ × List ℕ} → May hcube.repair (n, faults, masks, result, row) r o
-    → May repair.repair (n, faults, masks, result, row) k o' → r ≡ done_number k
-repaired_same m v = (told hcube.repair_says m).0 ∙ ap done_number (sym (told repair.repair_says v).0)
+repaired_same : {n r : ℕ} {x : Result (Unit {0}) Refusal} {faults masks result row : List ℕ} {o o' : List ℕ × List ℕ} → May hcube.repair (n, faults, masks, result, row) r o
+    → May repair.repair (n, faults, masks, result, row) x o' → r ≡ done_number (refused x)
+repaired_same {n} {faults = faults} {masks = masks} {result = result} {row = row} m v =
+    (told hcube.repair_says m).0
+    ∙ ap done_number
+    (sym (done_is (omega (arith, repairing.refusal_few n faults masks (length result) (length row))) (told repair.repair_says v).0 refl))
 
 list_written_same : {n r : ℕ} {x : Wrote} {faults before after after' : List ℕ} → May hcube.write_list (n, faults, before) r after
     → May list_writer.write (n, faults, before) x after' → r ≡ written_number x
 list_written_same m v = (told hcube.write_list_says m).0 ∙ ap written_number (sym (told list_writer.write_says v).0)
 
 -- a refused walk has hop count 0
-walk_refuses : {n j s d r k : ℕ} {buffer before after : List ℕ} {w : Walked} → May hcube.walk (n, j, s, d, buffer, before) r after
-    → May walk.walk-for (n, j, s, d, buffer, length before) w tt → w.ending ≡ ending.Refused k → (r ≡ k * 16777216) × (after ≡ before)
+walk_refuses : {n j s d r : ℕ} {k : Refusal} {buffer before after : List ℕ} {w : Walked} → May hcube.walk (n, j, s, d, buffer, before) r after
+    → May walk.walk-for (n, j, s, d, buffer, length before) w tt → w.ending ≡ ending.Refused k → (r ≡ number k * 16777216) × (after ≡ before)
 unfolding row_after
 walk_refuses {w = w} m v e =
     let t = walk_same m v in
@@ -216,10 +225,10 @@ in_c =
       walk_halts = λ {n} {j} {s} {d} {r} m v e. let f = (walk_same m v).0 in let g = ap W.refusal_of e in let h = ap W.kind_of e in omega arith;
       walk_refuses = walk_refuses;
       dimension_reads = λ {r} m v. let e = (dimension_same m v).0 in omega arith;
-      dimension_refuses = λ {r} {k} {at} {bytes} m v. let e = dimension_same m v in
+      dimension_refuses = λ {r} {at} {k} {bytes} m v. let e = dimension_same m v in
           let z = notice_laws.dimension_place bytes k at e.1 in (omega (arith, e.0), z);
       notice_reads = λ {r} m v. let e = notice_same m v in omega arith;
-      notice_refuses = λ {r} {k} {at} {bytes} {before} m v. let e = notice_same m v in
+      notice_refuses = λ {r} {at} {k} {bytes} {before} m v. let e = notice_same m v in
           let p = notice_laws.refused bytes before k at (sym (told notice.read_says v).0) in (omega arith, omega (arith, p.near));
       writes_length = λ {n} {r} m v. let e = written_same m v in omega arith;
       writes_refuses = λ {n} {r} m v. let e = written_same m v in omega arith;

@@ -7,7 +7,7 @@ use lib.ListN.{drop}
 use Rattle.cube.specs.Allowed.{May}
 use Rattle.cube.proofs.Contracts.{told}
 use Rattle.groups.specs.Number.{number_at, refusal_in}
-use Rattle.groups.specs.declared.Number.{Number}
+use Rattle.groups.specs.Number.{Number}
 use Rattle.groups.proofs.Functions as groups
 use Rattle.groups.proofs.Laws.{number_laws}
 use Rattle.notice.proofs.Functions as notice
@@ -18,6 +18,8 @@ use Rattle.reader.specs.declared.Reader.{Reader}
 use Rattle.reader.specs.declared.Step.{Step}
 use Rattle.reader.proofs.Functions as reader
 use Rattle.reader.proofs.Laws.{reader_laws}
+use Rattle.cube.specs.Refused.{refusal}
+use Rattle.hcube.proofs.Parts.{refusal_back}
 use Rattle.promises.specs.InRattle.{InRattle}
 use Rattle.promises.specs.Refusals.{NumberGiven}
 use Rattle.promises.proofs.Refusals.{refusals}
@@ -43,8 +45,8 @@ in_rattle =
     record {
       tail_behind = λ {bytes} {before} {after} {n} {m} {taken} {block} {offset} r t. (told notice.tail_says t).0
           ∙ ap (λ (k : ℕ). (drop k bytes, (block, offset + k))) (notice_laws.tail_behind bytes before n m taken (sym (told notice.read_says r).0));
-      tail_empty = λ {bytes} {before} {after} {k} {at} {block} {offset} r h t.
-          let e = notice_laws.tail_empty bytes before k at (sym (told notice.read_says r).0) h in
+      tail_empty = λ {bytes} {before} {after} {at} {block} {offset} {r = k} r h t.
+          let e = notice_laws.tail_empty bytes before k at (sym (told notice.read_says r).0) (λ z. h (sym (refusal_back k) ∙ ap refusal z)) in
           (told notice.tail_says t).0 ∙ ap₂ (λ (s : List ℕ) (j : ℕ). (s, (block, offset + j))) e.1 e.0;
       number_refusal = λ {bytes} {at} m. subst (λ (x : Number). NumberGiven bytes at (refusal_in x)) (sym (told groups.number_at_says m).0)
           (refusals.number bytes at);
@@ -57,7 +59,7 @@ in_rattle =
       next_place = λ {r} m. let t = told reader.next_says m in
           reader_laws.keeps r.bytes.now r.at _ _ (sym t.0) ∙ sym (ap (λ (r : Reader). r.at) t.1);
       through = λ m f. through m f;
-      notice-refused = λ {bytes} {before} {after} {k} {at} m. reader_laws.refused bytes before k at (sym (told notice.read_says m).0);
+      notice-refused = λ {bytes} {before} {after} {r = k} {at} m. reader_laws.refused bytes before k at (sym (told notice.read_says m).0);
       notice_read = λ {bytes} {before} {after} {n} {m} {taken} r. reader_laws.whole bytes before n m taken (sym (told notice.read_says r).0);
       next-at = λ m y. ap (λ (x : Step). x.number) (told reader.next_at_says m).0 ∙ sym (told groups.number_at_says y).0;
       next_at_moves = λ {bytes} {at} m e. let t = (told reader.next_at_says m).0 in

@@ -1,5 +1,6 @@
 -- Two jobs, of any library that is faithful to the definitions. Each question is defined on the half of its job and the buffer's length, so buffers that
 -- agree in these are answered alike; and what labelling leaves is the buffer with another half of its own job.
+use Rattle.std.specs.Prelude.{Result, Ok}
 use mathlib.Core.Bool.{Bool, cond, ◌||◌}
 use mathlib.Core.List.{List}
 use mathlib.Core.Logic.{◌≢◌}
@@ -14,11 +15,8 @@ use Rattle.jobs.proofs.Laws.{halves_alike}
 use Rattle.rule.specs.Cabinet.{Cabinet, exchanges_of, faulty, labels_of, out, out_byte}
 use Rattle.rule.specs.Rule.{exchanges, label}
 use Rattle.labels.specs.Labelling.{labelled, labels_after}
-use Rattle.labels.specs.declared.Labelled.{Labelled}
-use Rattle.labels.specs.declared.Labelled.TheVariants.{Exchanges}
 use Rattle.labels.proofs.Refusal.{buffer_sized, fitting, length_kept, of_exchanges}
 use Rattle.hop.specs.Hop.{hopped}
-use Rattle.hop.specs.declared.Hopped.{Hopped}
 use Rattle.why.specs.HopReasons.{hop_reason}
 use Rattle.why.specs.NodeReasons.{node_reason}
 use Rattle.why.specs.declared.NodeReason.{NodeReason}
@@ -37,6 +35,8 @@ use Rattle.promises.proofs.Demands.{c_demands, rattle_demands}
 use Rattle.promises.proofs.Given.{job_below}
 use Rattle.promises.proofs.Left.{kept, left_other, left_same, other_same, own_same, same_after, written}
 use Rattle.promises.proofs.Library.{Faithful, rattle_faithful, c_faithful}
+use Rattle.cube.specs.declared.refusals.Refusal.{Refusal}
+use Rattle.hop.specs.declared.Decision.{Decision}
 
 -- ---- the labels go by which nodes do not work, and by which of these drain
 
@@ -119,11 +119,11 @@ module _ (K₀ K₁ : Cabinet) (e : K₀.n ≡ K₁.n) (l : List ℕ) where
 -- ---- of a library
 
 module _ (lib : Library) (F : Faithful lib) (A : Answers lib) (D : Demands lib) where
-  labels_own : {K : Cabinet} {j : ℕ} {l l' after after' : List ℕ} {x x' : Labelled} → lib.labels K j l x after → lib.labels K j l' x' after'
+  labels_own : {K : Cabinet} {j : ℕ} {l l' after after' : List ℕ} {x x' : Result ℕ Refusal} → lib.labels K j l x after → lib.labels K j l' x' after'
       → SameTo K.n j l l' → SameTo K.n j after after'
   labels_own {K} {j} {l} {l'} m m' s = rw ((F.labels m).1, (F.labels m').1) (same_after K j l l' s)
 
-  hop_own : {n j c d : ℕ} {l l' : List ℕ} {x x' : Hopped} → lib.hops n j c d l x → lib.hops n j c d l' x' → SameTo n j l l' → x ≡ x'
+  hop_own : {n j c d : ℕ} {l l' : List ℕ} {x x' : Result Decision Refusal} → lib.hops n j c d l x → lib.hops n j c d l' x' → SameTo n j l l' → x ≡ x'
   hop_own {n} {j} {c} {d} m m' s =
       F.hops m ∙ ap₂ (λ (k : ℕ) (t : List ℕ). hopped n j c d k (label_in t)) s.long s.own ∙ sym (F.hops m')
 
@@ -133,7 +133,7 @@ module _ (lib : Library) (F : Faithful lib) (A : Answers lib) (D : Demands lib) 
 
   closed_as_faulty : {K K' : Cabinet} {j e e' : ℕ} {l after after' : List ℕ} → K.n ≡ K'.n → K.rule ≡ K'.rule → K.draining ≡ K'.draining
       → ((x : ℕ) → (node_bit K.faults x || node_bit K.closed x) ≡ (node_bit K'.faults x || node_bit K'.closed x))
-      → lib.labels K j l (Exchanges e) after → lib.labels K' j l (Exchanges e') after' → (e ≡ e') × (after ≡ after')
+      → lib.labels K j l (Ok e) after → lib.labels K' j l (Ok e') after' → (e ≡ e') × (after ≡ after')
   closed_as_faulty {K} {K'} {j} {e} {e'} {l} en er ed same m m' =
       let f = F.labels m in
       let f' = F.labels m' in
@@ -149,10 +149,10 @@ module _ (lib : Library) (F : Faithful lib) (A : Answers lib) (D : Demands lib) 
   then s t = record { long = s.long ∙ t.long; own = s.own ∙ t.own }
 
   -- one labelling of another, and any number of them
-  unmoved_by : {K : Cabinet} {i j : ℕ} {l l' : List ℕ} {x : Labelled} → j < 2 → i ≢ j → lib.labels K i l x l' → SameTo K.n j l l'
+  unmoved_by : {K : Cabinet} {i j : ℕ} {l l' : List ℕ} {x : Result ℕ Refusal} → j < 2 → i ≢ j → lib.labels K i l x l' → SameTo K.n j l l'
   unmoved_by {K} {i} {j} {l} h d m = rw (F.labels m).1 (other_same K i j h (λ q. d (sym q)) l)
 
-  unmoved_why : {K : Cabinet} {i j x : ℕ} {l l' : List ℕ} {a : NodeReason} → j < 2 → i ≢ j → lib.why_nodes K i x l a l' → SameTo K.n j l l'
+  unmoved_why : {K : Cabinet} {i j x : ℕ} {l l' : List ℕ} {a : Result NodeReason Refusal} → j < 2 → i ≢ j → lib.why_nodes K i x l a l' → SameTo K.n j l l'
   unmoved_why {K} {i} {j} {x} {l} h d m = rw (F.why_nodes m).1 (left_other K i x j h (λ q. d (sym q)) l)
 
   unmoved : {n j : ℕ} {l l' : List ℕ} → j < 2 → Meanwhile lib n j l l' → SameTo n j l l'
@@ -161,7 +161,7 @@ module _ (lib : Library) (F : Faithful lib) (A : Answers lib) (D : Demands lib) 
   unmoved h (another_why d e m rest) = then (rw e at (unmoved_why h d m)) (unmoved h rest)
 
   -- the walk on the buffer as it is now is the walk on the buffer as labelling left it
-  still_walks : {K : Cabinet} {j e s d : ℕ} {before l l' : List ℕ} {w : Walked} → lib.labels K j before (Exchanges e) l → Meanwhile lib K.n j l l'
+  still_walks : {K : Cabinet} {j e s d : ℕ} {before l l' : List ℕ} {w : Walked} → lib.labels K j before (Ok e) l → Meanwhile lib K.n j l l'
       → Works K s → Takes K d → lib.walks K.n j s d l' row_bytes w → Walks K (label_for K.n j l') s d w
   still_walks {K} {j} {e} {s} {d} {before} {l} {l'} m meanwhile hs hd v =
       let o = of_exchanges K j (length before) e (sym (F.labels m).0) in
@@ -169,13 +169,13 @@ module _ (lib : Library) (F : Faithful lib) (A : Answers lib) (D : Demands lib) 
       let v₀ = A.walks K.n j s d l row_bytes in
       rw (← same.own, ← walk_own v₀.1 v same) (D.walks m hs hd v₀.1)
 
-  both : {K₀ K₁ : Cabinet} {e f : ℕ} {before l after : List ℕ} → K₀.n ≡ K₁.n → lib.labels K₀ 0 before (Exchanges e) l
-      → lib.labels K₁ 1 l (Exchanges f) after → BothHold K₀ K₁ after
+  both : {K₀ K₁ : Cabinet} {e f : ℕ} {before l after : List ℕ} → K₀.n ≡ K₁.n → lib.labels K₀ 0 before (Ok e) l
+      → lib.labels K₁ 1 l (Ok f) after → BothHold K₀ K₁ after
   both {K₀} {K₁} {l = l} {after = after} e m₀ m₁ =
       let s = subst (λ (k : ℕ). SameTo k 0 l after) (sym e) (unmoved_by {j = 0} (omega arith) (λ q. omega arith) m₁) in
       both_hold K₀ K₁ after (sym s.own ∙ D.labels_written m₀) (D.labels_written m₁)
 
-  either_order : {K₀ K₁ : Cabinet} {before l l' after after' : List ℕ} {x x' y y' : Labelled} → K₀.n ≡ K₁.n
+  either_order : {K₀ K₁ : Cabinet} {before l l' after after' : List ℕ} {x x' y y' : Result ℕ Refusal} → K₀.n ≡ K₁.n
       → lib.labels K₀ 0 before x l → lib.labels K₁ 1 l y after → lib.labels K₁ 1 before y' l' → lib.labels K₀ 0 l' x' after'
       → (x ≡ x') × (y ≡ y') × (after ≡ after')
   either_order {K₀} {K₁} {before} e a b c d =

@@ -1,6 +1,6 @@
 -- The refusals of labelling are those that the words give, test by test, and so are those of the question why a node has its label: its order is that of
 -- labelling with one number more behind it.
-use mathlib.Core.Path.{◌≡◌, refl, sym, ◌∙◌}
+use mathlib.Core.Path.{◌≡◌, refl, sym}
 use mathlib.Core.Logic.{inl, inr, ⊎_elim, ◌≢◌}
 use mathlib.Core.Bool.{Bool, true, false, not}
 use mathlib.Core.List.{List, [], ◌∷◌, ◌++◌}
@@ -9,16 +9,19 @@ use native.Mathlib.Decide.{ℕ_discrete}
 use native.Mathlib.Omega.{arith}
 use lib.Dec.{eqb, leb}
 use lib.ListN.{length}
-use borrow.Author.Tests.{eqb-true, leb-false, leb-true}
+use borrow.Author.Tests.{leb-false, leb-true}
 use Rattle.cube.specs.Refusal.{first}
+use Rattle.cube.specs.Refused.{refused}
 use Rattle.cube.specs.Tables.{is_dimension, table_len, unused_set}
-use Rattle.cube.proofs.Bools.{by_cases, clash, either}
+use Rattle.cube.proofs.Bools.{clash, either}
+use Rattle.cube.proofs.Refused.{refused_is}
 use Rattle.jobs.specs.Jobs.{is_job, label_bytes}
-use Rattle.rule.specs.Cabinet.{Cabinet, is_rule}
+use Rattle.rule.specs.Cabinet.{Cabinet, exchanges_of, is_rule}
 use Rattle.labels.specs.Labelling as L
+use Rattle.labels.proofs.Refusal.{refusal_le}
 use Rattle.why.specs.NodeReasons as Y
-use Rattle.why.proofs.Laws.{reason_none}
 use Rattle.why.proofs.Refusal.{refuses_first, refuses_node, refuses_none}
+use Rattle.why.proofs.Refusal as why
 use Rattle.promises.specs.Refusals.{
   Given,
   LabelGiven,
@@ -44,9 +47,9 @@ use Rattle.promises.proofs.Given.{also_test, one_test, unused_says, wrong_dimens
 -- ---- labelling
 
 module _ (K : Cabinet) (j m : ℕ) where
-  pub label-refusal : L.label_refusal K j m ≡ L.refusal_of (L.labelled K j m)
+  pub label-refusal : L.label_refusal K j m ≡ refused (L.labelled K j m)
   unfolding L.labelled
-  label-refusal = by_cases (λ a. L.label_refusal K j m ≡ L.refusal_of a) (eqb (L.label_refusal K j m) 0) (λ z. eqb-true _ _ z) (λ _. refl)
+  label-refusal = sym (refused_is _ (exchanges_of K) (refusal_le K j m))
 
   -- a table has another length than it should
   abbrev wrong : List ℕ → Bool
@@ -140,10 +143,9 @@ module _ (K : Cabinet) (j m x : ℕ) where
     ),
   )
 
-  pub node-refusal : Y.node_refusal K j m x ≡ Y.refusal_of (Y.node_reason K j m x)
+  pub node-refusal : Y.node_refusal K j m x ≡ refused (Y.node_reason K j m x)
   unfolding Y.node_reason
-  node-refusal =
-      by_cases (λ a. Y.node_refusal K j m x ≡ Y.refusal_of a) (eqb (Y.node_refusal K j m x) 0) (λ z. eqb-true _ _ z ∙ sym (reason_none K x)) (λ _. refl)
+  node-refusal = sym (refused_is _ (Y.reason_of K x) (why.refusal_le K j m x))
 
   pub node_given : NodeGiven K j m x (Y.node_refusal K j m x)
   node_given =

@@ -10,7 +10,8 @@ use borrow.Author.Tests.{ne_eqb}
 use Rattle.jobs.specs.Jobs.{half, with_half}
 use Rattle.rule.specs.Cabinet.{Cabinet, labels_of}
 use Rattle.labels.specs.Labelling.{label_refusal, labels_after}
-use Rattle.labels.proofs.Refusal.{labels_written, length_kept, others_kept, says_refused}
+use Rattle.labels.proofs.Refusal as labelling
+use Rattle.labels.proofs.Refusal.{labels_written, length_kept, others_kept}
 use Rattle.why.specs.NodeReasons.{labels_left, node_refusal}
 use Rattle.promises.specs.Jobs.{SameTo}
 
@@ -22,7 +23,7 @@ module _ (K : Cabinet) (j : ℕ) where
   written l z = rw z
 
   pub kept : (l : List ℕ) → label_refusal K j (length l) ≢ 0 → labels_after K j l ≡ l
-  kept l z = sym (says_refused K j l _ refl z).1
+  kept l z = sym (labelling.kept K j l z)
 
   -- its own half goes by that half and the length
   pub own_same : (l l' : List ℕ) → SameTo K.n j l l' → half j (2 ^ K.n) (labels_after K j l) ≡ half j (2 ^ K.n) (labels_after K j l')

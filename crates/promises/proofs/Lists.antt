@@ -1,5 +1,6 @@
 -- List text, of any library that is faithful to the definitions: a text that is taken makes the table of the nodes that it names, what was written is the text
 -- of the table over the front of the buffer, and so reads back.
+use Rattle.std.specs.Prelude.{Ok}
 use mathlib.Core.List.{List}
 use mathlib.Core.Logic.{⊎_elim}
 use mathlib.Core.Bool.{true, false}
@@ -15,8 +16,6 @@ use Rattle.ranges.specs.Grammar.{named, named_table}
 use Rattle.ranges.specs.Written.{list_text}
 use Rattle.ranges.proofs.Laws.{ranges_laws}
 use Rattle.spelling.specs.Laws.{Bytes, IsTable}
-use Rattle.writer.specs.Writing as T
-use Rattle.writer.specs.declared.Wrote.TheVariants.{Length}
 use Rattle.writer.proofs.Outcomes.{room_enough}
 use Rattle.writer.proofs.Refusal.{has_room, wrote_length}
 use Rattle.list_reader.specs.Reading.{list_refusal, list_table}
@@ -27,7 +26,8 @@ use Rattle.promises.specs.Refusals.{ReadListGiven, TableLength, WriteListGiven}
 use Rattle.promises.proofs.Given.{table_length}
 use Rattle.promises.proofs.Library.{Faithful, rattle_faithful, c_faithful}
 use Rattle.promises.proofs.Refusals.{refusals}
-use Rattle.promises.proofs.Written.{Put, behind, front, kept, number, put, sized}
+use Rattle.promises.proofs.Written.{Put, behind, front, kept, number_is, put, sized}
+use Rattle.cube.specs.Refused.{number, refused}
 
 module _ (lib : Library) (F : Faithful lib) where
   -- ---- what was read
@@ -58,7 +58,7 @@ module _ (lib : Library) (F : Faithful lib) where
 
   -- ---- what was written
 
-  module _ {n len : ℕ} {faults before after : List ℕ} (m : lib.writes_list n faults before (Length len) after) where
+  module _ {n len : ℕ} {faults before after : List ℕ} (m : lib.writes_list n faults before (Ok len) after) where
     text : Put n faults (list_text n faults) before after len
     text = put (F.writes_list m)
 
@@ -88,8 +88,8 @@ module _ (lib : Library) (F : Faithful lib) where
         overwritten = λ m m'. table_is m ∙ sym (table_is m');
         accepted = λ {n} {k} {text} m. ((ranges_laws.grammar text).0 (good m).rules, none_beyond m k);
         write_refusal = λ {n} {faults} {before} {after} {x} m.
-            subst (λ y. WriteListGiven n faults (length before) (T.refusal_of y)) (sym (F.writes_list m).0) (refusals.list_writing n faults (length before));
-        write_kept = λ {n} {k} {faults} {before} m. kept n faults (list_text n faults) before (F.writes_list m);
+            subst (λ y. WriteListGiven n faults (length before) (refused y)) (sym (F.writes_list m).0) (refusals.list_writing n faults (length before));
+        write_kept = λ {n} {r} {faults} {before} m. kept n faults (list_text n faults) before (F.writes_list m);
         text = λ m. front (text m);
         behind = λ m. behind (text m);
         within = λ m. ((text m).room, sized (text m));
@@ -99,9 +99,9 @@ module _ (lib : Library) (F : Faithful lib) where
             let z = has_room n faults s (length before) (is_table r) (omega (arith, h, no_longer r)) in
             (length s, (F.writes_list w).0 ∙ sym (wrote_length n faults s (length before) z), no_longer r);
         short = λ {n} {len} {faults} m. let p = text m in omega (arith, p.long, ranges_laws.short n faults p.table.dimension.1);
-        enough = λ {n} {k} {faults} {before} m h e.
+        enough = λ {n} {r} {faults} {before} m h e.
             room_enough n faults (list_text n faults) (length before) (λ t. omega (arith, ranges_laws.short n faults t.dimension.1, h))
-            (number n faults (list_text n faults) before (F.writes_list m) ∙ e);
+            (number_is n faults (list_text n faults) before (F.writes_list m) ∙ ap number e);
       }
 
 pub rattle_lists : Lists rattle

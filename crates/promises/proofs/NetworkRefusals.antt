@@ -6,21 +6,24 @@ use mathlib.Core.Path.{◌≡◌, refl, sym, ◌∙◌}
 use Prim.Native.Nat.{ℕ, ◌*◌, ◌^◌, ◌≤◌, ◌<◌}
 use native.Mathlib.Omega.{arith}
 use lib.Dec.{eqb, leb}
-use borrow.Author.Tests.{eqb-true, leb-false, leb-true, not-false}
+use borrow.Author.Tests.{eqb-false, eqb-true, leb-false, leb-true, not-false}
+use Rattle.std.specs.Prelude.{Result}
 use Rattle.cube.specs.Refusal.{first}
+use Rattle.cube.specs.Refused.{refused}
+use Rattle.cube.specs.declared.refusals.Refusal.{Refusal}
 use Rattle.cube.proofs.Bools.{by_cases, or_false}
+use Rattle.cube.proofs.Refused.{refused_is}
 use Rattle.jobs.specs.Jobs.{label_bytes}
-use Rattle.hop.specs.Hop as H
-use Rattle.hop.specs.declared.Hopped.{Hopped}
 use Rattle.walk.specs.Walk.{row_bytes, stops}
 use Rattle.blocks.specs.Blocks.{hop_in}
-use Rattle.blocks.specs.Board.{beyond, hops_on, last_on, most_hops}
+use Rattle.blocks.specs.Board.{beyond, hops_on, last_on, most_hops, numbered}
 use Rattle.blocks.specs.Phase.{phase_of}
 use Rattle.hop_networks.specs.Hopping as I
+use Rattle.hop_networks.proofs.Outcomes as hops
 use Rattle.hop_networks.proofs.Refusals.{board_is}
 use Rattle.walk_networks.specs.Crossing as C
 use Rattle.walk_networks.specs.declared.Crossed.{Crossed}
-use Rattle.walk_networks.proofs.Outcomes.{cross_good, ended_well}
+use Rattle.walk_networks.proofs.Outcomes.{cross_good, ended_well, refusal_le}
 use Rattle.promises.specs.NetworkRefusals.{Board, HopNetworksGiven, HopNetworksWhen, NetworkRefusals, WalkNetworksGiven, WalkNetworksWhen}
 use Rattle.promises.specs.Refusals.{
   HopWhen,
@@ -47,6 +50,7 @@ use Rattle.promises.proofs.Given.{
   leb_says,
   ltb_says,
   not_says,
+  number_is,
   one_test,
   or_says,
   outside,
@@ -119,11 +123,9 @@ module _ (n N j c d w g m : ℕ) (lab : ℕ → ℕ) where
       (λ q. hop_said_6 n j c d m lab f (hop_case (λ z. omega arith) (λ z. omega arith) q))
       (one_test _ (λ e. inr (inr (refl, (beyond_says n N lab d (phase_of w g) c).0 e))) said_16 none))))))))
 
-  hop-number : I.hop_refusal_in n N j c d w g m lab ≡ H.refusal_of (I.hopped_in n N j c d w g m lab)
+  hop-number : I.hop_refusal_in n N j c d w g m lab ≡ refused (I.hopped_in n N j c d w g m lab)
   unfolding I.hopped_in
-  hop-number =
-      by_cases (λ (a : Hopped). I.hop_refusal_in n N j c d w g m lab ≡ H.refusal_of a) (eqb (I.hop_refusal_in n N j c d w g m lab) 0) (λ z. eqb-true _ _ z)
-      (λ _. refl)
+  hop-number = sym (refused_is _ (numbered (phase_of w g) c (hop_in n lab d (phase_of w g) c)) (hops.refusal_le n N j c d w g m lab))
 
 -- ---- a walk
 
@@ -193,11 +195,12 @@ module _ (n N j s d m room : ℕ) (lab : ℕ → ℕ) where
       networks : not (I.is_board N) ≡ false → 0 < N
       networks f = (board_is N (not-false _ f)).0
 
-  pub walk-number : C.cross_refusal n N j s d m room lab ≡ C.refusal_of (C.crossing n N j s d m room lab)
+  pub walk-number : C.cross_refusal n N j s d m room lab ≡ refused (C.crossing n N j s d m room lab)
   unfolding C.crossing
   walk-number =
-      by_cases (λ (a : Crossed). C.cross_refusal n N j s d m room lab ≡ C.refusal_of a) (eqb (C.cross_refusal n N j s d m room lab) 0)
-      (λ z. let ok = eqb-true _ _ z in ok ∙ sym (ended_well (hops_on n N lab d s) (last_on n N lab d s) (cross_good n N j s d m room lab ok).ends)) (λ _. refl)
+      by_cases (λ (a : Result Crossed Refusal). C.cross_refusal n N j s d m room lab ≡ refused a) (eqb (C.cross_refusal n N j s d m room lab) 0)
+      (λ z. let ok = eqb-true _ _ z in ok ∙ sym (ended_well (hops_on n N lab d s) (last_on n N lab d s) (cross_good n N j s d m room lab ok).ends))
+      (λ z. sym (number_is _ (eqb-false _ 0 z) (refusal_le n N j s d m room lab)))
 
 pub network_refusals : NetworkRefusals
 network_refusals =

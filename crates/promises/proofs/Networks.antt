@@ -1,4 +1,5 @@
 -- Walks by networks, of any library that is faithful to the definitions.
+use Rattle.std.specs.Prelude.{Result, Ok, Err}
 use mathlib.Core.List.{List}
 use mathlib.Core.Logic.{⊎_elim, ◌≢◌}
 use mathlib.Core.Path.{◌≡◌, refl, sym, ap, ap₂, subst, ◌∙◌}
@@ -10,11 +11,7 @@ use Rattle.cube.specs.Tables.{label_in}
 use Rattle.cube.proofs.Count.{below_suc}
 use Rattle.jobs.specs.Jobs.{label_bytes, label_for}
 use Rattle.rule.specs.Cabinet.{Cabinet}
-use Rattle.labels.specs.declared.Labelled.TheVariants as labelled
-use Rattle.hop.specs.Hop as H
 use Rattle.hop.specs.declared.Decision.TheVariants.{Hop}
-use Rattle.hop.specs.declared.Hopped.{Hopped}
-use Rattle.hop.specs.declared.Hopped.TheVariants as hopped
 use Rattle.blocks.specs.Figure.{Chosen}
 use Rattle.blocks.specs.Phase.{Channel, order}
 use Rattle.blocks.proofs.Figure.{hop_chosen}
@@ -23,8 +20,7 @@ use Rattle.hop_networks.proofs.Local.{hop_in_local}
 use Rattle.hop_networks.proofs.Outcomes.{decision_of}
 use Rattle.walk_networks.specs.Crossing as C
 use Rattle.walk_networks.specs.declared.Crossed.{Crossed}
-use Rattle.walk_networks.specs.declared.Crossed.TheVariants as crossed
-use Rattle.walk_networks.proofs.Outcomes.{refused_some}
+use Rattle.cube.proofs.Refused.{number_range}
 use Rattle.theorems.specs.Networks.{Crosses, Delivers5, Spot, channel_of}
 use Rattle.theorems.specs.Words.{SomeSafe, Takes, Works}
 use Rattle.theorems.proofs.Crossings.{more_networks, walk_crosses}
@@ -40,27 +36,30 @@ use Rattle.promises.proofs.Given.{job_below}
 use Rattle.promises.proofs.Library.{Faithful, c_faithful, rattle_faithful}
 use Rattle.promises.proofs.NetworkRefusals.{network_refusals, walk-number}
 use Rattle.promises.proofs.Waiting.{waits}
+use Rattle.cube.specs.declared.refusals.Refusal.{Refusal}
+use Rattle.cube.specs.Refused.{refused}
+use Rattle.hop.specs.declared.Decision.{Decision}
 
 module _ (lib : Library) (F : Faithful lib) (A : Answers lib) where
   -- what is refused is so by its table, and writes nothing
-  kept_at : (n N j s d m : ℕ) (lab : ℕ → ℕ) (before : List ℕ) (k : ℕ) → C.crossing n N j s d m (length before) lab ≡ crossed.Refused k
+  kept_at : (n N j s d m : ℕ) (lab : ℕ → ℕ) (before : List ℕ) (r : Refusal) → C.crossing n N j s d m (length before) lab ≡ Err r
       → C.hops_after n N j s d m lab before ≡ before
   unfolding C.hops_after
-  kept_at n N j s d m lab before k e =
+  kept_at n N j s d m lab before r e =
       rw (ne_eqb (C.cross_refusal n N j s d m (length before) lab) 0
-      (λ z. refused_some n N j s d m (length before) lab k e (sym (ap C.refusal_of e) ∙ sym (walk-number n N j s d m (length before) lab) ∙ z)))
+      (λ z. omega (arith, (number_range r).0, ap refused e, walk-number n N j s d m (length before) lab, z)))
 
-  module _ {n N j s d : ℕ} {buffer before after : List ℕ} {x : Crossed} (v : lib.walks_networks n N j s d buffer before x after) (e : C.refusal_of x ≡ 0) where
+  module _ {n N j s d : ℕ} {buffer before after : List ℕ} {x : Result Crossed Refusal} (v : lib.walks_networks n N j s d buffer before x after) (e : refused x ≡ 0) where
     abbrev lab : ℕ → ℕ
     lab = label_for n j buffer
 
     accepted : C.cross_refusal n N j s d (length buffer) (length before) lab ≡ 0
-    accepted = walk-number n N j s d (length buffer) (length before) lab ∙ ap C.refusal_of (sym (F.walks_networks v).0) ∙ e
+    accepted = walk-number n N j s d (length buffer) (length before) lab ∙ ap refused (sym (F.walks_networks v).0) ∙ e
 
     crosses : Crosses n N j s d (length buffer) lab before x after
     crosses =
         let f = F.walks_networks v in
-        subst (λ (y : Crossed). Crosses n N j s d (length buffer) lab before y after) (sym f.0)
+        subst (λ (y : Result Crossed Refusal). Crosses n N j s d (length buffer) lab before y after) (sym f.0)
         (subst (Crosses n N j s d (length buffer) lab before (C.crossing n N j s d (length buffer) (length before) lab)) (sym f.1)
         (walk_crosses n N j s d (length buffer) lab before accepted))
 
@@ -81,7 +80,7 @@ module _ (lib : Library) (F : Faithful lib) (A : Answers lib) where
           hops_rise n a.0 b.0 a.1 b.1 q.d (length a.2) (length b.2) (label_for n a.1 a.2) (label_for n b.1 b.2) (q.at i) (q.h i)
               (q.h (suc i)) (sym (F.hops_networks a.3))
               (subst (λ (z : Spot). hopped_in n b.0 b.1 z.node q.d z.network z.down (length b.2) (label_for n b.1 b.2)
-              ≡ hopped.Decided (Hop (q.h (suc i)))) to (sym (F.hops_networks b.3))),
+              ≡ Ok (Hop (q.h (suc i)))) to (sym (F.hops_networks b.3))),
           ap (λ (z : Spot). order n (channel_of z.node (q.h (suc i)))) to,
         )
 
@@ -104,7 +103,7 @@ module _ (lib : Library) (F : Faithful lib) (A : Answers lib) where
   -- ---- with the labels that labelling left
 
   five :
-      {K : Cabinet} {j exchanges s d : ℕ} {before buffer list after : List ℕ} {x : Crossed} → lib.labels K j before (labelled.Exchanges exchanges) buffer
+      {K : Cabinet} {j exchanges s d : ℕ} {before buffer list after : List ℕ} {x : Result Crossed Refusal} → lib.labels K j before (Ok exchanges) buffer
       → SomeSafe K.n (label_for K.n j buffer) → Works K s → Takes K d → 10 * K.n ≤ length list
       → lib.walks_networks K.n 5 j s d buffer list x after → Delivers5 K (label_for K.n j buffer) s d x after
   five {K} {j} {exchanges} {s} {d} {before} {buffer} {list} {after} {x} m safe hs hd room v =
@@ -112,7 +111,7 @@ module _ (lib : Library) (F : Faithful lib) (A : Answers lib) where
       let f = F.walks_networks v in
       let D =
       five_deliver K j L.accepted (subst (λ (t : List ℕ). SomeSafe K.n (label_in t)) (sym L.bytes) safe) s d hs hd list (omega arith) in
-      subst (λ (y : Crossed). Delivers5 K (label_for K.n j buffer) s d y after) (sym f.0)
+      subst (λ (y : Result Crossed Refusal). Delivers5 K (label_for K.n j buffer) s d y after) (sym f.0)
       (subst (Delivers5 K (label_for K.n j buffer) s d (C.crossing K.n 5 j s d (length buffer) (length list) (label_for K.n j buffer))) (sym f.1)
       (subst (λ (k : ℕ). Delivers5 K (label_for K.n j buffer) s d (C.crossing K.n 5 j s d k (length list) (label_for K.n j buffer))
       (C.hops_after K.n 5 j s d k (label_for K.n j buffer) list)) (sym L.long)
@@ -123,13 +122,13 @@ module _ (lib : Library) (F : Faithful lib) (A : Answers lib) where
   networks =
       record {
         hop-refusal = λ {n} {N} {j} {c} {d} {w} {g} {buffer} m.
-            subst (λ (x : Hopped). HopNetworksGiven n N j c d w g (length buffer) (label_for n j buffer) (H.refusal_of x)) (sym (F.hops_networks m))
+            subst (λ (x : Result Decision Refusal). HopNetworksGiven n N j c d w g (length buffer) (label_for n j buffer) (refused x)) (sym (F.hops_networks m))
             (network_refusals.hop n N j c d w g (length buffer) (label_for n j buffer));
         walk-refusal = λ {n} {N} {j} {s} {d} {buffer} {before} v.
-            subst (λ (x : Crossed). WalkNetworksGiven n N j s d (length buffer) (length before) (label_for n j buffer) (C.refusal_of x))
+            subst (λ (x : Result Crossed Refusal). WalkNetworksGiven n N j s d (length buffer) (length before) (label_for n j buffer) (refused x))
             (sym (F.walks_networks v).0) (network_refusals.walk n N j s d (length buffer) (length before) (label_for n j buffer));
-        kept = λ {n} {N} {j} {s} {d} {k} {buffer} {before} v. let f = F.walks_networks v in
-            f.1 ∙ kept_at n N j s d (length buffer) (label_for n j buffer) before k (sym f.0);
+        kept = λ {n} {N} {j} {s} {d} {r} {buffer} {before} v. let f = F.walks_networks v in
+            f.1 ∙ kept_at n N j s d (length buffer) (label_for n j buffer) before r (sym f.0);
         chosen = λ {n} {N} {j} {c} {d} {w} {g} {buffer} {x} m.
             let r = decision_of n N j c d w g (length buffer) (label_for n j buffer) x (sym (F.hops_networks m)) in
             subst (Chosen n (label_for n j buffer) c d w g) r.1 ((hop_chosen n (label_for n j buffer) c d w g).chosen r.0);

@@ -3,19 +3,21 @@
 use mathlib.Core.Path.{◌≡◌, refl, sym, ap, ◌∙◌}
 use mathlib.Core.Logic.{◌⊎◌, inl, inr, ⊎_elim, ◌↔◌, ◌≢◌}
 use mathlib.Core.Bool.{Bool, true, false, not, ◌&&◌, ◌||◌}
-use Prim.Native.Nat.{ℕ, ◌^◌, ◌<◌}
+use Prim.Native.Nat.{ℕ, ◌^◌, ◌≤◌, ◌<◌}
 use lib.Dec.{eqb, leb, ltb}
-use borrow.Author.Tests.{eqb-true, eq-eqb, le-leb, leb-true}
+use borrow.Author.Tests.{eqb-false, eqb-true, eq-eqb, le-leb, leb-true}
 use Rattle.cube.specs.Count.{some}
 use Rattle.cube.specs.Cube.{flip}
 use Rattle.cube.specs.Refusal.{first}
+use Rattle.cube.specs.Refused.{refused}
 use Rattle.cube.specs.Tables.{highest, is_dimension}
-use Rattle.cube.proofs.Bools.{by_cases, clash, either}
+use Rattle.cube.proofs.Bools.{clash, either}
+use Rattle.cube.proofs.Refusal.{first_le}
+use Rattle.cube.proofs.Refused.{refused_is}
 use Rattle.jobs.specs.Jobs.{is_job, label_bytes}
 use Rattle.hop.specs.Hop as H
 use Rattle.walk.specs.Walk as W
 use Rattle.why.specs.HopReasons as X
-use Rattle.why.proofs.Laws.{explained_none}
 use Rattle.theorems.proofs.Repeats.{walk_repeats}
 use Rattle.promises.specs.Refusals.{
   HopGiven,
@@ -49,6 +51,7 @@ use Rattle.promises.proofs.Given.{
   given_one,
   ltb_says,
   not_says,
+  number_is,
   one_test,
   or_says,
   outside,
@@ -67,16 +70,14 @@ use Rattle.promises.proofs.Sizes.{dimension_given, dimension_one}
 -- ---- a hop
 
 module _ (n j c d m : ℕ) (lab : ℕ → ℕ) where
-  hop-refusal : H.hop_refusal n j c d m lab ≡ H.refusal_of (H.hopped n j c d m lab)
-  unfolding H.hopped
-  hop-refusal = by_cases (λ a. H.hop_refusal n j c d m lab ≡ H.refusal_of a) (eqb (H.hop_refusal n j c d m lab) 0) (λ z. eqb-true _ _ z) (λ _. refl)
+  hop-refusal : H.hop_refusal n j c d m lab ≡ refused (H.hopped n j c d m lab)
+  unfolding H.hopped H.hop_refusal
+  hop-refusal = sym (refused_is _ (H.hop n lab c d) (first_le 19 (H.hop_tests n j c d m lab) refl))
 
   -- why it is taken goes by the same number
-  pub reason_refusal : H.hop_refusal n j c d m lab ≡ X.refusal_of (X.hop_reason n j c d m lab)
-  unfolding X.hop_reason
-  reason_refusal =
-      by_cases (λ a. H.hop_refusal n j c d m lab ≡ X.refusal_of a) (eqb (H.hop_refusal n j c d m lab) 0)
-      (λ z. eqb-true _ _ z ∙ sym (explained_none n lab c d)) (λ _. refl)
+  pub reason_refusal : H.hop_refusal n j c d m lab ≡ refused (X.hop_reason n j c d m lab)
+  unfolding X.hop_reason H.hop_refusal
+  reason_refusal = sym (refused_is _ (X.explain n c d (lab c) (λ i. lab (flip i c))) (first_le 19 (H.hop_tests n j c d m lab) refl))
 
   abbrev near : Bool
   near = some n (λ i. ltb highest (lab (flip i c)))
@@ -124,11 +125,15 @@ module _ (n j c d m : ℕ) (lab : ℕ → ℕ) where
 -- ---- a walk
 
 module _ (n j s d m room : ℕ) (lab : ℕ → ℕ) where
+  few : W.walk_refusal n j s d m room lab ≤ 19
+  unfolding W.walk_refusal
+  few = first_le 19 (W.walk_tests n j s d m room lab) refl
+
   walk-refusal : W.walk_refusal n j s d m room lab ≡ W.refusal_of (W.walked n j s d m room lab).ending
   unfolding W.walked W.refused
   walk-refusal =
       ⊎_elim (λ (z : eqb (W.walk_refusal n j s d m room lab) 0 ≡ true). accepted (eqb-true _ _ z))
-      (λ (z : eqb (W.walk_refusal n j s d m room lab) 0 ≡ false). rw z)
+      (λ (z : eqb (W.walk_refusal n j s d m room lab) 0 ≡ false). rw z (sym (number_is _ (eqb-false _ 0 z) few)))
       (either (eqb (W.walk_refusal n j s d m room lab) 0))
     where
       accepted : W.walk_refusal n j s d m room lab ≡ 0 → W.walk_refusal n j s d m room lab ≡ W.refusal_of (W.walked n j s d m room lab).ending

@@ -1,5 +1,6 @@
 -- The tally, of whatever its contract allows: the counters are those of the definitions, whose sums are the crate figures'. And the walk that labelling and the
 -- walk's contracts allow is the cabinet's, which has one kind.
+use Rattle.std.specs.Prelude.{Result, Ok}
 use mathlib.Core.Bool.{true, not}
 use mathlib.Core.List.{List}
 use mathlib.Core.Logic.{◌≢◌, ◌↔◌}
@@ -15,13 +16,14 @@ use Rattle.cube.specs.Cube.{dist}
 use Rattle.cube.specs.Refusal.{first}
 use Rattle.cube.proofs.Contracts.{may, told}
 use Rattle.cube.proofs.Front.{get_d_tab}
+use Rattle.cube.proofs.Refusal.{first_le}
 use Rattle.walk.specs.declared.Walked.{Walked}
 use Rattle.figures.specs.Figures.{counters_of, tally_of, total}
 use Rattle.figures.specs.Laws.{OneKind, Sums}
 use Rattle.figures.proofs.Four.{of_four}
 use Rattle.figures.proofs.Laws.{sums}
 use Rattle.figures.proofs.Sum.{sum_same}
-use Rattle.counters.specs.Tally.{counters_after, is_tallied, tally_refusal}
+use Rattle.counters.specs.Tally.{counters_after, is_tallied, tally_refusal, tally_tests}
 use Rattle.counters.proofs.Functions as counters
 use Rattle.counters.proofs.Outcomes.{counters_kept, counters_long, counters_made, taken}
 use Rattle.promises.specs.Library.{Library, rattle, c}
@@ -30,7 +32,9 @@ use Rattle.promises.specs.Tallies.{FourKinds, Tallies, TallyGiven, TallyWhen, li
 use Rattle.promises.proofs.Demands.{is_walk, left}
 use Rattle.promises.proofs.Given.{and_says, eqb_says, leb_says, not_says, one_test}
 use Rattle.promises.proofs.Lent.{lend_mut, one}
-use Rattle.promises.proofs.Library.{Faithful, rattle_faithful, c_faithful}
+use Rattle.promises.proofs.Library.{Faithful, done_is, rattle_faithful, c_faithful}
+use Rattle.cube.specs.declared.refusals.Refusal.{Refusal}
+use Rattle.cube.specs.Refused.{refused, answered}
 
 -- ---- the refusals
 
@@ -51,16 +55,20 @@ module _ (n m : ℕ) where
       one_test _ (λ e. tally_1 ((not_says (is_tallied n) tallied_says).0 e)) said_1
       (one_test _ (λ e. tally_2 ((not_says (eqb m (counters_of n)) (eqb_says m (counters_of n))).0 e)) said_2 none)
 
+refusal_few : (n m : ℕ) → tally_refusal n m ≤ 2
+unfolding tally_refusal
+refusal_few n m = first_le 2 (tally_tests n m) refl
+
 -- ---- the counters
 
 module _ {n : ℕ} {before after : List ℕ} where
-  is : {k : ℕ} → May counters.tally (n, before) k after → (k ≡ tally_refusal n (length before)) × (after ≡ counters_after n before)
-  is m = told counters.tally_says m
+  is : {x : Result (Unit {0}) Refusal} → May counters.tally (n, before) x after → (refused x ≡ tally_refusal n (length before)) × (after ≡ counters_after n before)
+  is m = let t = told counters.tally_says m in (done_is (omega (arith, refusal_few n (length before))) t.0 refl, t.1)
 
-  kept : {k : ℕ} → May counters.tally (n, before) k after → k ≢ 0 → after ≡ before
+  kept : {x : Result (Unit {0}) Refusal} → May counters.tally (n, before) x after → refused x ≢ 0 → after ≡ before
   kept m d = let t = is m in t.1 ∙ sym (counters_kept n before (λ z. d (t.0 ∙ z)))
 
-  module _ (m : May counters.tally (n, before) 0 after) where
+  module _ (m : May counters.tally (n, before) (Ok tt) after) where
     nothing : tally_refusal n (length before) ≡ 0
     nothing = sym (is m).0
 
@@ -98,10 +106,10 @@ pub tallies : Tallies
 tallies =
     record {
       answers = λ n before.
-          (_, _, may counters.tally one (n, (lend_mut before, tt)) (tally_refusal n (length before)) (n, (lend_mut (counters_after n before), tt)) (refl, refl));
-      refusal = λ {n} {k} {before} m. subst (TallyGiven n (length before)) (sym (is m).0) (tally_given n (length before));
+          (_, _, may counters.tally one (n, (lend_mut before, tt)) (answered (tally_refusal n (length before)) tt) (n, (lend_mut (counters_after n before), tt)) (refl, refl));
+      refusal = λ {n} {x} {before} m. subst (TallyGiven n (length before)) (sym (is m).0) (tally_given n (length before));
       kept = λ m d. kept m d;
-      sized = λ {n} {k} {before} m. ap length (is m).1 ∙ counters_long n before;
+      sized = λ {n} {x} {before} m. ap length (is m).1 ∙ counters_long n before;
       counter = λ m. counter m;
       walks = λ m. walks m;
       tables_with = λ {n} m k h. let e = counter m k 0 h (omega arith) in (e ∙ (S m).tables_with k, e ∙ (S m).chosen k);

@@ -1,4 +1,5 @@
 -- The worked numbers: the definitions computed. The labels are computed once for each cube, and the walks from the computed labels.
+use Rattle.std.specs.Prelude.{Result, Ok}
 use mathlib.Core.Bool.{true, false}
 use mathlib.Core.List.{List, [], ◌∷◌}
 use mathlib.Core.Logic.{inl, inr}
@@ -17,10 +18,8 @@ use Rattle.rule.specs.Rule.{meets, newly, marked, quiet, working, rounds, exchan
 use Rattle.scans.specs.Scans.{suits, takes, lowest, first_scan}
 use Rattle.rule.proofs.Exchanges.{exchanged}
 use Rattle.labels.specs.Labelling.{label_refusal, labelled, labels_after}
-use Rattle.labels.specs.declared.Labelled.TheVariants.{Exchanges}
 use Rattle.labels.proofs.Refusal.{fitting}
 use Rattle.hop.specs.Hop.{answer, decide, hop, hop_refusal, hopped}
-use Rattle.hop.specs.declared.Hopped.{Hopped}
 use Rattle.walk.specs.Walk.{onto, stops, spot, turn, hops, last, row, row_bytes, refused, walk_from, walk_refusal, walked}
 use Rattle.walk.specs.declared.Walked.{Walked}
 use Rattle.causes.specs.Cause.{bad_cause, cause_of, cause_with, earlier, from, nth, round_of}
@@ -31,6 +30,8 @@ use Rattle.why.specs.declared.HopReason.{HopReason}
 use Rattle.theorems.specs.Words.{label_at, walk_of}
 use Rattle.promises.specs.Worked.{k4, k4_by, k4_closes, k4_closes_both, k4_drains, k4_nine, p2, q3, those, visited, Worked}
 use Rattle.promises.proofs.Outcomes.{answered}
+use Rattle.cube.specs.declared.refusals.Refusal.{Refusal}
+use Rattle.hop.specs.declared.Decision.{Decision}
 
 k4_labels : labels_of k4 ≡ 1 ∷ 0 ∷ 3 ∷ 0 ∷ 3 ∷ 0 ∷ 1 ∷ 0 ∷ 3 ∷ 0 ∷ 1 ∷ 0 ∷ 1 ∷ 0 ∷ 2 ∷ 3 ∷ []
 unfolding labels_of label label_of safe rounds working quiet newly meets marked count least some flip tab node_bit bit
@@ -65,12 +66,12 @@ unfolding labels_of label label_of safe rounds working quiet newly meets marked 
 p2_labels = refl
 
 -- a hop by the labels of a cabinet is the hop by what they compute to
-hop_on : {x : Hopped} (K : Cabinet) (j c d m : ℕ) (labels : List ℕ) → labels_of K ≡ labels → hopped K.n j c d m (label_in labels) ≡ x
+hop_on : {x : Result Decision Refusal} (K : Cabinet) (j c d m : ℕ) (labels : List ℕ) → labels_of K ≡ labels → hopped K.n j c d m (label_in labels) ≡ x
     → hopped K.n j c d m (label_at K) ≡ x
 hop_on K j c d m labels e f = ap (λ (l : List ℕ). hopped K.n j c d m (label_in l)) e ∙ f
 
 -- and so is why
-why_on : {x : HopReason} (K : Cabinet) (j c d m : ℕ) (labels : List ℕ) → labels_of K ≡ labels → hop_reason K.n j c d m (label_in labels) ≡ x
+why_on : {x : Result HopReason Refusal} (K : Cabinet) (j c d m : ℕ) (labels : List ℕ) → labels_of K ≡ labels → hop_reason K.n j c d m (label_in labels) ≡ x
     → hop_reason K.n j c d m (label_at K) ≡ x
 why_on K j c d m labels e f = ap (λ (l : List ℕ). hop_reason K.n j c d m (label_in l)) e ∙ f
 
@@ -80,14 +81,14 @@ on : {w : Walked} (K : Cabinet) (j s d : ℕ) (labels : List ℕ) → labels_of 
 on K j s d labels e f = ap (λ (l : List ℕ). walked K.n j s d (label_bytes K.n) row_bytes (label_in l)) e ∙ f
 
 module _ (K : Cabinet) (j m : ℕ) (accepted : label_refusal K j m ≡ 0) where
-  no_faults : ((x : ℕ) → x < 2 ^ K.n → out K x ≡ false) → labelled K j m ≡ Exchanges 1
+  no_faults : ((x : ℕ) → x < 2 ^ K.n → out K x ≡ false) → labelled K j m ≡ Ok 1
   unfolding exchanges_of
   no_faults f =
-      answered K j m accepted ∙ ap Exchanges ((exchanged K.n K.rule (out K)).no_faults (omega (arith, (fitting K j m accepted).rule.0)) f)
+      answered K j m accepted ∙ ap Ok ((exchanged K.n K.rule (out K)).no_faults (omega (arith, (fitting K j m accepted).rule.0)) f)
 
-  all_faulty : ((x : ℕ) → x < 2 ^ K.n → out K x ≡ true) → labelled K j m ≡ Exchanges 1
+  all_faulty : ((x : ℕ) → x < 2 ^ K.n → out K x ≡ true) → labelled K j m ≡ Ok 1
   unfolding exchanges_of
-  all_faulty f = answered K j m accepted ∙ ap Exchanges ((exchanged K.n K.rule (out K)).none_works f)
+  all_faulty f = answered K j m accepted ∙ ap Ok ((exchanged K.n K.rule (out K)).none_works f)
 
 pub worked : Worked
 unfolding those visited walked walk_refusal walk_from refused first row last hops turn spot stops onto hopped hop_refusal hop decide answer first_scan lowest

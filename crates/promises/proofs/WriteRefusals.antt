@@ -21,17 +21,18 @@ use Rattle.promises.specs.Refusals.{BytesGiven, ReadListGiven, ReadListWhen, Wri
 use Rattle.promises.specs.Refusals.{none}
 use Rattle.promises.proofs.BytesGiven.{given}
 use Rattle.promises.proofs.Given.{not_says, one_test, test_then, wrong_dimension, wrong_table}
+use Rattle.cube.specs.Refused.{refused}
 
 -- ---- writing the bytes w
 
 module _ (n : ℕ) (faults w : List ℕ) (room : ℕ) where
-  bytes_given : BytesGiven n faults w room (T.refusal_of (T.wrote_bytes n faults w room))
+  bytes_given : BytesGiven n faults w room (refused (T.wrote_bytes n faults w room))
   bytes_given = rw (refusal_is n faults w room) (given n faults w room)
 
-pub write_given : (n : ℕ) (faults : List ℕ) (room : ℕ) → WriteGiven n faults room (T.refusal_of (T.wrote n faults room))
+pub write_given : (n : ℕ) (faults : List ℕ) (room : ℕ) → WriteGiven n faults room (refused (T.wrote n faults room))
 write_given n faults room = bytes_given n faults (notice_bytes n faults) room
 
-pub write_list_given : (n : ℕ) (faults : List ℕ) (room : ℕ) → WriteListGiven n faults room (T.refusal_of (wrote_list n faults room))
+pub write_list_given : (n : ℕ) (faults : List ℕ) (room : ℕ) → WriteListGiven n faults room (refused (wrote_list n faults room))
 write_list_given n faults room = bytes_given n faults (list_text n faults) room
 
 -- ---- reading a list text: 12 is looked at where the text keeps the rules

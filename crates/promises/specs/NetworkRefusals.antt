@@ -2,7 +2,6 @@
 -- proofs/NetworkRefusals.antt.
 use Rattle.std.specs.Prelude.{[], ◌∷◌, ◌⊎◌, ◌≡◌, ℕ, ◌+◌, ◌*◌, ◌/◌, ◌≤◌, ◌<◌}
 use Rattle.cube.specs.Cube.{flip}
-use Rattle.hop.specs.Hop as H
 use Rattle.hop.specs.declared.Decision.TheVariants.{Hop}
 use Rattle.walk.specs.Walk.{row_bytes}
 use Rattle.blocks.specs.Blocks.{hop_in}
@@ -10,6 +9,7 @@ use Rattle.blocks.specs.Phase.{after, phase_of}
 use Rattle.hop_networks.specs.Hopping.{hopped_in}
 use Rattle.walk_networks.specs.Crossing as C
 use Rattle.promises.specs.Refusals.{Given, HopWhen, WalkWhen}
+use Rattle.cube.specs.Refused.{refused}
 
 -- how many networks a board has, "1 to 5"
 abbrev pub Board : (N : ℕ) → Type 0
@@ -56,5 +56,5 @@ WalkNetworksGiven n N j s d m room lab =
 
 -- each is given then and not otherwise
 pub record NetworkRefusals : Type 1 where
-  pub hop : (n N j c d w g m : ℕ) (lab : ℕ → ℕ) → HopNetworksGiven n N j c d w g m lab (H.refusal_of (hopped_in n N j c d w g m lab))
-  pub walk : (n N j s d m room : ℕ) (lab : ℕ → ℕ) → WalkNetworksGiven n N j s d m room lab (C.refusal_of (C.crossing n N j s d m room lab))
+  pub hop : (n N j c d w g m : ℕ) (lab : ℕ → ℕ) → HopNetworksGiven n N j c d w g m lab (refused (hopped_in n N j c d w g m lab))
+  pub walk : (n N j s d m room : ℕ) (lab : ℕ → ℕ) → WalkNetworksGiven n N j s d m room lab (refused (C.crossing n N j s d m room lab))

@@ -1,10 +1,9 @@
 -- Refusals in the words of RULES (Refusal numbers): for each number when it is given, and for each question in which order the numbers are looked at; "each is
 -- given then and not otherwise". They stand apart from the tables of tests by which the definitions answer. Proved in proofs/Refusals.antt.
-use Rattle.std.specs.Prelude.{true, List, [], ◌∷◌, ◌⊎◌, ◌≢◌, ◌≡◌, ℕ, zero, suc, ◌+◌, ◌*◌, ◌/◌, ◌^◌, ◌≤◌, ◌<◌, get_or, length}
+use Rattle.std.specs.Prelude.{true, List, [], ◌∷◌, ◌⊎◌, ◌≢◌, ◌≡◌, ℕ, zero, suc, ◌+◌, ◌*◌, ◌/◌, ◌^◌, ◌≤◌, ◌<◌, get_or, length, Ok}
 use Rattle.cube.specs.Cube.{bit, flip}
 use Rattle.cube.specs.Tables.{node_bit}
 use Rattle.groups.specs.Number.{number_at, refusal_in}
-use Rattle.groups.specs.declared.Number.TheVariants.{Value}
 use Rattle.notice.specs.Notice as N
 use Rattle.spelling.specs.Spelled.{notice_bytes}
 use Rattle.writer.specs.Writing as T
@@ -21,6 +20,7 @@ use Rattle.hop.specs.declared.Decision.TheVariants.{Hop}
 use Rattle.walk.specs.Walk as W
 use Rattle.why.specs.HopReasons as X
 use Rattle.why.specs.NodeReasons as Y
+use Rattle.cube.specs.Refused.{refused}
 
 -- the first number of the order whose case holds is given, and 0 where none does
 pub data Given (When : ℕ → Type 0) : (order : List ℕ) (k : ℕ) → Type 0 where
@@ -160,8 +160,8 @@ pub data Due
     (bytes : List ℕ) (at : ℕ) (When : (v : ℕ) → ℕ → Type 0) (order : List ℕ) (Behind : (v next : ℕ) → (k place : ℕ) → Type 0)
     : (k place : ℕ) → Type 0 where
   ill : {k : ℕ} → NumberGiven bytes at k → k ≢ 0 → Due bytes at When order Behind k at
-  wrong : {v next k : ℕ} → number_at bytes at ≡ Value v next → Given (When v) order k → k ≢ 0 → Due bytes at When order Behind k at
-  behind : {v next k place : ℕ} → number_at bytes at ≡ Value v next → Given (When v) order 0 → Behind v next k place → Due bytes at When order Behind k place
+  wrong : {v next k : ℕ} → number_at bytes at ≡ Ok (v, next) → Given (When v) order k → k ≢ 0 → Due bytes at When order Behind k at
+  behind : {v next k place : ℕ} → number_at bytes at ≡ Ok (v, next) → Given (When v) order 0 → Behind v next k place → Due bytes at When order Behind k place
 
 -- so many addresses of an n-cube, from a place and a base on; behind the last, nothing is refused, and there is no place
 unfoldable pub Addresses : (left n : ℕ) (bytes : List ℕ) (at base : ℕ) → (k place : ℕ) → Type 0
@@ -231,15 +231,15 @@ pub record Refusals : Type 1 where
   pub one_notice : (bytes table : List ℕ) (j p k q : ℕ) → NoticeGiven bytes table j p → NoticeGiven bytes table k q → (j ≡ k) × (p ≡ q)
   pub one_dimension : (bytes : List ℕ) (j p k q : ℕ) → DimensionGiven bytes j p → DimensionGiven bytes k q → (j ≡ k) × (p ≡ q)
   -- each question's refusal, 0 for none, is the number given, and a notice's place the one given with it
-  pub labelling : (K : Cabinet) (j m : ℕ) → LabelGiven K j m (L.refusal_of (L.labelled K j m))
-  pub hop : (n j c d m : ℕ) (lab : ℕ → ℕ) → HopGiven n j c d m lab (H.refusal_of (H.hopped n j c d m lab))
-  pub why-node : (K : Cabinet) (j m x : ℕ) → NodeGiven K j m x (Y.refusal_of (Y.node_reason K j m x))
-  pub why-hop : (n j c d m : ℕ) (lab : ℕ → ℕ) → HopGiven n j c d m lab (X.refusal_of (X.hop_reason n j c d m lab))
+  pub labelling : (K : Cabinet) (j m : ℕ) → LabelGiven K j m (refused (L.labelled K j m))
+  pub hop : (n j c d m : ℕ) (lab : ℕ → ℕ) → HopGiven n j c d m lab (refused (H.hopped n j c d m lab))
+  pub why-node : (K : Cabinet) (j m x : ℕ) → NodeGiven K j m x (refused (Y.node_reason K j m x))
+  pub why-hop : (n j c d m : ℕ) (lab : ℕ → ℕ) → HopGiven n j c d m lab (refused (X.hop_reason n j c d m lab))
   pub walk : (n j s d m room : ℕ) (lab : ℕ → ℕ) → WalkGiven n j s d m room lab (W.refusal_of (W.walked n j s d m room lab).ending)
   pub number : (bytes : List ℕ) (at : ℕ) → NumberGiven bytes at (refusal_in (number_at bytes at))
   pub notice : (bytes table : List ℕ) → NoticeGiven bytes table (N.refusal_of (N.noticed bytes table)) (N.place_of (N.noticed bytes table))
-  pub writing : (n : ℕ) (faults : List ℕ) (room : ℕ) → WriteGiven n faults room (T.refusal_of (T.wrote n faults room))
+  pub writing : (n : ℕ) (faults : List ℕ) (room : ℕ) → WriteGiven n faults room (refused (T.wrote n faults room))
   pub list_reading : (n : ℕ) (text faults : List ℕ) → ReadListGiven n text (length faults) (list_refusal n text faults)
-  pub list_writing : (n : ℕ) (faults : List ℕ) (room : ℕ) → WriteListGiven n faults room (T.refusal_of (wrote_list n faults room))
+  pub list_writing : (n : ℕ) (faults : List ℕ) (room : ℕ) → WriteListGiven n faults room (refused (wrote_list n faults room))
   pub repairing : (n : ℕ) (faults masks : List ℕ) (result row : ℕ) → RepairGiven n faults masks result row (repair_refusal n faults masks result row)
   pub dimension : (bytes : List ℕ) → DimensionGiven bytes (refusal_in (N.dimension_at bytes)) (N.dimension_value (N.dimension_at bytes))

@@ -1,17 +1,14 @@
 -- Asking the neighbours (RULES, Asking the neighbours), of whatever the contracts allow: the repaired table node by node, the row of who named whom, the
 -- refusals, and the chain from a notice over a repair and its labels to the walk. lib is the library, as Rattle or as C calls it. Proved in
 -- proofs/Repairs.antt.
-use Rattle.std.specs.Prelude.{true, false, List, ◌⊎◌, ◌≢◌, ◌↔◌, ◌≡◌, ℕ, ◌+◌, ◌^◌, ◌≤◌, ◌<◌, get_or, length, replicate}
+use Rattle.std.specs.Prelude.{true, false, List, ◌⊎◌, ◌≢◌, ◌↔◌, ◌≡◌, ℕ, ◌+◌, ◌^◌, ◌≤◌, ◌<◌, get_or, length, replicate, Ok}
 use Rattle.cube.specs.Tables.{node_bit}
 use Rattle.jobs.specs.Jobs.{label_for}
 use Rattle.rule.specs.Cabinet.{cabinet}
-use Rattle.notice.specs.declared.Noticed.TheVariants as noticed
 use Rattle.spelling.specs.Laws.{Bytes, IsTable}
-use Rattle.writer.specs.declared.Wrote.{Wrote}
-use Rattle.writer.specs.declared.Wrote.TheVariants.{Length}
+use Rattle.writer.specs.Writing.{Wrote}
 use Rattle.repair.specs.Laws.{Holds, Lowest, NamesNode}
 use Rattle.repair.specs.Repaired.{mask_of}
-use Rattle.labels.specs.declared.Labelled.TheVariants as labelled
 use Rattle.walk.specs.Walk.{row_bytes}
 use Rattle.walk.specs.declared.Walked.{Walked}
 use Rattle.theorems.specs.Demand3.{Walks}
@@ -19,6 +16,7 @@ use Rattle.theorems.specs.Words.{Takes, Works, place}
 use Rattle.promises.specs.Demands.{LabelsTable}
 use Rattle.promises.specs.Library.{Library}
 use Rattle.promises.specs.Refusals.{RepairGiven, TableLength}
+use Rattle.notice.specs.Notice.{a_notice}
 
 -- handed are an old table, the masks, and a result and a row to write into; t and r are what these hold then
 pub record Repairs (lib : Library) : Type 0 where
@@ -81,18 +79,18 @@ pub record Repairs (lib : Library) : Type 0 where
   -- which the notice writer takes, with a buffer that has room for every notice,
   pub writes :
       {n : ℕ} {faults masks result row t r before after : List ℕ} {x : Wrote} → lib.repairs n faults masks result row 0 t r
-      → 4099 ≤ length before → lib.writes n t before x after → (len : ℕ) × (x ≡ Length len)
+      → 4099 ≤ length before → lib.writes n t before x after → (len : ℕ) × (x ≡ Ok len)
   -- and labelling
   pub labels : {n : ℕ} {faults masks result row t r : List ℕ} → lib.repairs n faults masks result row 0 t r → LabelsTable lib n t
   -- the chain: a notice was read, its table repaired, and the repaired cabinet labelled. Repairing is then refused only for the masks and the lent buffers,
   pub notice_repairs :
-      {n m taken k : ℕ} {bytes old faults masks result row t r : List ℕ} → lib.reads bytes old (noticed.Notice n m taken) faults
+      {n m taken k : ℕ} {bytes old faults masks result row t r : List ℕ} → lib.reads bytes old (a_notice n m taken) faults
       → lib.repairs n faults masks result row k t r → (k ≡ 0) ⊎ (k ≡ 2) ⊎ (k ≡ 17)
   -- and with the labels walks arrive as demand 3 says, over no node that the notice had, nor one that was named
   pub walks :
       {n m taken rule j exchanges s d : ℕ} {bytes old faults masks result row t r draining closed before buffer : List ℕ} {w : Walked}
-      → lib.reads bytes old (noticed.Notice n m taken) faults → lib.repairs n faults masks result row 0 t r
+      → lib.reads bytes old (a_notice n m taken) faults → lib.repairs n faults masks result row 0 t r
       → let K = cabinet n rule t draining closed in
-      lib.labels K j before (labelled.Exchanges exchanges) buffer → Works K s → Takes K d → lib.walks n j s d buffer row_bytes w
+      lib.labels K j before (Ok exchanges) buffer → Works K s → Takes K d → lib.walks n j s d buffer row_bytes w
       → Walks K (label_for n j buffer) s d w
       × ((i : ℕ) → i ≤ w.hops → (node_bit faults (place w i) ≡ false) × ((u : ℕ) → ¬ (NamesNode n faults masks u (place w i))))
