@@ -142,82 +142,87 @@ fn may_sixth(l: u32, phase: usize) -> bool
     !goes_down(phase) | (l <= 2)
 }
 
-// One call of FORWARD, for the dimensions of one side: the dimension of its hop. on are those of the phase's direction, turning the others.
-fn call(
+// What a node knows of a message: where it is and where it goes, its phase, the node's own label, and those of its neighbours.
+#[derive(Clone, Copy)]
+struct Here<'a> {
     n: usize,
     c: usize,
     d: usize,
     phase: usize,
     own: u8,
-    near: &[u8; 12],
-    side: Side,
-) -> Option<usize>
-    requires { (n ≤ 12) × (c < 2 ^ n) × (d < 2 ^ n) }
-    ensures { result ≡ found n (blocks.call n c d phase own (λ i. get_or near.now i 0) (is_forward side)) }
-{
-    let set = side.set(n, c, d);
-    let on = set & on_set(n, c, phase);
-    let turning = set ^ on;
-    if let Some(i) = lowest(n, on, near, 0) {
-        return Some(i);
-    }
-    if let Some(i) = lowest(n, turning, near, 0) {
-        return Some(i);
-    }
-    if let Some(i) = lowest(n, on, near, 1) {
-        return Some(i);
-    }
-    let l = distance(c, d);
-    if let Some(i) = lowest(n, turning, near, 1) {
-        return may_fourth(l, phase).then_some(i);
-    }
-    if !eager(own, l) {
-        return None;
-    }
-    if let Some(i) = lowest(n, on, near, 2) {
-        return Some(i);
-    }
-    if may_sixth(l, phase) {
-        return lowest(n, turning, near, 2);
-    }
-    None
+    near: &'a [u8; 12],
+    ghost small: { n ≤ 12 },
+    ghost inside: { c < 2 ^ n },
+    ghost target: { d < 2 ^ n },
 }
 
-// The dimension of the hop at c, away from the destination: to d itself where it drains next door, else by the forward dimensions, else by the spare ones.
-fn pick(n: usize, c: usize, d: usize, phase: usize, own: u8, near: &[u8; 12]) -> Option<usize>
-    requires { (n ≤ 12) × (c < 2 ^ n) × (d < 2 ^ n) × (c ≢ d) }
-    ensures { result ≡ found n (blocks.pick n c d phase own (λ i. get_or near.now i 0)) }
-{
-    last_hop(n, c, d, near)
-        .or_else(|| call(n, c, d, phase, own, near, Side::Forward))
-        .or_else(|| call(n, c, d, phase, own, near, Side::Spare))
-}
+impl Here<'_> {
+    // One call of FORWARD, for the dimensions of one side: the dimension of its hop. on are those of the phase's direction, turning the others.
+    fn call(&self, side: Side) -> Option<usize>
+        ensures { let s = self.now in result ≡ found s.n (blocks.call s.n s.c s.d s.phase s.own (λ i. get_or s.near.now i 0) (is_forward side)) }
+    {
+        let n = self.n;
+        let near = self.near;
+        let set = side.set(n, self.c, self.d);
+        let on = set & on_set(n, self.c, self.phase);
+        let turning = set ^ on;
+        if let Some(i) = lowest(n, on, near, 0) {
+            return Some(i);
+        }
+        if let Some(i) = lowest(n, turning, near, 0) {
+            return Some(i);
+        }
+        if let Some(i) = lowest(n, on, near, 1) {
+            return Some(i);
+        }
+        let l = distance(self.c, self.d);
+        if let Some(i) = lowest(n, turning, near, 1) {
+            return may_fourth(l, self.phase).then_some(i);
+        }
+        if !eager(self.own, l) {
+            return None;
+        }
+        if let Some(i) = lowest(n, on, near, 2) {
+            return Some(i);
+        }
+        if may_sixth(l, self.phase) {
+            return lowest(n, turning, near, 2);
+        }
+        None
+    }
 
-// The decision at c on a board, with the number of its hop: network * 16 + dimension. 16 where the board lacks that network.
-#[tactic(auto, unfolding(hop::specs::Helpers::found))]
-fn decided(
-    n: usize,
-    networks: usize,
-    c: usize,
-    d: usize,
-    phase: usize,
-    own: u8,
-    near: &[u8; 12],
-) -> Result<Decision, Refusal>
-    requires { (n ≤ 12) × (c < 2 ^ n) × (d < 2 ^ n) × (networks ≤ 5) × (phase < 64) }
-    ensures { result ≡ decided_on n networks c d phase own (λ i. get_or near.now i 0) }
-{
-    if c == d {
-        return Ok(Decision::Deliver);
+    // The dimension of the hop, away from the destination: to d itself where it drains next door, else by the forward dimensions, else by the spare ones.
+    fn pick(&self) -> Option<usize>
+        requires { self.now.c ≢ self.now.d }
+        ensures { let s = self.now in result ≡ found s.n (blocks.pick s.n s.c s.d s.phase s.own (λ i. get_or s.near.now i 0)) }
+    {
+        if let Some(i) = last_hop(self.n, self.c, self.d, self.near) {
+            return Some(i);
+        }
+        if let Some(i) = self.call(Side::Forward) {
+            return Some(i);
+        }
+        self.call(Side::Spare)
     }
-    let Some(i) = pick(n, c, d, phase, own, near) else {
-        return Ok(Decision::Halted);
-    };
-    let next = after(phase, c, i);
-    if 2 * networks <= next {
-        return Err(Refusal::Network);
+
+    // The decision on a board, with the number of its hop: network * 16 + dimension. It is refused where the board lacks that network.
+    #[tactic(auto, unfolding(hop::specs::Helpers::found))]
+    fn decided(&self, networks: usize) -> Result<Decision, Refusal>
+        requires { (networks ≤ 5) × (self.now.phase < 64) }
+        ensures { let s = self.now in result ≡ decided_on s.n networks s.c s.d s.phase s.own (λ i. get_or s.near.now i 0) }
+    {
+        if self.c == self.d {
+            return Ok(Decision::Deliver);
+        }
+        let Some(i) = self.pick() else {
+            return Ok(Decision::Halted);
+        };
+        let next = after(self.phase, self.c, i);
+        if 2 * networks <= next {
+            return Err(Refusal::Network);
+        }
+        Ok(Decision::Hop(next / 2 * 16 + i))
     }
-    Ok(Decision::Hop(next / 2 * 16 + i))
 }
 
 // The dimension of the hop at c, by a label table that was tested: what a walk asks at each node.
@@ -228,7 +233,15 @@ pub fn pick_at(n: usize, c: usize, d: usize, phase: usize, labels: &[u8]) -> Opt
     let own = labels[c];
     let mut near = [0u8; 12];
     gather(n, labels, c, &mut near);
-    pick(n, c, d, phase, own, &near)
+    let here = Here {
+        n,
+        c,
+        d,
+        phase,
+        own,
+        near: &near,
+    };
+    here.pick()
 }
 
 // The decision at c on the way to d, for a job, on a board: the message is in that network, and goes down where down is 1. Of the job's half it reads c's label
@@ -255,5 +268,13 @@ pub fn hop_networks(
     let mut near = [0u8; 12];
     let high = gather(n, table, c, &mut near);
     near_refusal(c, d, own, high)?;
-    decided(n, networks, c, d, 2 * network + down, own, &near)
+    let here = Here {
+        n,
+        c,
+        d,
+        phase: 2 * network + down,
+        own,
+        near: &near,
+    };
+    here.decided(networks)
 }

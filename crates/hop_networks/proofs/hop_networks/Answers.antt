@@ -83,18 +83,20 @@ returns-in_err-near_refusal c =
     (passes_on _ _ _ c.from_residual-in_err-near_refusal.ensures.1 (hop_unlabelled _ _ _ _ _ _ _ _ (label_in c.half-table.result.now) (unrefused g.In_ok-board_refusal) (unlisted g.In_ok-list_refusal) _ _
     (sym (rw c.gather-high.ensures.high at c.in_err-near_refusal.ensures))))
 
-pub overflow_mul-network : goal.overflow_mul-network
-overflow_mul-network c = let m = board (goal.at.overflow_mul-network c).In_ok-board_refusal in omega (arith, m.network, m.few)
+pub overflow_mul-here : goal.overflow_mul-here
+overflow_mul-here c = let m = board (goal.at.overflow_mul-here c).In_ok-board_refusal in omega (arith, m.network, m.few)
 
-pub overflow_add-network : goal.overflow_add-network
-overflow_add-network c = let m = board (goal.at.overflow_add-network c).In_ok-board_refusal in omega (arith, m.network, m.few, m.direction)
+pub overflow_add-here : goal.overflow_add-here
+overflow_add-here c = let m = board (goal.at.overflow_add-here c).In_ok-board_refusal in omega (arith, m.network, m.few, m.direction)
+
+pub invariant_of-here : goal.invariant_of-here
+invariant_of-here c =
+    let g = goal.at.invariant_of-here c in
+    let p = good g.After-half-table (asked g.In_ok-list_refusal (board g.In_ok-board_refusal).small) in
+    record { small = p.small; inside = p.first; target = p.second }
 
 pub decided-requires : goal.decided-requires
-decided-requires c =
-    let g = goal.at.decided-requires c in
-    let m = board g.In_ok-board_refusal in
-    let p = good g.After-half-table (asked g.In_ok-list_refusal m.small) in
-    (p.small, p.first, p.second, m.few, omega (arith, m.network, m.few, m.direction))
+decided-requires c = let m = board (goal.at.decided-requires c).In_ok-board_refusal in (m.few, omega (arith, m.network, m.few, m.direction))
 
 pub returns : goal.returns
 unfolding label_in
