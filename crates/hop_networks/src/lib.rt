@@ -69,7 +69,8 @@ pub fn list_refusal(
     Ok(())
 }
 
-// The phase in which the hop from c across dimension i is made: one on, where bit i of c is not that of the phase.
+// The phase in which the hop from c across dimension i is made: one on, where bit i of c is not that of the phase. A phase is a number, twice the network and one
+// more where it goes down: it is counted and compared as one, so a struct would be opened at each use.
 pub fn after(phase: usize, c: usize, i: usize) -> usize
     requires { (phase < 64) × (i < 64) }
     ensures { result ≡ phases.after phase c i }
@@ -98,7 +99,7 @@ impl Side {
     }
 }
 
-// Whether a phase goes down: it is twice the network, and one more where it does.
+// Whether a phase goes down.
 #[tactic(auto, unfolding(blocks::specs::Phase::down))]
 fn goes_down(phase: usize) -> bool
     ensures { result ≡ phases.down phase }
@@ -244,8 +245,8 @@ pub fn pick_at(n: usize, c: usize, d: usize, phase: usize, labels: &[u8]) -> Opt
     here.pick()
 }
 
-// The decision at c on the way to d, for a job, on a board: the message is in that network, and goes down where down is 1. Of the job's half it reads c's label
-// and each neighbour's once, and no other byte.
+// The decision at c on the way to d, for a job, on a board: the message is in that network, and goes down where down is 1. Both are numbers, since C hands them
+// so. Of the job's half it reads c's label and each neighbour's once, and no other byte.
 pub fn hop_networks(
     n: usize,
     networks: usize,
