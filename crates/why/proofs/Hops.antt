@@ -1,25 +1,24 @@
--- Why a hop is taken, beside the hop question: both go by the same tests, and away from the destination by what the scans pick, the scan and its dimension in
--- one number.
+-- Why a hop is taken, beside the hop question: both go by the same tests, and away from the destination by what the scans pick.
 use mathlib.Core.Path.{◌≡◌, refl, sym, ap, ◌∙◌}
 use mathlib.Core.Logic.{◌⊎◌, inl, inr, ⊎_elim, ◌≢◌}
 use mathlib.Core.Bool.{true, false, cond}
-use Prim.Native.Nat.{ℕ, zero, suc, ◌+◌, ◌*◌, ◌/◌, ◌%◌, ◌^◌, ◌≤◌, ◌<◌}
-use native.Mathlib.Omega.{arith}
+use Prim.Native.Nat.{ℕ, zero, suc, ◌^◌, ◌≤◌, ◌<◌}
 use lib.Dec.{eqb, ltb}
-use borrow.Author.Tests.{le-ltb, lt-ltb, ltb-false, ltb-true, ne_eqb}
-use Rattle.std.specs.Prelude.{Ok}
+use borrow.Author.Tests.{ne_eqb}
+use Rattle.std.specs.Prelude.{Ok, Option, Some, None, get_or}
 use Rattle.cube.specs.Cube.{dist, flip}
 use Rattle.cube.proofs.Bools.{either}
 use Rattle.cube.proofs.Cube.{dist_self, dist_zero}
 use Rattle.cube.specs.Refused.{answered}
 use Rattle.scans.specs.Scans.{first_scan, lowest, no_scan}
 use Rattle.scans.proofs.Local.{first_same, lowest_same}
-use Rattle.hop.specs.Helpers.{chosen}
+use Rattle.hop.specs.Helpers.{chosen, gathered}
+use Rattle.hop.specs.declared.Around.{Around}
+use Rattle.hop.proofs.Gathered.{chosen_is}
 use Rattle.hop.specs.Hop as H
 use Rattle.hop.specs.declared.Decision.{Decision}
 use Rattle.hop.specs.declared.Decision.TheVariants as decision
 use Rattle.hop.proofs.Local.{refusal_same}
-use Rattle.hop.proofs.Scanning.{lowest_within}
 use Rattle.why.specs.Helpers.{taken}
 use Rattle.why.specs.HopReasons.{answer, explain, hop_reason, without_scan}
 use Rattle.why.specs.declared.HopReason.{HopReason}
@@ -56,16 +55,9 @@ without_refused : (k : ℕ) (x : HopReason) (y : Decision) → without_scan (Ok 
 without_refused zero x y e = e
 without_refused (suc k) x y e = refl
 
--- the scan and its dimension, taken apart again
-apart_again : (s i : ℕ) → i < 16 → taken (s * 16 + i) ≡ cond (ltb s no_scan) (Hop s i) Halted
-unfolding taken
-apart_again s i h =
-    let low : (s * 16 + i) % 16 ≡ i = omega arith in
-    let high : (s * 16 + i) / 16 ≡ s = omega arith in
-    ⊎_elim
-    (λ (t : ltb s no_scan ≡ true). rw (t, low, high, lt-ltb (s * 16 + i) (no_scan * 16) (omega (arith, ltb-true s no_scan t))))
-    (λ (t : ltb s no_scan ≡ false). rw (t, le-ltb (s * 16 + i) (no_scan * 16) (omega (arith, ltb-false s no_scan t))))
-    (either (ltb s no_scan))
+-- what the scans pick
+picked : (s i : ℕ) → taken (cond (ltb s no_scan) (Some (s, i)) None) ≡ cond (ltb s no_scan) (Hop s i) Halted
+picked s i = ⊎_elim (λ (t : ltb s no_scan ≡ true). rw t) (λ (t : ltb s no_scan ≡ false). rw t) (either (ltb s no_scan))
 
 module _ (n j c d m : ℕ) (lab : ℕ → ℕ) where
   abbrev own : ℕ
@@ -107,11 +99,15 @@ module _ (n j c d m : ℕ) (lab : ℕ → ℕ) where
     delivers_is e = reasons Deliver good (rw (e, dist_self))
 
     -- away from the destination, by what the scans picked
-    pub taken_is : n ≤ 12 → c < 2 ^ n → d < 2 ^ n → c ≢ d → (p : ℕ) → p ≡ chosen n c d own near → Ok (taken p) ≡ hop_reason n j c d m lab
+    pub taken_is : c < 2 ^ n → d < 2 ^ n → c ≢ d → (p : Option (ℕ × ℕ)) → p ≡ chosen n c d own near → Ok (taken p) ≡ hop_reason n j c d m lab
     unfolding explain answer chosen
-    taken_is small hc hd far p e =
+    taken_is hc hd far p e =
         reasons (taken p) good
-        (
-        ap taken e ∙ apart_again scan (lowest n c d own near scan) (omega (arith, lowest_within n c d own near scan))
-        ∙ sym (rw (ne_eqb (dist c d) 0 (λ z. far (dist_zero n c d hc hd z))))
-        )
+        (ap taken e ∙ picked scan (lowest n c d own near scan) ∙ sym (rw (ne_eqb (dist c d) 0 (λ z. far (dist_zero n c d hc hd z)))))
+
+    -- as it was read at the node
+    pub taken_by : n ≤ 12 → c < 2 ^ n → d < 2 ^ n → c ≢ d → (a : Around) (p : Option (ℕ × ℕ)) → record { own = lab c; near = gathered n lab c } ≡ a
+        → p ≡ chosen n c d a.own (λ i. get_or a.near i 0) → Ok (taken p) ≡ hop_reason n j c d m lab
+    taken_by small hc hd far a p e ep =
+        taken_is hc hd far p
+        (rw (ap (λ (x : Around). x.own) e) ep ∙ chosen_is n lab c a.near small (sym (ap (λ (x : Around). x.near) e)) d)

@@ -1,6 +1,6 @@
 -- What the functions inside the crate answer. No contract of a question cites these: proofs/Watching.antt shows that the node is watched well, and
 -- proofs/Reasons.antt how the reason is made of it.
-use Rattle.std.specs.Prelude.{Bool, cond, ◌&&◌, ◌||◌, List, ℕ, ◌*◌, ◌/◌, ◌%◌, eqb, leb, ltb, Option, Some, None}
+use Rattle.std.specs.Prelude.{Bool, cond, ◌&&◌, ◌||◌, List, ℕ, eqb, leb, Option, Some, None}
 use Rattle.cube.specs.Count.{count}
 use Rattle.cube.specs.Cube.{flip}
 use Rattle.cube.specs.Tables.{label_in}
@@ -9,7 +9,6 @@ use Rattle.rule.specs.Rule.{marked, rounds}
 use Rattle.causes.specs.Cause.{cause_of, cause_with, round_of}
 use Rattle.causes.specs.declared.Cause.{Cause}
 use Rattle.passes.specs.Passes.{mark_in, out_in}
-use Rattle.scans.specs.Scans.{no_scan}
 use Rattle.why.specs.declared.HopReason.{HopReason}
 use Rattle.why.specs.declared.HopReason.TheVariants as hop
 use Rattle.why.specs.declared.NodeReason.{NodeReason}
@@ -43,6 +42,7 @@ abbrev pub reason_by : (n : ℕ) (lab : ℕ → ℕ) (x : ℕ) → Watched → N
 reason_by n lab x None = unmarked n lab x
 reason_by n lab x (Some (r, c)) = reason.Unsafe (lab x) r c
 
--- why a hop is taken away from the destination, by what the scans picked, the scan and its dimension in one number
-unfoldable pub taken : (picked : ℕ) → HopReason
-taken picked = cond (ltb picked (no_scan * 16)) (hop.Hop (picked / 16) (picked % 16)) hop.Halted
+-- why a hop is taken away from the destination, by what the scans picked, the scan and its dimension
+abbrev pub taken : (picked : Option (ℕ × ℕ)) → HopReason
+taken None = hop.Halted
+taken (Some p) = hop.Hop p.0 p.1

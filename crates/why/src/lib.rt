@@ -3,7 +3,7 @@
 // took it. Both take any numbers and bytes, and test them; what reads labels is handed the job's half alone.
 #![tactic(auto)]
 
-ghost use Rattle.std.specs.Prelude.{◌≤◌, ◌<◌, leb, length, ◌≡◌};
+ghost use Rattle.std.specs.Prelude.{◌≤◌, ◌&&◌, ◌||◌, eqb, leb, length, ◌≡◌};
 ghost use Rattle.cube.specs.Refused.{answered};
 ghost use Rattle.causes.specs.Cause.{bad_cause, cause_with, from};
 ghost use Rattle.cube.specs.Count.{count};
@@ -17,12 +17,12 @@ ghost use Rattle.why.specs.HopReasons.{hop_reason};
 ghost use Rattle.why.specs.NodeReasons.{labels_left, node_reason, node_refusal, reason_of};
 
 use causes::Cause;
+use cube::nodes;
 use cube::refusals::Refusal;
-use cube::{neighbour, nodes};
-use hop::{NO_CHOICE, chosen, gather, near_refusal, place_refusal};
+use hop::{at_node, chosen, place_refusal};
 use jobs::half;
 use labels::label_refusal;
-use passes::{MARKED, NEW, OUT, finish, settle, start, sweep};
+use passes::{MARKED, NEW, Node, OUT, finish, settle, start, sweep};
 
 // Why a node has its label.
 #[derive(Drop)]
@@ -42,113 +42,98 @@ pub enum HopReason {
 
 // ---- a node
 
-// Whether node y counts: it does not work or, where marks count too, an earlier round marked it. A mark of this round does not count.
-fn counts(labels: &[u8], y: usize, marks: bool) -> bool
-    requires { y < length labels.now }
-    ensures { result ≡ counted labels.now marks y }
+// Whether a node with this label counts: it does not work or, where marks count too, an earlier round marked it. A mark of this round does not count.
+fn counts(label: u8, marks: bool) -> bool
+    ensures { result ≡ (eqb label 3 || (marks && eqb label 2)) }
 {
-    let byte = labels[y];
-    (byte == OUT) | (marks & (byte == MARKED))
+    (label == OUT) | (marks & (label == MARKED))
 }
 
-// The lowest dimension from i on across which x has a neighbour that counts; n where there is none.
-fn next_from(n: usize, labels: &[u8], x: usize, marks: bool, i: usize) -> usize
-    requires { NodeOf n labels.now x }
-    ensures { result ≡ from n (λ k. counted labels.now marks (flip k x)) i }
+// The lowest dimension from i on across which the node has a neighbour that counts; n where there is none.
+fn next_from(node: Node, marks: bool, i: usize) -> usize
+    ensures { result ≡ from node.entry.n (λ k. counted node.entry.labels.now marks (flip k node.entry.x)) i }
 {
-    let mut k = i;
-    while k < n {
-        if counts(labels, neighbour(x, k), marks) {
+    for k in i..node.n {
+        if counts(node.near(k), marks) {
             return k;
         }
-        k += 1;
     }
-    n
+    node.n
 }
 
-// The cause of x, which has not two neighbours that do not work.
-fn bad_cause(n: usize, rule: usize, labels: &[u8], x: usize) -> Cause
-    requires { NodeOf n labels.now x }
-    ensures { result ≡ bad_cause n rule (out_in labels.now) (mark_in labels.now) x }
+// The cause of a node that has not two neighbours that do not work.
+fn bad_cause(rule: usize, node: Node) -> Cause
+    ensures { result ≡ bad_cause node.entry.n rule (out_in node.entry.labels.now) (mark_in node.entry.labels.now) node.entry.x }
 {
-    let a = next_from(n, labels, x, true, 0);
-    let b = next_from(n, labels, x, true, a + 1);
+    let a = next_from(node, true, 0);
+    let b = next_from(node, true, a + 1);
     if rule == 2 {
         return Cause::Two(a, b);
     }
-    let c = next_from(n, labels, x, true, b + 1);
+    let c = next_from(node, true, b + 1);
     Cause::Three(a, b, c)
 }
 
-// The cause of x, which meets the rule, by the table of the round that marks it.
-fn cause(n: usize, rule: usize, labels: &[u8], x: usize) -> Cause
-    requires { NodeOf n labels.now x }
-    ensures { result ≡ cause_with n rule (out_in labels.now) (mark_in labels.now) x }
+// The cause of a node that meets the rule, by the table of the round that marks it.
+fn cause(rule: usize, node: Node) -> Cause
+    ensures { result ≡ cause_with node.entry.n rule (out_in node.entry.labels.now) (mark_in node.entry.labels.now) node.entry.x }
 {
-    let a = next_from(n, labels, x, false, 0);
-    let b = next_from(n, labels, x, false, a + 1);
-    if b < n {
+    let a = next_from(node, false, 0);
+    let b = next_from(node, false, a + 1);
+    if b < node.n {
         return Cause::Faulty(a, b);
     }
-    bad_cause(n, rule, labels, x)
+    bad_cause(rule, node)
 }
 
-// What is seen of x once this round has marked its nodes, and before they are settled: the round that marked x, and its cause.
+// What is seen of a node once this round has marked its nodes, and before they are settled: the round that marked it, and its cause.
 fn watch(
-    n: usize,
     rule: usize,
-    labels: &[u8],
-    x: usize,
+    node: Node,
     round: usize,
     before: Option<(usize, Cause)>,
 ) -> Option<(usize, Cause)>
-    requires { NodeOf n labels.now x }
-    ensures { result ≡ watched_on n rule labels.now x round before }
+    ensures { result ≡ watched_on node.entry.n rule node.entry.labels.now node.entry.x round before }
 {
-    if labels[x] == NEW {
-        return Some((round, cause(n, rule, labels, x)));
+    if node.label() == NEW {
+        return Some((round, cause(rule, node)));
     }
     before
 }
 
-// How many neighbours of x have a label of at least low.
-fn labelled_from(n: usize, labels: &[u8], x: usize, low: u8) -> usize
-    requires { NodeOf n labels.now x }
-    ensures { result ≡ count n (λ i. leb low (label_in labels.now (flip i x))) }
+// How many of a node's neighbours have a label of at least low.
+fn labelled_from(node: Node, low: u8) -> usize
+    ensures { result ≡ count node.entry.n (λ i. leb low (label_in node.entry.labels.now (flip i node.entry.x))) }
 {
-    let mut found: usize = 0;
-    let mut i: usize = 0;
-    while i < n {
-        if low <= labels[neighbour(x, i)] {
-            found = found + 1;
+    let mut found = 0;
+    for i in 0..node.n {
+        if low <= node.near(i) {
+            found += 1;
         }
-        i = i + 1;
     }
     found
 }
 
-// Why x has its label, where no round marked it: it does not work, or it is safe.
-fn unmarked_reason(n: usize, labels: &[u8], x: usize) -> NodeReason
-    requires { NodeOf n labels.now x }
-    ensures { result ≡ unmarked n (label_in labels.now) x }
+// Why a node has its label, where no round marked it: it does not work, or it is safe.
+fn unmarked_reason(node: Node) -> NodeReason
+    ensures { result ≡ unmarked node.entry.n (label_in node.entry.labels.now) node.entry.x }
 {
-    let label = labels[x];
+    let label = node.label();
     if OUT <= label {
         return NodeReason::Out(label);
     }
-    let out = labelled_from(n, labels, x, OUT);
-    let not_safe = labelled_from(n, labels, x, 1);
+    let out = labelled_from(node, OUT);
+    let not_safe = labelled_from(node, 1);
     NodeReason::Safe(out, not_safe)
 }
 
-// Why x has its label, by the final labels and by what was seen of it.
-fn reason(n: usize, labels: &[u8], x: usize, watched: Option<(usize, Cause)>) -> NodeReason
-    requires { NodeOf n labels.now x }
-    ensures { result ≡ reason_by n (label_in labels.now) x watched }
+// Why a node has its label, by the final labels and by what was seen of it.
+fn reason(node: Node, watched: Option<(usize, Cause)>) -> NodeReason
+    ensures { result ≡ reason_by node.entry.n (label_in node.entry.labels.now) node.entry.x watched }
 {
     match watched {
-        Some((round, cause)) => NodeReason::Unsafe(labels[x], round, cause),
-        None => unmarked_reason(n, labels, x),
+        Some((round, cause)) => NodeReason::Unsafe(node.label(), round, cause),
+        None => unmarked_reason(node),
     }
 }
 
@@ -178,12 +163,22 @@ fn label_watching(
         if marked == 0 {
             break;
         }
-        watched = watch(n, rule, labels, x, round, watched);
+        let node = Node {
+            n,
+            labels: &labels[..],
+            x,
+        };
+        watched = watch(rule, node, round, watched);
         settle(labels);
         round = round + 1;
     }
     finish(n, faults, closed, labels);
-    reason(n, labels, x, watched)
+    let node = Node {
+        n,
+        labels: &labels[..],
+        x,
+    };
+    reason(node, watched)
 }
 
 // The refusals: those of labelling, then that of the node.
@@ -230,13 +225,13 @@ pub fn why_node(
 // ---- a hop
 
 // Why a hop is taken away from the destination, by what the scans picked.
-fn taken(picked: usize) -> HopReason
+fn taken(picked: Option<(usize, usize)>) -> HopReason
     ensures { result ≡ taken picked }
 {
-    if picked < NO_CHOICE {
-        return HopReason::Hop(picked / 16, picked % 16);
+    match picked {
+        Some((scan, dimension)) => HopReason::Hop(scan, dimension),
+        None => HopReason::Halted,
     }
-    HopReason::Halted
 }
 
 // Why the hop at c on the way to d is taken, for a job. It is asked as the hop is, and reads the same labels: of the job's half c's and each neighbour's once.
@@ -250,13 +245,9 @@ pub fn why_hop(
     ensures { result ≡ hop_reason n job c d (length labels.now) (label_for n job labels.now) }
 {
     place_refusal(n, job, c, d, labels.len(), false)?;
-    let table = half(n, job, labels);
-    let own = table[c];
-    let mut near = [0u8; 12];
-    let high = gather(n, table, c, &mut near);
-    near_refusal(c, d, own, high)?;
+    let around = at_node(n, c, d, half(n, job, labels))?;
     if c != d {
-        return Ok(taken(chosen(n, c, d, own, &near)));
+        return Ok(taken(chosen(n, c, d, around.own, &around.near)));
     }
     Ok(HopReason::Deliver)
 }

@@ -1,6 +1,5 @@
--- `labelled_from` counts. Invariant: so many across the dimensions that were passed; the measure is the dimensions that are left.
+-- `labelled_from` counts. Invariant: so many across the dimensions that were passed.
 use mathlib.Core.Path.{◌≡◌}
-use Prim.Native.Nat.{◌-◌, ◌≤◌}
 use lib.Dec.{leb}
 use Rattle.cube.specs.Count.{count}
 use Rattle.cube.specs.Cube.{flip}
@@ -8,7 +7,4 @@ use Rattle.cube.specs.Tables.{label_in}
 use Rattle.why.proofs.labelled_from.Given as goal
 
 abbrev pub invariant-loop-i : goal.invariant-loop-i
-invariant-loop-i l = (l.found ≡ count l.i (λ k. leb l.low (label_in l.labels (flip k l.x)))) × (l.i ≤ l.n)
-
-abbrev pub decreases-loop-i : goal.decreases-loop-i
-decreases-loop-i l = l.n - l.i
+invariant-loop-i l = l.found ≡ count l.i (λ k. leb l.low (label_in l.node.labels.now (flip k l.node.x)))

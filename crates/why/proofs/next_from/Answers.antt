@@ -1,18 +1,21 @@
-use mathlib.Core.Path.{sym, ap, ◌∙◌}
+use mathlib.Core.Path.{sym, ◌∙◌}
 use native.Mathlib.Omega.{arith}
-use Rattle.cube.proofs.Cube.{flip_lt}
-use Rattle.causes.proofs.Nth.{pass_end, pass_here}
+use Rattle.causes.proofs.Nth.{pass_end, pass_here, pass_next, pass_start}
+use Rattle.passes.specs.Passes.{mark_in, out_in}
 use Rattle.why.specs.Helpers.{counted}
 use Rattle.why.proofs.next_from.Goals as goal
 
-pub counts-requires : goal.counts-requires
-counts-requires c =
-    omega (arith, c.requires.sized, c.neighbour.ensures, flip_lt c.args.n c.loop-k.k c.args.x (omega arith) c.requires.inside)
+pub loop-k-init : goal.loop-k-init
+loop-k-init c = pass_start _ _
 
 pub returns-then-counts : goal.returns-then-counts
+unfolding counted out_in mark_in
 returns-then-counts c =
-    let a = c.args in
-    pass_here _ _ _ c.loop-k.invariant _ (omega arith) (ap (counted a.labels.now a.marks) (sym c.neighbour.ensures) ∙ sym c.counts.ensures ∙ c.if-counts.true)
+    pass_here _ _ _ c.loop-k.invariant _ (omega arith) (rw c.near.ensures at (sym c.counts.ensures ∙ c.if-counts.true))
+
+pub loop-k-preserved : goal.loop-k-preserved
+unfolding counted out_in mark_in
+loop-k-preserved c = pass_next _ _ _ c.loop-k.invariant (rw c.near.ensures at (sym c.counts.ensures ∙ c.if-counts.false))
 
 pub returns : goal.returns
 returns c = pass_end _ _ _ c.loop-k.invariant _ (λ h. omega arith)
