@@ -1,15 +1,13 @@
--- What is left of a text at a place between its entries: the parts of the bytes from there on. An entry that is taken there is the first of them, and where
--- none is, the text breaks the rules.
+-- What is left of a text between its entries: an entry that is taken at its front is the first of its parts, and where none is, the text breaks the rules.
 use mathlib.Core.Bool.{Bool, true, false, ◌&&◌, ◌||◌}
 use mathlib.Core.List.{List, [], ◌∷◌}
 use mathlib.Core.Logic.{◌⊎◌, inl, inr}
 use mathlib.Core.Path.{◌≡◌, refl, sym, ap, ap₂, subst, ◌∙◌}
-use Prim.Native.Nat.{ℕ, ◌+◌, ◌≤◌, ◌<◌}
+use Prim.Native.Nat.{ℕ, ◌≤◌, ◌<◌}
 use native.Mathlib.Omega.{arith}
-use lib.Dec.{leb, ltb}
-use lib.ListN.{length, drop, drop_of_length-le, length-drop}
-use lib.Seq.{drop-drop}
-use borrow.Author.Tests.{le-leb, lt-ltb, ltb-true, ltb-false}
+use lib.Dec.{eqb, leb, ltb}
+use lib.ListN.{length, drop}
+use borrow.Author.Tests.{eqb-false, eqb-true, le-leb, lt-ltb, ltb-true, ltb-false}
 use Rattle.cube.proofs.Bools.{either}
 use Rattle.list_reader.specs.Front.{a_run, capped, entry_at}
 use Rattle.std.specs.Prelude.{None}
@@ -55,34 +53,37 @@ reaches_any : (size : ℕ) (s : List ℕ) → reaches size s ≡ any (far_off si
 unfolding reaches
 reaches_any size s = refl
 
--- the entry at a place, from where it was taken
-pub taken_at : (text : List ℕ) (at : ℕ) {lo hi next : ℕ} → at < length text → a_run lo hi next ≡ entry_at (drop at text) → Taken (drop at text) lo hi next
-taken_at text at h e = subst (Judged (drop at text)) (sym e) (judged (drop at text) (omega (arith, length-drop at text)))
+-- something is left, or nothing
+pub some_left : (s : List ℕ) {b : Bool} → b ≡ eqb (length s) 0 → b ≡ false → 0 < length s
+some_left s e f = let d = eqb-false (length s) 0 (sym e ∙ f) in omega arith
 
-pub bad_at : (text : List ℕ) (at : ℕ) → at < length text → None ≡ entry_at (drop at text) → is_list (drop at text) ≡ false
-bad_at text at h e = subst (Judged (drop at text)) (sym e) (judged (drop at text) (omega (arith, length-drop at text)))
+pub none_left : (s : List ℕ) {b : Bool} → b ≡ eqb (length s) 0 → b ≡ true → length s ≡ 0
+none_left s e t = eqb-true (length s) 0 (sym e ∙ t)
 
--- the place behind it
-module _ (text : List ℕ) (at : ℕ) {lo hi next : ℕ} (t : Taken (drop at text) lo hi next) where
-  pub next_within : at ≤ length text → at + next ≤ length text
-  next_within h = omega (arith, t.within, length-drop at text)
+-- the entry at the front of what is left
+module _ (s : List ℕ) (h : 0 < length s) where
+  pub taken_at : {lo hi next : ℕ} → a_run lo hi next ≡ entry_at s → Taken s lo hi next
+  taken_at e = subst (Judged s) (sym e) (judged s h)
 
-  pub parts_on : parts_of (drop at text) ≡ t.part ∷ parts_of (drop (at + next) text)
-  parts_on = t.parts ∙ ap (λ (s : List ℕ). t.part ∷ parts_of s) (drop-drop next at text)
+  pub bad_at : None ≡ entry_at s → is_list s ≡ false
+  bad_at e = subst (Judged s) (sym e) (judged s h)
 
-  pub rules_on : is_list (drop at text) ≡ is_list (drop (at + next) text)
+-- behind it
+module _ {s : List ℕ} {lo hi next : ℕ} (t : Taken s lo hi next) where
+  pub rules_on : is_list s ≡ is_list (drop next s)
   rules_on =
-      list_every (drop at text) ∙ ap (every is_entry) parts_on ∙ every_part is_entry t.part (parts_of (drop (at + next) text))
-      ∙ ap (λ (b : Bool). b && every is_entry (parts_of (drop (at + next) text))) t.entry
-      ∙ sym (list_every (drop (at + next) text))
+      list_every s ∙ ap (every is_entry) t.parts ∙ every_part is_entry t.part (parts_of (drop next s))
+      ∙ ap (λ (b : Bool). b && every is_entry (parts_of (drop next s))) t.entry
+      ∙ sym (list_every (drop next s))
 
-  pub beyond_on : (size : ℕ) → size ≤ 4096 → reaches size (drop at text) ≡ (leb size hi || reaches size (drop (at + next) text))
+  pub beyond_on : (size : ℕ) → size ≤ 4096 → reaches size s ≡ (leb size hi || reaches size (drop next s))
   beyond_on size h =
-      reaches_any size (drop at text) ∙ ap (any (far_off size)) parts_on ∙ any_part (far_off size) t.part (parts_of (drop (at + next) text))
-      ∙ ap₂ ◌||◌ (sym (ap (leb size) t.high_is ∙ beyond_capped size (high t.part) h)) (sym (reaches_any size (drop (at + next) text)))
+      reaches_any size s ∙ ap (any (far_off size)) t.parts ∙ any_part (far_off size) t.part (parts_of (drop next s))
+      ∙ ap₂ ◌||◌ (sym (ap (leb size) t.high_is ∙ beyond_capped size (high t.part) h)) (sym (reaches_any size (drop next s)))
 
-pub nothing_left : (text : List ℕ) (at : ℕ) → length text ≤ at → drop at text ≡ []
-nothing_left text at h = drop_of_length-le text h
+pub nothing_left : (s : List ℕ) → length s ≡ 0 → s ≡ []
+nothing_left [] e = refl
+nothing_left (x ∷ s) e = absurd (omega arith)
 
 pub none_rules : is_list [] ≡ true
 unfolding is_list parts_of every

@@ -58,6 +58,7 @@ fn more_digits(s: &[u8], from: usize, known: usize) -> Digits
 {
     let mut value: usize = cap(known);
     let mut count: usize = from;
+    // a `for` is no plainer: it needs the place both where it stops and at the end
     while digit_at(s, count) {
         value = cap(and_digit(value, s[count]));
         count += 1;
@@ -164,13 +165,13 @@ fn check(text: &[u8], size: usize) -> Result<(), Refusal>
     ensures { result ≡ answered (first (text_tests size text.now)) tt }
 {
     let mut far: bool = false;
-    let mut at: usize = 0;
-    while at < text.len() {
-        let Some(found) = first_entry(&text[at..]) else {
+    let mut rest = text;
+    while !rest.is_empty() {
+        let Some(found) = first_entry(rest) else {
             return Err(Refusal::Text);
         };
         far = far | (size <= found.high);
-        at += found.bytes;
+        rest = &rest[found.bytes..];
     }
     if far {
         return Err(Refusal::Address);
@@ -227,14 +228,12 @@ fn put_entries(text: &[u8], faults: &mut [u8])
     requires text_judged { (is_list text.now ≡ true) × (reaches (8 * length faults.old) text.now ≡ false) }
     ensures { faults.new ≡ with_parts faults.old (parts_of text.now) }
 {
-    let mut at: usize = 0;
-    while at < text.len() {
-        let found = run_at(&text[at..]);
+    let mut rest = text;
+    while !rest.is_empty() {
+        let found = run_at(rest);
         set_run(faults, found.low, found.high);
-        at += found.bytes;
-        if at < text.len() {
-            at += 1;
-        }
+        let behind = (found.bytes + 1).min(rest.len()); // with the comma, if one stands there
+        rest = &rest[behind..];
     }
 }
 

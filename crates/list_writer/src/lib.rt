@@ -77,6 +77,7 @@ fn put_list<S: Sink>(faults: &[u8], size: usize, sink: &mut S)
 {
     let mut first = true;
     let mut k: usize = 0;
+    // no `for` and no chain is plainer: k goes on by a whole run, whose end is known only there
     while k < size {
         if node_bit(faults, k) {
             let end = run_end(faults, size, k);
@@ -91,6 +92,7 @@ fn put_list<S: Sink>(faults: &[u8], size: usize, sink: &mut S)
 }
 
 // Writes the text of a fault table of an n-cube to the front of the buffer and answers its length, or refuses and leaves the buffer as it was.
+// It stands beside `writer::write`, and one function for both is no plainer: a notice's first pass gives the count that its second one begins with.
 pub fn write(n: usize, faults: &[u8], out: &mut [u8]) -> Result<usize, Refusal>
     ensures answer { result ≡ wrote_list n faults.now (length out.old) }
     ensures buffer { out.new ≡ list_after n faults.now out.old }

@@ -1,40 +1,43 @@
-use mathlib.Core.Path.{◌≡◌, sym, ap, ◌∙◌}
+use mathlib.Core.Path.{◌≡◌, sym, ◌∙◌}
 use native.Mathlib.Omega.{arith}
-use lib.ListN.{drop}
-use Rattle.notice.proofs.Outcomes.{part_drop}
 use Rattle.std.specs.Prelude.{Some}
-use Rattle.list_reader.specs.Front.{entry_at}
+use lib.ListN.{length-drop}
 use Rattle.list_reader.proofs.Entries.{Taken}
+use Rattle.notice.proofs.Outcomes.{part_drop}
+use Rattle.list_reader.specs.Front.{entry_at}
 use Rattle.list_reader.proofs.Judging.{judge_bad, judge_beyond, judge_on, judge_within}
-use Rattle.list_reader.proofs.Left.{next_within, taken_at}
+use Rattle.list_reader.proofs.Left.{none_left, some_left, taken_at}
 use Rattle.list_reader.proofs.check.Goals as goal
 use Rattle.list_reader.proofs.check.Goals.{In-Some}
 
--- the entry of the turn, where there is one
-opened : (c : In-Some) → Some c.in-Some.found ≡ entry_at (drop c.loop-at.at c.args.text.now)
-opened c = sym c.in-Some.is ∙ c.first_entry.ensures ∙ ap entry_at (part_drop c.args.text.now c.loop-at.at)
-
-taken : (c : In-Some) → Taken (drop c.loop-at.at c.args.text.now) c.in-Some.found.low c.in-Some.found.high c.in-Some.found.bytes
-taken c = taken_at c.args.text.now c.loop-at.at (omega arith) (opened c)
-
 pub returns-in_default : goal.returns-in_default
-returns-in_default c =
-    judge_bad c.loop-at.invariant (omega arith)
-    (sym c.in_default.is ∙ c.first_entry.ensures ∙ ap entry_at (part_drop c.args.text.now c.loop-at.at))
+returns-in_default c = judge_bad c.loop-rest.invariant (some_left _ c.is_empty.ensures c.loop-rest-test.true) (sym c.in_default.is ∙ c.first_entry.ensures)
 
-pub overflow_add-at : goal.overflow_add-at
-overflow_add-at c = omega (arith, next_within c.args.text.now c.loop-at.at (taken (goal.at.overflow_add-at c).In-Some) c.loop-at.invariant.upto)
+-- the entry of the turn
+opened : (c : In-Some) → Some c.in-Some.found ≡ entry_at c.loop-rest.rest.now
+opened c = sym c.in-Some.is ∙ c.first_entry.ensures
 
-pub loop-at-smaller : goal.loop-at-smaller
-loop-at-smaller c =
-    let t = taken (goal.at.loop-at-smaller c).In-Some in
-    omega (arith, next_within c.args.text.now c.loop-at.at t c.loop-at.invariant.upto, t.some)
+taken : (c : In-Some) → Taken c.loop-rest.rest.now c.in-Some.found.low c.in-Some.found.high c.in-Some.found.bytes
+taken c = taken_at _ (some_left _ c.is_empty.ensures c.loop-rest-test.true) (opened c)
 
-pub loop-at-preserved : goal.loop-at-preserved
-loop-at-preserved c = judge_on c.loop-at.invariant (omega arith) c.requires (opened (goal.at.loop-at-preserved c).In-Some)
+pub slice_bounds-rest-count : goal.slice_bounds-rest-count
+slice_bounds-rest-count c = (taken (goal.at.slice_bounds-rest-count c).In-Some).within
+
+pub slice_bounds-rest-start : goal.slice_bounds-rest-start
+slice_bounds-rest-start c = (taken (goal.at.slice_bounds-rest-start c).In-Some).within
+
+pub loop-rest-smaller : goal.loop-rest-smaller
+loop-rest-smaller c =
+    let t = taken (goal.at.loop-rest-smaller c).In-Some in
+    rw (part_drop c.loop-rest.rest.now c.in-Some.found.bytes) (omega (arith, t.some, t.within, length-drop c.in-Some.found.bytes c.loop-rest.rest.now))
+
+pub loop-rest-preserved : goal.loop-rest-preserved
+loop-rest-preserved c =
+    rw (part_drop c.loop-rest.rest.now c.in-Some.found.bytes)
+    (judge_on c.loop-rest.invariant (some_left _ c.is_empty.ensures c.loop-rest-test.true) c.requires (opened (goal.at.loop-rest-preserved c).In-Some))
 
 pub returns-then-far : goal.returns-then-far
-returns-then-far c = judge_beyond c.loop-at.invariant (omega arith) c.if-far.true
+returns-then-far c = judge_beyond c.loop-rest.invariant (none_left _ c.is_empty.ensures c.loop-rest-test.false) c.if-far.true
 
 pub returns : goal.returns
-returns c = judge_within c.loop-at.invariant (omega arith) c.if-far.false
+returns c = judge_within c.loop-rest.invariant (none_left _ c.is_empty.ensures c.loop-rest-test.false) c.if-far.false
