@@ -5,93 +5,52 @@
 
 ghost use Rattle.std.specs.Prelude.{◌≤◌, length, ◌≡◌};
 ghost use Rattle.figures.specs.Figures.{counters_of, tally_of};
-ghost use Rattle.lines.specs.Lines.{room};
 
 use counters::tally;
 use cube::nodes;
+use lines::Line;
 use std::io;
 use std::io::{IsTerminal, Write};
 
-// Writes the line at the front of the buffer.
-fn say<W: Write>(file: &mut W, out: &[u8], end: usize) -> io::Result<()>
-    requires { end ≤ length out.now }
-{
-    file.write_all(&out[..end])
+fn say<W: Write>(file: &mut W, line: &Line) -> io::Result<()> {
+    file.write_all(line.as_bytes())
 }
 
 // The cube that is next, for whoever waits at a terminal: its lines come only when all its tables are counted.
-fn say_progress(rt: &HostRuntime, n: usize, out: &mut [u8]) -> io::Result<()>
-    requires { length out.old ≡ room }
-{
+fn say_progress(rt: &HostRuntime, n: usize) -> io::Result<()> {
     if !rt.stderr().is_terminal() {
         return Ok(());
     }
-    let end = lines::progress_line(n, out);
-    say(&mut rt.stderr(), out, end)
-}
-
-fn say_size(rt: &HostRuntime, n: usize, out: &mut [u8]) -> io::Result<()>
-    requires { length out.old ≡ room }
-{
-    let end = lines::size_line(n, out);
-    say(&mut rt.stdout(), out, end)
-}
-
-fn say_figures(rt: &HostRuntime, faults: usize, figures: &[u32], out: &mut [u8]) -> io::Result<()>
-    requires { (length figures.now ≡ 6) × (length out.old ≡ room) }
-{
-    let end = lines::figures_line(faults, figures, out);
-    say(&mut rt.stdout(), out, end)
+    say(&mut rt.stderr(), &lines::progress_line(n))
 }
 
 // A line for each number of faults: none, one, .., all nodes.
-fn say_all(rt: &HostRuntime, n: usize, counters: &[u32], out: &mut [u8]) -> io::Result<()>
-    requires n_bound { (n ≤ 4) × (counters.now ≡ tally_of n) }
-    requires out_len { length out.old ≡ room }
+fn say_all(rt: &HostRuntime, n: usize, counters: &[u32]) -> io::Result<()>
+    requires { (n ≤ 4) × (counters.now ≡ tally_of n) }
 {
-    let size = nodes(n);
-    let mut faults: usize = 0;
-    while faults <= size {
-        say_figures(rt, faults, &counters[6 * faults..6 * faults + 6], out)?;
-        faults += 1;
+    let (rows, _) = counters.as_chunks::<6>();
+    for (faults, figures) in rows.iter().enumerate() {
+        say(&mut rt.stdout(), &lines::figures_line(faults, figures))?;
     }
     Ok(())
 }
 
 // The dimension and the counters are such as are not refused, so what is written is the tally.
-fn say_cube(rt: &HostRuntime, n: usize, counters: &mut [u32], out: &mut [u8]) -> io::Result<()>
-    requires le_n { ((1 ≤ n) × (n ≤ 4)) × (length counters.old ≡ counters_of n) }
-    requires out_len { length out.old ≡ room }
+fn say_cube(rt: &HostRuntime, n: usize, counters: &mut [u32]) -> io::Result<()>
+    requires { ((1 ≤ n) × (n ≤ 4)) × (length counters.old ≡ counters_of n) }
 {
-    tally(n, counters);
-    say_size(rt, n, out)?;
-    say_all(rt, n, counters, out)
+    let _ = tally(n, counters);
+    say(&mut rt.stdout(), &lines::size_line(n))?;
+    say_all(rt, n, counters)
 }
 
-// The counters that this cube needs are the first of those that the largest does.
-fn next_cube(rt: &HostRuntime, n: usize, counters: &mut [u32], out: &mut [u8]) -> io::Result<()>
-    requires le_n { ((1 ≤ n) × (n ≤ 4)) × (length counters.old ≡ 102) }
-    requires out_len { length out.old ≡ room }
-{
-    let kept = 6 * (nodes(n) + 1);
-    say_progress(rt, n, out)?;
-    say_cube(rt, n, &mut counters[..kept], out)
-}
-
-fn say_cubes(rt: &HostRuntime, counters: &mut [u32], out: &mut [u8]) -> io::Result<()>
-    requires { (length counters.old ≡ 102) × (length out.old ≡ room) }
-{
-    let mut n: usize = 1;
-    while n <= 4 {
-        next_cube(rt, n, counters, out)?;
-        n += 1;
-    }
-    Ok(())
-}
-
-// Six counters for each number of faults, 0 to 16 in the largest of these cubes.
+// Six counters for each number of faults, 0 to 16 in the largest of these cubes. Those that a cube needs are the first of them.
 fn main(rt: HostRuntime) -> io::Result<()> {
     let mut counters = [0u32; 102];
-    let mut out = [0u8; 1024];
-    say_cubes(&rt, &mut counters, &mut out)
+    for n in 1..=4 {
+        let kept = 6 * (nodes(n) + 1);
+        say_progress(&rt, n)?;
+        say_cube(&rt, n, &mut counters[..kept])?;
+    }
+    Ok(())
 }
