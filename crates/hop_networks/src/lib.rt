@@ -69,8 +69,8 @@ pub fn list_refusal(
     Ok(())
 }
 
-// The phase in which the hop from c across dimension i is made: one on, where bit i of c is not that of the phase. A phase is a number, twice the network and one
-// more where it goes down: it is counted and compared as one, so a struct would be opened at each use.
+// The phase in which the hop from c across dimension i is made: one on, where bit i of c is not that of the phase. A phase is a number, twice the network and
+// one more where it goes down: it is counted and compared as one, so a struct would be opened at each use.
 pub fn after(phase: usize, c: usize, i: usize) -> usize
     requires { (phase < 64) × (i < 64) }
     ensures { result ≡ phases.after phase c i }
