@@ -91,11 +91,12 @@ impl Line {
     fn text(&mut self, word: &[u8])
         ensures { self.new ≡ put self.old word.now }
     {
-        let n = word.len().min(1024 - self.len);
+        let n = word.len().min(self.bytes.len() - self.len);
         self.bytes[self.len..self.len + n].copy_from_slice(&word[..n]);
         self.len += n;
     }
 
+    // By `io::decimal`: `write!` is no plainer, since its answer may be an `Err`, of which no clause promises a text.
     fn number<N: Numeral>(&mut self, n: N)
         ensures { self.new ≡ put self.old (decimal (N.value n)) }
     {
@@ -194,22 +195,27 @@ pub fn long_line() -> Line
 
 // ---- the tally
 
+// A word, a number and the end of the line.
+fn field_line(word: &[u8], n: usize) -> Line
+    requires { length word.now ≤ 20 }
+    ensures { result ≡ (word.now ++ decimal n) ++ text "\n" }
+{
+    let mut line = Line::new();
+    line.field(word, n);
+    line.text(b"\n");
+    line
+}
+
 pub fn size_line(n: usize) -> Line
     ensures { result ≡ size_line n }
 {
-    let mut line = Line::new();
-    line.field(b"cube ", n);
-    line.text(b"\n");
-    line
+    field_line(b"cube ", n)
 }
 
 pub fn progress_line(n: usize) -> Line
     ensures { result ≡ progress_line n }
 {
-    let mut line = Line::new();
-    line.field(b"tally: cube ", n);
-    line.text(b"\n");
-    line
+    field_line(b"tally: cube ", n)
 }
 
 pub fn figures_line(faults: usize, figures: &[u32; 6]) -> Line

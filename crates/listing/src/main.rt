@@ -9,7 +9,8 @@ ghost use Rattle.printed.specs.Printed.{labels_in};
 use std::io;
 use std::io::Read;
 
-// A line for each pair behind the notice; places are those of the whole input.
+// A line for each pair behind the notice; places are those of the whole input. A `while`: no range has the places, since each pair says where the next begins,
+// and an iterator of the program's own would be no plainer.
 fn list_pairs(rt: &impl Print, n: usize, labels: &[u8], bytes: &[u8]) -> io::Result<()>
     requires { (n ≡ dimension_of (notice_of bytes.now)) × (labels.now ≡ labels_in bytes.now) }
 {
@@ -34,7 +35,7 @@ fn list(rt: &impl Print, bytes: &[u8]) -> io::Result<()> {
     list_pairs(rt, cube.n, &labels[..cube.bytes], bytes)
 }
 
-// Reads until the buffer is full or the input ends: how many bytes that are.
+// Reads until the buffer is full or the input ends: how many bytes that are. By hand, since `read_to_end` takes a `Vec`, and the programs have no heap.
 fn read_full<R: Read>(reader: &mut R, bytes: &mut [u8]) -> io::Result<usize>
     ensures { IfOk result (λ n. n ≤ length bytes.new) }
 {

@@ -42,10 +42,6 @@ passes t (Ok x) e = sym (tested_passes (length_tests t) 0 refl (rw (eq-eqb (leng
 passes t (Err x) e = sym (tested_refused (length_tests t) 0 refl)
 
 module _ (s : List ℕ) where
-  pub none_wanted : {r : Refusal} {at : ℕ} → Err (r, at) ≡ dimension_at s → 1 ≡ wanted_len s
-  unfolding wanted_len
-  none_wanted e = rw (sym e)
-
   pub table_wanted : {n at : ℕ} → Ok (n, at) ≡ dimension_at s → table_len n ≡ wanted_len s
   unfolding wanted_len
   table_wanted e = rw (sym e)

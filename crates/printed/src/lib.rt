@@ -43,6 +43,7 @@ pub struct Pair {
 // ---- for the notice
 
 // The bytes of the fault table that the notice asks for.
+#[tactic(auto, using(notice::proofs::Opened::opened_dimension), unfolding(crate::specs::Printed::wanted_len))]
 fn wanted_len(bytes: &[u8]) -> usize
     ensures { result ≡ wanted_len bytes.now }
 {
@@ -89,6 +90,7 @@ fn notice_line(bytes: &[u8], faults: &mut [u8], labels: &mut [u8; 8192]) -> Head
 
 // The line of the notice at the front of the bytes: the first line, or the refusal. The label buffer is made at the front of `labels`, which is handed over
 // empty.
+#[tactic(auto, using(crate::proofs::Heads::wanted_few, std::proofs::lemmas::Grind::common_steps))]
 pub fn head_line(bytes: &[u8], labels: &mut [u8; 8192]) -> Head
     requires { labels.old ≡ replicate 8192 0 }
     ensures { Headed bytes.now result labels.new }
@@ -101,6 +103,7 @@ pub fn head_line(bytes: &[u8], labels: &mut [u8; 8192]) -> Head
 // ---- for a pair
 
 // The source and the destination at a place, with the place behind them, or the number that is refused.
+#[tactic(auto, unfolding(crate::specs::Printed::pair_at))]
 fn pair_at(bytes: &[u8], at: usize) -> Result<(usize, usize, usize), (Refusal, usize)>
     ensures { result ≡ pair_at bytes.now at }
 {

@@ -1,17 +1,10 @@
 -- `head_line`: the fault table that is lent on has the length that the notice asks for, which is at most the table's.
-use mathlib.Core.Path.{sym, ◌∙◌}
+use mathlib.Core.Path.{◌∙◌}
 use native.Mathlib.Omega.{arith}
 use lib.ListN.{length-replicate, replicate}
 use lib.Seq.{length-take-le}
 use Rattle.printed.proofs.Heads.{wanted_few}
 use Rattle.printed.proofs.head_line.Goals as goal
-
-pub slice_bounds-faults-end : goal.slice_bounds-faults-end
-slice_bounds-faults-end c = omega (arith, c.wanted_len-len.ensures, wanted_few c.args.bytes.now)
-
-pub slice_bounds-notice_line-end : goal.slice_bounds-notice_line-end
-slice_bounds-notice_line-end c =
-    sym (length-take-le c.wanted_len-len.result (replicate 512 0) (simp length-replicate (omega (arith, c.wanted_len-len.ensures, wanted_few c.args.bytes.now))))
 
 pub notice_line-requires-clause-faults_len : goal.notice_line-requires-clause-faults_len
 notice_line-requires-clause-faults_len c =
