@@ -9,6 +9,7 @@ ghost use Rattle.jobs.specs.Jobs.{Halved, half, is_job, label_bytes};
 use cube::nodes;
 
 // Whether a job has this number: 0 or 1.
+// A job stays a number, and is no enum, for the C interface: C hands any number, and each question refuses all others with 19.
 pub fn is_job(job: usize) -> bool
     ensures { result ≡ is_job job }
 {

@@ -100,11 +100,11 @@ pub fn set_bit(faults: &mut [u8], k: usize)
     requires { k / 8 < length faults.old }
     ensures { faults.new ≡ with_bit faults.old k }
 {
-    let j = k / 8;
-    faults[j] = faults[j] | (1 << (k % 8));
+    faults[k / 8] |= 1 << (k % 8);
 }
 
 // The writing pass of the address reader, over addresses that were checked: no number is refused here any more.
+// It is no plainer in one function with `check_addresses`: what a closure did to the table would stand in the contract of both.
 fn write_addresses(bytes: &[u8], m: usize, faults: &mut [u8])
     requires faults_len_bound { length faults.old ≤ 512 }
     requires bytes_value { rising 0 (8 * length faults.old) (addresses_at m bytes.now 0 0) ≡ true }
