@@ -151,10 +151,8 @@ fn first_entry(s: &[u8]) -> Option<Run>
     if !is_number(s, at) {
         return None;
     }
-    if at < s.len() {
-        if s[at] == b'-' {
-            return range(s, at, first.value);
-        }
+    if at < s.len() && s[at] == b'-' {
+        return range(s, at, first.value);
     }
     close(s, at, first.value, first.value)
 }
@@ -185,6 +183,7 @@ fn set_run(faults: &mut [u8], low: usize, high: usize)
     ensures { faults.new ≡ with_bits faults.old (between low high) }
 {
     let mut k: usize = low;
+    // `for` and `fill` are no plainer: they take four parts, for runs without a whole byte, and before, in and behind the whole bytes of others
     while k <= high {
         if (k % 8 == 0) & (7 <= high - k) {
             faults[k / 8] = 255;
@@ -204,16 +203,14 @@ fn run_at(s: &[u8]) -> Run
 {
     let first = leading(s);
     let at = first.count;
-    if at < s.len() {
-        if s[at] == b'-' {
-            let start = at + 1;
-            let second = leading(&s[start..]);
-            return Run {
-                low: first.value,
-                high: second.value,
-                bytes: start + second.count,
-            };
-        }
+    if at < s.len() && s[at] == b'-' {
+        let start = at + 1;
+        let second = leading(&s[start..]);
+        return Run {
+            low: first.value,
+            high: second.value,
+            bytes: start + second.count,
+        };
     }
     Run {
         low: first.value,

@@ -8,7 +8,7 @@ use Rattle.ranges.specs.Grammar.{no_zero}
 use Rattle.list_reader.proofs.Fronts.{lead_within}
 use Rattle.list_reader.proofs.Steps.{entry_close, entry_dash, entry_zero}
 use Rattle.list_reader.proofs.first_entry.Goals as goal
-use Rattle.list_reader.proofs.first_entry.Goals.{Else-not-is_number, else-at-s, then-at-s+else-s-at-eq45}
+use Rattle.list_reader.proofs.first_entry.Goals.{Else-not-is_number, else-at-s-via-else-at-s, else-at-s-via-then-at-s+else-s-at-eq45}
 
 number : (c : Else-not-is_number) → no_zero (take c.leading-first.result.count c.args.s.now) ≡ true
 number c = sym c.is_number.ensures ∙ c.if-not-is_number.false
@@ -30,7 +30,7 @@ pub returns : goal.returns
 returns c =
     let f = c.leading-first.ensures in
     c.close.ensures
-    ∙ entry_close _ _ f.count (number (goal.at.returns c).Else-not-is_number) (elim c.if-at-s.branch [
-      | then-at-s+else-s-at-eq45 w ↦ inr (w.if-at-s.true, w.if-s-at-eq45.false)
-      | else-at-s w ↦ inl w.if-at-s.false
+    ∙ entry_close _ _ f.count (number (goal.at.returns c).Else-not-is_number) (elim c.else-at-s.branch [
+      | else-at-s-via-then-at-s+else-s-at-eq45 w ↦ inr (w.if-at-s.true, w.if-s-at-eq45.false)
+      | else-at-s-via-else-at-s w ↦ inl w.if-at-s.false
     ]) f.value

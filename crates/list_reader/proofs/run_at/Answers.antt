@@ -1,5 +1,5 @@
 -- `run_at` goes by the byte behind the digits at the front.
-use mathlib.Core.Bool.{true}
+use mathlib.Core.Bool.{true, false}
 use mathlib.Core.List.{List}
 use mathlib.Core.Path.{◌≡◌, sym, ap, ◌∙◌}
 use Prim.Native.Nat.{ℕ, ◌+◌, ◌-◌}
@@ -11,7 +11,7 @@ use Rattle.list_reader.specs.Front.{capped, dashed, front, lead}
 use Rattle.list_reader.proofs.Again.{bytes_alone, bytes_dashed, dash_none, dash_other, dash_there, high_alone, high_dashed}
 use Rattle.list_reader.proofs.Fronts.{lead_within}
 use Rattle.list_reader.proofs.run_at.Goals as goal
-use Rattle.list_reader.proofs.run_at.Goals.{Then-s-at-eq45}
+use Rattle.list_reader.proofs.run_at.Goals.{Then-s-at-eq45, else-at-s-via-else-at-s, else-at-s-via-then-at-s+else-s-at-eq45}
 
 -- a dash stands behind the digits: then the bytes behind it are those of the second number
 there : (c : Then-s-at-eq45) → dashed c.args.s.now ≡ true
@@ -53,16 +53,12 @@ returns-then-s-at-eq45 c =
           omega (arith, f.count, g.count, ap lead (rest-is p.Then-s-at-eq45), bytes_dashed s (there p.Then-s-at-eq45));
     }
 
-pub returns-else-s-at-eq45 : goal.returns-else-s-at-eq45
-returns-else-s-at-eq45 c =
+pub returns : goal.returns
+returns c =
     let s = c.args.s.now in
     let f = c.leading-first.ensures in
-    let none = dash_other s (λ q. c.if-s-at-eq45.false (ap (λ (k : ℕ). get_or s k 0) f.count ∙ q)) in
-    record { low = f.value; high = f.value ∙ sym (high_alone s none); bytes = f.count ∙ sym (bytes_alone s none) }
-
-pub returns-else-at-s : goal.returns-else-at-s
-returns-else-at-s c =
-    let s = c.args.s.now in
-    let f = c.leading-first.ensures in
-    let none = dash_none s (omega (arith, f.count, c.if-at-s.false)) in
+    let none : dashed s ≡ false = elim c.else-at-s.branch [
+      | else-at-s-via-then-at-s+else-s-at-eq45 w ↦ dash_other s (λ q. w.if-s-at-eq45.false (ap (λ (k : ℕ). get_or s k 0) f.count ∙ q))
+      | else-at-s-via-else-at-s w ↦ dash_none s (omega (arith, f.count, w.if-at-s.false))
+    ] in
     record { low = f.value; high = f.value ∙ sym (high_alone s none); bytes = f.count ∙ sym (bytes_alone s none) }
