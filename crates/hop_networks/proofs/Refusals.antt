@@ -7,7 +7,7 @@ use mathlib.Core.List.{List, [], ◌∷◌, ◌++◌}
 use Prim.Native.Nat.{ℕ, ◌^◌, ◌≤◌, ◌<◌}
 use lib.Dec.{leb, ltb}
 use borrow.Author.Tests.{eqb-true, leb-false, leb-true, ltb-false, ltb-true, not-false}
-use Rattle.std.specs.Prelude.{Result, Err, IsErrAnd}
+use Rattle.std.specs.Prelude.{Result, Ok, Err, IsErrAnd}
 use Rattle.std.proofs.lemmas.Result.{err_from_is_err_and}
 use Rattle.cube.specs.declared.refusals.Refusal.{Refusal}
 use Rattle.cube.specs.Cube.{flip}
@@ -18,7 +18,9 @@ use Rattle.cube.proofs.Bools.{and_true, either, or_false}
 use Rattle.cube.proofs.Refusal.{first_none, first_passes}
 use Rattle.cube.proofs.Tables.{dimension_is}
 use Rattle.jobs.specs.Jobs.{is_job, label_bytes}
-use Rattle.hop.specs.Helpers.{Asked}
+use Rattle.hop.specs.Helpers.{Asked, at_node, gathered, near_refusal}
+use Rattle.hop.specs.declared.Around.{Around}
+use Rattle.cube.proofs.Refused.{accepted}
 use Rattle.hop.specs.Hop.{job_tests, near_tests, node_tests}
 use Rattle.hop.specs.declared.Decision.{Decision}
 use Rattle.hop.proofs.Refusals.{refuses_first}
@@ -119,9 +121,18 @@ module _ (n N j c d w g m : ℕ) (lab : ℕ → ℕ) where
       past_list : hop_refusal_in n N j c d w g m lab ≡ first (near ++ sixteen)
       past_list = past_board ∙ list_passes n j c d m false (near ++ sixteen) listed
 
-      pub hop_unlabelled : {A : Type 0} (x : A) (r : Refusal) → answered (first near) x ≡ Err r → Err r ≡ hopped_in n N j c d w g m lab
+      hop_unlabelled : {A : Type 0} (x : A) (r : Refusal) → answered (first near) x ≡ Err r → Err r ≡ hopped_in n N j c d w g m lab
       unfolding hopped_in
       hop_unlabelled x r e = rw past_list (sym (refuses_first near sixteen x _ r e))
+
+      pub hop_unread : (r : Refusal) → at_node n c d lab ≡ Err r → Err r ≡ hopped_in n N j c d w g m lab
+      unfolding at_node near_refusal
+      hop_unread r e = hop_unlabelled _ r e
+
+      -- what was read at the node, where nothing is refused
+      pub hop_read : (a : Around) → at_node n c d lab ≡ Ok a → (first near ≡ 0) × (record { own = lab c; near = gathered n lab c } ≡ a)
+      unfolding at_node near_refusal
+      hop_read a e = accepted _ _ _ e
 
       pub hop_decided : first near ≡ 0 → decided_on n N c d (phase_of w g) (lab c) (λ i. lab (flip i c)) ≡ hopped_in n N j c d w g m lab
       unfolding hopped_in decided_on hop_in first

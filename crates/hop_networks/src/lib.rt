@@ -15,7 +15,7 @@ ghost use Rattle.jobs.specs.Jobs.{label_for};
 
 use cube::refusals::Refusal;
 use cube::{distance, is_dimension, nodes};
-use hop::{Decision, gather, last_hop, lowest, near_refusal};
+use hop::{Decision, at_node, gather, last_hop, lowest};
 use jobs::{half, is_job, label_bytes};
 
 // Whether a board may have so many networks.
@@ -265,17 +265,14 @@ pub fn hop_networks(
     )?;
     list_refusal(n, job, c, d, labels.len(), false)?;
     let table = half(n, job, labels);
-    let own = table[c];
-    let mut near = [0u8; 12];
-    let high = gather(n, table, c, &mut near);
-    near_refusal(c, d, own, high)?;
+    let around = at_node(n, c, d, table)?;
     let here = Here {
         n,
         c,
         d,
         phase: 2 * network + down,
-        own,
-        near: &near,
+        own: around.own,
+        near: &around.near,
     };
     here.decided(networks)
 }

@@ -3,26 +3,24 @@
 use mathlib.Core.Path.{◌≡◌, refl, sym, ap, ◌∙◌}
 use mathlib.Core.List.{List}
 use mathlib.Core.Bool.{false}
-use Prim.Native.Nat.{ℕ, ◌≤◌}
+use Prim.Native.Nat.{ℕ, ◌+◌, ◌*◌, ◌≤◌}
 use native.Mathlib.Omega.{arith}
-use lib.ListN.{length}
+use lib.ListN.{get_or, length}
 use Rattle.std.specs.Prelude.{Result}
 use Rattle.cube.specs.declared.refusals.Refusal.{Refusal}
 use Rattle.cube.proofs.Refused.{accepted}
-use Rattle.cube.specs.Cube.{flip}
-use Rattle.cube.specs.Refusal.{first}
 use Rattle.cube.specs.Tables.{label_in}
-use Rattle.hop.specs.Helpers.{Asked, Placed, near_refusal}
-use Rattle.hop.specs.Hop.{near_tests}
+use Rattle.hop.specs.Helpers.{Asked, Placed}
 use Rattle.hop.specs.declared.Decision.{Decision}
 use Rattle.hop.proofs.Gathered.{near_at}
 use Rattle.hop.proofs.Refusals.{half_placed}
-use Rattle.hop_networks.specs.Helpers.{board_refusal, list_refusal}
+use Rattle.hop.specs.declared.Around.{Around}
+use Rattle.hop_networks.specs.Helpers.{board_refusal, decided_on, list_refusal}
 use Rattle.hop_networks.specs.Hopping.{hopped_in, lacks}
 use Rattle.hop_networks.proofs.Deciding.{decided_same}
-use Rattle.hop_networks.proofs.Refusals.{Boarded, board_good, boarded, hop_decided, hop_unboarded, hop_unlabelled, hop_unlisted, list_good, passes_on}
+use Rattle.hop_networks.proofs.Refusals.{Boarded, board_good, boarded, hop_decided, hop_unboarded, hop_read, hop_unlisted, hop_unread, list_good, passes_on}
 use Rattle.hop_networks.proofs.hop_networks.Goals as goal
-use Rattle.hop_networks.proofs.hop_networks.Goals.{After-half-table, In_ok-board_refusal, In_ok-list_refusal, In_ok-near_refusal}
+use Rattle.hop_networks.proofs.hop_networks.Goals.{After-half-table, In_ok-board_refusal, In_ok-list_refusal}
 
 -- what the first two tests show
 unrefused : (c : In_ok-board_refusal) → let a = c.args in board_refusal a.n (lacks a.networks a.network a.down) ≡ 0
@@ -45,12 +43,6 @@ good c p = rw c.half-table.ensures.bytes (half_placed _ _ _ _ _ p)
 answers : (n N j c d w g m : ℕ) (t h : List ℕ) → t ≡ h → (r : Result Decision Refusal) → r ≡ hopped_in n N j c d w g m (label_in t) → r ≡ hopped_in n N j c d w g m (label_in h)
 answers n N j c d w g m t h same r e = e ∙ ap (λ (x : List ℕ). hopped_in n N j c d w g m (label_in x)) same
 
--- what the labels gathered refuse
-by-labels : (c : In_ok-near_refusal) → let a = c.args in let lab = label_in c.half-table.result.now in
-    first (near_tests a.n a.c a.d (lab a.c) (λ i. lab (flip i a.c))) ≡ 0
-unfolding label_in near_refusal
-by-labels c = (accepted _ _ _ (sym (rw c.gather-high.ensures.high at c.in_ok-near_refusal.ensures))).0
-
 pub returns-in_err-board_refusal : goal.returns-in_err-board_refusal
 unfolding lacks
 returns-in_err-board_refusal c =
@@ -66,22 +58,17 @@ returns-in_err-list_refusal c =
 pub half-table-requires : goal.half-table-requires
 half-table-requires c = (asked c (board (goal.at.half-table-requires c).In_ok-board_refusal).small).halved
 
-pub bounds-table-c : goal.bounds-table-c
-bounds-table-c c = let g = goal.at.bounds-table-c c in omega (arith, good g.After-half-table (asked g.In_ok-list_refusal (board g.In_ok-board_refusal).small))
+pub at_node-requires : goal.at_node-requires
+at_node-requires c =
+    let g = goal.at.at_node-requires c in
+    good g.After-half-table (asked g.In_ok-list_refusal (board g.In_ok-board_refusal).small)
 
-pub gather-high-requires : goal.gather-high-requires
-gather-high-requires c =
-    let g = goal.at.gather-high-requires c in
-    let p = good g.After-half-table (asked g.In_ok-list_refusal (board g.In_ok-board_refusal).small) in
-    (p.small, p.first, p.sized, refl)
-
-pub returns-in_err-near_refusal : goal.returns-in_err-near_refusal
-unfolding label_in near_refusal
-returns-in_err-near_refusal c =
-    let g = goal.at.returns-in_err-near_refusal c in
+pub returns-in_err-around : goal.returns-in_err-around
+returns-in_err-around c =
+    let g = goal.at.returns-in_err-around c in
     answers _ _ _ _ _ _ _ _ _ _ c.half-table.ensures.bytes _
-    (passes_on _ _ _ c.from_residual-in_err-near_refusal.ensures.1 (hop_unlabelled _ _ _ _ _ _ _ _ (label_in c.half-table.result.now) (unrefused g.In_ok-board_refusal) (unlisted g.In_ok-list_refusal) _ _
-    (sym (rw c.gather-high.ensures.high at c.in_err-near_refusal.ensures))))
+    (passes_on _ _ _ c.from_residual-in_err-around.ensures.1
+    (hop_unread _ _ _ _ _ _ _ _ _ (unrefused g.In_ok-board_refusal) (unlisted g.In_ok-list_refusal) _ (sym c.in_err-around.ensures)))
 
 pub overflow_mul-here : goal.overflow_mul-here
 overflow_mul-here c = let m = board (goal.at.overflow_mul-here c).In_ok-board_refusal in omega (arith, m.network, m.few)
@@ -99,11 +86,13 @@ pub decided-requires : goal.decided-requires
 decided-requires c = let m = board (goal.at.decided-requires c).In_ok-board_refusal in (m.few, omega (arith, m.network, m.few, m.direction))
 
 pub returns : goal.returns
-unfolding label_in
 returns c =
     let g = goal.at.returns c in
+    let a = c.args in
     let lab = label_in c.half-table.result.now in
+    let q = hop_read _ _ _ _ _ _ _ _ lab (unrefused g.In_ok-board_refusal) (unlisted g.In_ok-list_refusal) _ (sym c.in_ok-around.ensures) in
     answers _ _ _ _ _ _ _ _ _ _ c.half-table.ensures.bytes _
     (c.decided.ensures
-    ∙ decided_same _ _ _ _ _ _ _ _ (near_at _ lab _ _ (board g.In_ok-board_refusal).small c.gather-high.ensures.near)
-    ∙ hop_decided _ _ _ _ _ _ _ _ lab (unrefused g.In_ok-board_refusal) (unlisted g.In_ok-list_refusal) (by-labels g.In_ok-near_refusal))
+    ∙ ap (λ (b : Around). decided_on a.n a.networks a.c a.d (2 * a.network + a.down) b.own (λ i. get_or b.near i 0)) (sym q.1)
+    ∙ decided_same _ _ _ _ _ _ _ _ (near_at _ lab _ _ (board g.In_ok-board_refusal).small refl)
+    ∙ hop_decided _ _ _ _ _ _ _ _ lab (unrefused g.In_ok-board_refusal) (unlisted g.In_ok-list_refusal) q.0)
