@@ -55,7 +55,8 @@ fn refusal(n: usize, faults: &[u8], masks: &[u16], res: usize, row: usize) -> Re
     Ok(())
 }
 
-// Puts node k into the result, and one more than its namer w into the row, where it is not in the result yet.
+// Puts node k into the result, and one more than its namer w into the row, where it is not in the result yet. (C lends the two one by one, and so they go
+// from function to function: a struct of them would be no plainer, for each clause speaks of both, before and after.)
 fn put_named(k: usize, w: usize, res: &mut [u8], row: &mut [u16])
     requires { (k / 8 < length res.old) × ((k < length row.old) × (w < 4096)) }
     ensures table { res.new ≡ cond (node_bit res.old k) res.old (with_bit res.old k) }

@@ -1,7 +1,6 @@
--- `put_all` goes through the dimensions of a mask: its loop keeps `Heard`, of the dimensions so far. The measure is what is left of them.
-use Prim.Native.Nat.{◌≤◌}
+-- `put_all` goes through the dimensions of a mask: its loop keeps `Heard`, of the dimensions so far.
 use Rattle.repair.specs.Hearing.{Heard}
 use Rattle.repair.proofs.put_all.Given as goal
 
 abbrev pub invariant-loop-i : goal.invariant-loop-i
-invariant-loop-i l = (l.i ≤ l.n) × Heard l.i l.mask l.w l.initial.res l.initial.row l.res l.row
+invariant-loop-i l = Heard l.i l.mask l.w l.initial.res l.initial.row l.res l.row

@@ -1,4 +1,4 @@
--- `hear_all` hears the nodes in rising order: its loop keeps `Asking`. The measure is what is left of the nodes.
+-- `hear_all` hears the nodes in rising order: its loop keeps `Asking`.
 use Rattle.repair.proofs.Asking.{Asking}
 use Rattle.repair.proofs.Asked.hear_all.Given as goal
 
