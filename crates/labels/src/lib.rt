@@ -73,14 +73,10 @@ fn label_nodes(
     ensures labels { labels.new ≡ labels_of (cabinet n rule faults.now draining.now closed.now) }
 {
     start(n, faults, draining, closed, labels);
-    let mut exchanges: usize = 1;
-    loop {
-        let marked = sweep(n, rule, labels);
-        if marked == 0 {
-            break;
-        }
+    let mut exchanges = 1;
+    while sweep(n, rule, labels) != 0 {
         settle(labels);
-        exchanges = exchanges + 1;
+        exchanges += 1;
     }
     finish(n, faults, closed, labels);
     exchanges

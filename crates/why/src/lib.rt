@@ -157,12 +157,8 @@ fn label_watching(
 {
     start(n, faults, draining, closed, labels);
     let mut watched = None;
-    let mut round: usize = 1;
-    loop {
-        let marked = sweep(n, rule, labels);
-        if marked == 0 {
-            break;
-        }
+    let mut round = 1;
+    while sweep(n, rule, labels) != 0 {
         let node = Node {
             n,
             labels: &labels[..],
@@ -170,7 +166,7 @@ fn label_watching(
         };
         watched = watch(rule, node, round, watched);
         settle(labels);
-        round = round + 1;
+        round += 1;
     }
     finish(n, faults, closed, labels);
     let node = Node {

@@ -7,43 +7,43 @@ use Rattle.rule.proofs.Rounds.{working_few}
 use Rattle.passes.proofs.Standing.{stands_first, stands_kept}
 use Rattle.labels.proofs.Loop.{round_bound, round_done, end_exchanges, end_labels}
 use Rattle.labels.proofs.label_nodes.Goals as goal
-use Rattle.labels.proofs.label_nodes.Goals.{Else-marked-eq0}
+use Rattle.labels.proofs.label_nodes.Goals.{In-loop-labels}
 
-pub loop-marked-init : goal.loop-marked-init
-loop-marked-init c = record { over = 0; next = refl; stands = stands_first (cabinet _ _ _ _ _) _ c.start.ensures }
+pub loop-labels-init : goal.loop-labels-init
+loop-labels-init c = record { over = 0; next = refl; stands = stands_first (cabinet _ _ _ _ _) _ c.start.ensures }
 
-pub sweep-marked-requires-clause-kept : goal.sweep-marked-requires-clause-kept
-sweep-marked-requires-clause-kept c = stands_kept (cabinet _ _ _ _ _) _ _ c.loop-marked.invariant.stands
+pub sweep-requires-clause-kept : goal.sweep-requires-clause-kept
+sweep-requires-clause-kept c = stands_kept (cabinet _ _ _ _ _) _ _ c.loop-labels.invariant.stands
 
 -- a round that marked something is one of at most as many as there are working nodes, and these are few
-bound : (c : Else-marked-eq0)
+bound : (c : In-loop-labels)
     → let a = c.args in
     let few = working a.n (out (cabinet a.n a.rule a.faults.now a.draining.now a.closed.now)) in
-    (c.loop-marked.exchanges ≤ few) × (few ≤ 4096)
+    (c.loop-labels.exchanges ≤ few) × (few ≤ 4096)
 bound c =
-    let over = round_bound (cabinet _ _ _ _ _) _ _ c.loop-marked.invariant.stands _ _ c.sweep-marked.ensures.marked
-    c.sweep-marked.ensures.labels c.if-marked-eq0.false in
-    (omega (arith, c.loop-marked.invariant.next, over), working_few _ _ c.requires.sized.small)
+    let over = round_bound (cabinet _ _ _ _ _) _ _ c.loop-labels.invariant.stands _ _ c.sweep.ensures.marked
+    c.sweep.ensures.labels c.loop-labels-test.true in
+    (omega (arith, c.loop-labels.invariant.next, over), working_few _ _ c.requires.sized.small)
 
 pub overflow_add-exchanges : goal.overflow_add-exchanges
-overflow_add-exchanges c = omega (arith, bound (goal.at.overflow_add-exchanges c).Else-marked-eq0)
+overflow_add-exchanges c = omega (arith, bound (goal.at.overflow_add-exchanges c).In-loop-labels)
 
-pub loop-marked-smaller : goal.loop-marked-smaller
-loop-marked-smaller c = omega (arith, bound (goal.at.loop-marked-smaller c).Else-marked-eq0)
+pub loop-labels-smaller : goal.loop-labels-smaller
+loop-labels-smaller c = omega (arith, bound (goal.at.loop-labels-smaller c).In-loop-labels)
 
-pub loop-marked-preserved : goal.loop-marked-preserved
-loop-marked-preserved c =
-    let done = round_done (cabinet _ _ _ _ _) _ _ c.loop-marked.invariant.stands _ _ c.sweep-marked.ensures.marked
-    c.sweep-marked.ensures.labels c.if-marked-eq0.false _ c.settle.ensures in
-    record { over = _; next = ap (λ (z : ℕ). z + 1) c.loop-marked.invariant.next; stands = done }
+pub loop-labels-preserved : goal.loop-labels-preserved
+loop-labels-preserved c =
+    let done = round_done (cabinet _ _ _ _ _) _ _ c.loop-labels.invariant.stands _ _ c.sweep.ensures.marked
+    c.sweep.ensures.labels c.loop-labels-test.true _ c.settle.ensures in
+    record { over = _; next = ap (λ (z : ℕ). z + 1) c.loop-labels.invariant.next; stands = done }
 
 pub returns-clause-exchanges : goal.returns-clause-exchanges
 returns-clause-exchanges c =
-    c.loop-marked.invariant.next
-    ∙ sym (end_exchanges (cabinet _ _ _ _ _) _ _ c.loop-marked.invariant.stands _ _ c.sweep-marked.ensures.marked
-    c.sweep-marked.ensures.labels c.if-marked-eq0.true)
+    c.loop-labels.invariant.next
+    ∙ sym (end_exchanges (cabinet _ _ _ _ _) _ _ c.loop-labels.invariant.stands _ _ c.sweep.ensures.marked
+    c.sweep.ensures.labels c.loop-labels-test.false)
 
 pub returns-clause-labels : goal.returns-clause-labels
 returns-clause-labels c =
-    end_labels (cabinet _ _ _ _ _) _ _ c.loop-marked.invariant.stands _ _ c.sweep-marked.ensures.marked
-    c.sweep-marked.ensures.labels c.if-marked-eq0.true _ c.finish.ensures
+    end_labels (cabinet _ _ _ _ _) _ _ c.loop-labels.invariant.stands _ _ c.sweep.ensures.marked
+    c.sweep.ensures.labels c.loop-labels-test.false _ c.finish.ensures

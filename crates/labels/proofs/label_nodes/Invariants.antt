@@ -6,8 +6,8 @@ use Rattle.rule.specs.Rule.{working}
 use Rattle.labels.proofs.Loop.{Turn}
 use Rattle.labels.proofs.label_nodes.Given as goal
 
-abbrev pub invariant-loop-marked : goal.invariant-loop-marked
-invariant-loop-marked l = Turn (cabinet l.n l.rule l.faults l.draining l.closed) l.labels l.exchanges
+abbrev pub invariant-loop-labels : goal.invariant-loop-labels
+invariant-loop-labels l = Turn (cabinet l.n l.rule l.faults l.draining l.closed) l.labels l.exchanges
 
-abbrev pub decreases-loop-marked : goal.decreases-loop-marked
-decreases-loop-marked l = working l.n (out (cabinet l.n l.rule l.faults l.draining l.closed)) + 1 - l.exchanges
+abbrev pub decreases-loop-labels : goal.decreases-loop-labels
+decreases-loop-labels l = working l.n (out (cabinet l.n l.rule l.faults l.draining l.closed)) + 1 - l.exchanges

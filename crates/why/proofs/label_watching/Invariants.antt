@@ -6,8 +6,8 @@ use Rattle.rule.specs.Rule.{working}
 use Rattle.why.proofs.Watching.{Watch}
 use Rattle.why.proofs.label_watching.Given as goal
 
-abbrev pub invariant-loop-marked : goal.invariant-loop-marked
-invariant-loop-marked l = Watch (cabinet l.n l.rule l.faults l.draining l.closed) l.x l.labels l.watched l.round
+abbrev pub invariant-loop-labels : goal.invariant-loop-labels
+invariant-loop-labels l = Watch (cabinet l.n l.rule l.faults l.draining l.closed) l.x l.labels l.watched l.round
 
-abbrev pub decreases-loop-marked : goal.decreases-loop-marked
-decreases-loop-marked l = working l.n (out (cabinet l.n l.rule l.faults l.draining l.closed)) + 1 - l.round
+abbrev pub decreases-loop-labels : goal.decreases-loop-labels
+decreases-loop-labels l = working l.n (out (cabinet l.n l.rule l.faults l.draining l.closed)) + 1 - l.round
