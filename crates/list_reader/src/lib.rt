@@ -168,7 +168,7 @@ fn check(text: &[u8], size: usize) -> Result<(), Refusal>
         let Some(found) = first_entry(rest) else {
             return Err(Refusal::Text);
         };
-        far = far | (size <= found.high);
+        far |= size <= found.high;
         rest = &rest[found.bytes..];
     }
     if far {
