@@ -65,6 +65,7 @@ struct Table<'a> {
     ghost tallying: { Tallying n faults.now labels.now },
 }
 
+// (`Room` stays in the clauses: how many counters are lent, and what can be added to them, differs from call to call.)
 impl Table<'_> {
     // The kind of the walk from s to d.
     fn kind(&self, s: usize, d: usize) -> WalkKind
