@@ -35,6 +35,7 @@ pub struct Around {
 }
 
 // The refusals that need no label: of a job, two nodes, a label buffer of len bytes, and whether another lent buffer has a wrong length.
+#[tactic(auto, unfolding(crate::specs::Helpers::place_refusal, cube::specs::Refusal::first, cube::specs::Tables::is_dimension))]
 pub fn place_refusal(
     n: usize,
     job: usize,
@@ -89,7 +90,7 @@ pub fn gather(n: usize, labels: &[u8], c: usize, near: &mut [u8; 12]) -> bool
 }
 
 // The lowest dimension of a set whose neighbour's label is at most top. The bits of a number are the set's dimensions: its trailing zeros give the lowest of
-// them, and `rest & (rest - 1)` is the rest without it.
+// them, and `rest & (rest - 1)` is the rest without it. (`(0..n).find(..)` was tried: it asks each dimension, and takes a quarter longer.)
 pub fn lowest(n: usize, set: usize, near: &[u8; 12], top: u8) -> Option<usize>
     requires { (n ≤ 12) × (set < 2 ^ n) }
     ensures { result ≡ found n (least n (in_set set (λ i. get_or near.now i 0) top)) }
@@ -179,6 +180,7 @@ fn across(picked: Option<(usize, usize)>) -> Decision
 }
 
 // The refusals that the labels give of c and its neighbours: own is c's label, and high says that a neighbour's is above the highest.
+#[tactic(auto, unfolding(crate::specs::Helpers::near_refusal, cube::specs::Refusal::first))]
 pub fn near_refusal(c: usize, d: usize, own: u8, high: bool) -> Result<(), Refusal>
     ensures { result ≡ answered (near_refusal c d own high) tt }
 {

@@ -68,7 +68,8 @@ fn refused(refusal: Refusal) -> Walked
     }
 }
 
-// The walk from s: a message is moved until a decision is no hop. It is refused where it would go on after n + 4 hops.
+// The walk from s: a message is moved until a decision is no hop. It is refused where it would go on after n + 4 hops. (The loop has no counter of its own: the
+// travelling message counts its hops, as RULES, Walk, has it.)
 fn walk_or_refusal(n: usize, s: usize, d: usize, labels: &[u8]) -> Result<Walked, Refusal>
     requires { Placed n s d (length labels.now) }
     ensures { result ≡ walk_or_refusal n (label_in labels.now) d s }
