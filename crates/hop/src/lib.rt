@@ -35,7 +35,7 @@ pub struct Around {
 }
 
 // The refusals that need no label: of a job, two nodes, a label buffer of len bytes, and whether another lent buffer has a wrong length.
-#[tactic(auto, unfolding(crate::specs::Helpers::place_refusal, cube::specs::Refusal::first, cube::specs::Tables::is_dimension))]
+#[tactic(auto, unfolding(crate::specs::Helpers::place_refusal, cube::specs::Refusal::first, cube::specs::Tables::is_dimension, jobs::specs::Jobs::is_job))]
 pub fn place_refusal(
     n: usize,
     job: usize,
