@@ -40,6 +40,8 @@ all_tied =
       passes_start = record { clauses = λ w. refl; asked = refl; post = refl };
       passes_sweep = record { clauses = λ w. refl; asked = refl; post = refl };
       passes_settle = record { clauses = λ w. refl; asked = refl; post = refl };
+      passes_label = record { clauses = λ w. refl; asked = refl; post = refl };
+      passes_near = record { clauses = λ w. refl; asked = refl; post = refl };
       passes_finish = record { clauses = λ w. refl; asked = refl; post = refl };
       hop_hop = record { clauses = λ w. refl; asked = refl; post = refl };
       hop_place_refusal = record { clauses = λ w. refl; asked = refl; post = refl };
@@ -48,6 +50,7 @@ all_tied =
       hop_last_hop = record { clauses = λ w. refl; asked = refl; post = refl };
       walk_table_refusal = record { clauses = λ w. refl; asked = refl; post = refl };
       hop_gather = record { clauses = λ w. refl; asked = refl; post = refl };
+      hop_at_node = record { clauses = λ w. refl; asked = refl; post = refl };
       hop_chosen = record { clauses = λ w. refl; asked = refl; post = refl };
       hop_hop_at = record { clauses = λ w. refl; asked = refl; post = refl };
       walk_walk = record { clauses = λ w. refl; asked = refl; post = refl };

@@ -37,6 +37,7 @@ pub record Settled : Type 0 where
   pub labels_label : Settles labels.label
   pub labels_label_refusal : Settles labels.label-refusal
   pub passes_settle : Settles passes.settle
+  pub passes_label : Settles passes.label
   pub hop_hop : Settles hop.hop
   pub hop_place_refusal : Settles hop.place-refusal
   pub hop_near_refusal : Settles hop.near-refusal
@@ -72,8 +73,10 @@ pub record Settled : Type 0 where
   pub passes_start : Settles passes.start
   pub passes_sweep : Settles passes.sweep
   pub passes_finish : Settles passes.finish
+  pub passes_near : Settles passes.near
   pub hop_hop_at : Settles hop.hop-at
   pub hop_gather : Settles hop.gather
+  pub hop_at_node : Settles hop.at-node
   pub hop_chosen : Settles hop.chosen
   pub hop_lowest : Settles hop.lowest
   pub hop_last_hop : Settles hop.last-hop
@@ -91,7 +94,7 @@ pub record Settled : Type 0 where
   -- the half of a job: its bytes, and its place in the caller's memory
   pub jobs_half : Settles jobs.half
 
--- all but those last twenty
+-- all but those last twenty-two
 pub record Unasked : Type 2 where
   pub hcube-label : AsksNothing hcube.label
   pub hcube-hop : AsksNothing hcube.hop
@@ -109,6 +112,7 @@ pub record Unasked : Type 2 where
   pub labels_label : AsksNothing labels.label
   pub labels_label_refusal : AsksNothing labels.label-refusal
   pub passes_settle : AsksNothing passes.settle
+  pub passes_label : AsksNothing passes.label
   pub hop_hop : AsksNothing hop.hop
   pub hop_place_refusal : AsksNothing hop.place-refusal
   pub hop_near_refusal : AsksNothing hop.near-refusal

@@ -53,6 +53,10 @@ use Rattle.jobs.proofs.is_job.Reads as jobs_is_job-reads
 use Rattle.jobs.specs.contracts.label_bytes as jobs_label_bytes
 use Rattle.jobs.proofs.label_bytes.Reads as jobs_label_bytes-reads
 use Rattle.passes.proofs.Functions as passes
+use Rattle.passes.specs.contracts.Node.label as passes_label
+use Rattle.passes.proofs.Node.label.Reads as passes_label-reads
+use Rattle.passes.specs.contracts.Node.near as passes_near
+use Rattle.passes.proofs.Node.near.Reads as passes_near-reads
 use Rattle.passes.specs.contracts.finish as passes_finish
 use Rattle.passes.proofs.finish.Reads as passes_finish-reads
 use Rattle.passes.specs.contracts.settle as passes_settle
@@ -67,6 +71,8 @@ use Rattle.labels.proofs.label.Reads as labels_label-reads
 use Rattle.labels.specs.contracts.label_refusal as labels_label_refusal
 use Rattle.labels.proofs.label_refusal.Reads as labels_label_refusal-reads
 use Rattle.hop.proofs.Functions as hop
+use Rattle.hop.specs.contracts.at_node as hop_at_node
+use Rattle.hop.proofs.at_node.Reads as hop_at_node-reads
 use Rattle.hop.specs.contracts.chosen as hop_chosen
 use Rattle.hop.proofs.chosen.Reads as hop_chosen-reads
 use Rattle.hop.specs.contracts.gather as hop_gather
@@ -192,6 +198,12 @@ pub record AllTied : Type 2 where
   pub passes_settle :
       Tied passes.settle (λ w. passes_settle.clauses w.𝓛 w.𝓜.mem w.𝓡.returns)
       passes_settle-reads.Asked passes_settle-reads.Post
+  pub passes_label :
+      Tied passes.label (λ w. passes_label.clauses w.𝓛 w.𝓜.mem w.𝓡.returns)
+      passes_label-reads.Asked passes_label-reads.Post
+  pub passes_near :
+      Tied passes.near (λ w. passes_near.clauses w.𝓛 w.𝓜.mem w.𝓡.returns)
+      passes_near-reads.Asked passes_near-reads.Post
   pub passes_finish :
       Tied passes.finish (λ w. passes_finish.clauses w.𝓛 w.𝓜.mem w.𝓡.returns)
       passes_finish-reads.Asked passes_finish-reads.Post
@@ -202,6 +214,9 @@ pub record AllTied : Type 2 where
   pub hop_gather :
       Tied hop.gather (λ w. hop_gather.clauses w.𝓛 w.𝓜.mem w.𝓡.returns)
       hop_gather-reads.Asked hop_gather-reads.Post
+  pub hop_at_node :
+      Tied hop.at-node (λ w. hop_at_node.clauses w.𝓛 w.𝓜.mem w.𝓡.returns)
+      hop_at_node-reads.Asked hop_at_node-reads.Post
   pub hop_chosen :
       Tied hop.chosen (λ w. hop_chosen.clauses w.𝓛 w.𝓜.mem w.𝓡.returns)
       hop_chosen-reads.Asked hop_chosen-reads.Post
