@@ -5,7 +5,7 @@
 ghost use Rattle.std.specs.Prelude.{[], length, ◌++◌, ◌≡◌, ◌≤◌, ◌+◌, ℕ, map, take};
 ghost use Rattle.cube.specs.Refused.{number};
 ghost use Rattle.cube.specs.Tables.{label_count};
-ghost use Rattle.lines.specs.Lines.{cube_line, end_text, figures_line, pair_line, progress_line, put, row_text, size_line, too_long};
+ghost use Rattle.lines.specs.Lines.{cube_line, end_text, figures_line, pair_line, progress_line, put, room, row_text, size_line, too_long};
 ghost use Rattle.lines.specs.Text.{decimal, field, text};
 
 use cube::count_of;
@@ -82,7 +82,8 @@ impl Line {
     }
 
     pub fn as_bytes(&self) -> &[u8]
-        ensures { result.now ≡ self.now }
+        ensures bytes { result.now ≡ self.now }
+        ensures near { length result.now ≤ room }
     {
         &self.bytes[..self.len]
     }
