@@ -6,7 +6,9 @@ use Prim.Native.Nat.{ℕ, zero, suc, ◌≤◌, ◌<◌}
 use native.Mathlib.Omega.{arith}
 use lib.Dec.{eqb}
 use borrow.Author.Tests.{eqb-true, not-false}
-use Rattle.std.specs.Prelude.{Ok, Err}
+use Rattle.std.specs.Prelude.{Result, Ok, Err}
+use Rattle.std.specs.Result.{IsErr, IsErrAnd}
+use Rattle.std.proofs.lemmas.Result.{err_from_is_err_and}
 use Rattle.cube.specs.declared.refusals.Refusal.{Refusal}
 use Rattle.cube.specs.declared.refusals.Refusal.TheVariants.{
   Dimension,
@@ -59,6 +61,28 @@ number_range Mask = (omega arith, omega arith)
 number_range Rule = (omega arith, omega arith)
 number_range Job = (omega arith, omega arith)
 
+-- every refusal is that with its number
+pub refusal_back : (r : Refusal) → refusal (number r) ≡ r
+refusal_back Dimension = refl
+refusal_back Length = refl
+refusal_back Unused = refl
+refusal_back Label = refl
+refusal_back Node = refl
+refusal_back Source = refl
+refusal_back Destination = refl
+refusal_back Hops = refl
+refusal_back Cut = refl
+refusal_back Group = refl
+refusal_back Count = refl
+refusal_back Address = refl
+refusal_back Room = refl
+refusal_back Text = refl
+refusal_back Board = refl
+refusal_back Network = refl
+refusal_back Mask = refl
+refusal_back Rule = refl
+refusal_back Job = refl
+
 pub refused_is : {A : Type 0} (k : ℕ) (x : A) → k ≤ 19 → refused (answered k x) ≡ k
 refused_is zero x h = refl
 refused_is (suc k) x h = numbered k (omega arith)
@@ -82,3 +106,7 @@ refuses k x r h e = sym (refused_is k x h) ∙ ap refused e
 pub refusing : {A : Type 0} (k : ℕ) (x : A) (r : Refusal) → answered k x ≡ Err r → k ≡ 0 → ⊥
 refusing zero x r e h = let z : 0 ≡ number r = ap refused e in absurd (omega (arith, (number_range r).0))
 refusing (suc k) x r e h = absurd (omega arith)
+
+-- what `?` passes on
+pub passes : {T E : Type 0} {e : E} (r : Result T E) → IsErr r × IsErrAnd r (λ y. y ≡ e) → r ≡ Err e
+passes r h = let p = err_from_is_err_and r h.1 in p.1 ∙ ap Err p.2
