@@ -8,9 +8,7 @@ use Prim.Native.Nat.{ℕ, ◌^◌, ◌≤◌}
 use lib.Dec.{eqb}
 use lib.ListN.{length, replicate}
 use borrow.Author.Tests.{eq-eqb, eqb-true, le-leb, ne_eqb, not-false}
-use Rattle.std.specs.Prelude.{Result, Ok, Err}
-use Rattle.std.specs.Result.{IsErr, IsErrAnd}
-use Rattle.std.proofs.lemmas.Result.{err_from_is_err_and}
+use Rattle.std.specs.Prelude.{Ok, Err}
 use Rattle.cube.specs.declared.refusals.Refusal.{Refusal}
 use Rattle.cube.specs.declared.refusals.Refusal.TheVariants.{Dimension, Length}
 use Rattle.cube.specs.Refusal.{first, ◌⇒◌}
@@ -23,10 +21,6 @@ use Rattle.list_reader.specs.Front.{with_parts}
 use Rattle.list_reader.specs.Reading.{list_refusal, list_table, text_tests}
 use Rattle.ranges.specs.Grammar.{is_list, named_table, parts_of, reaches}
 use Rattle.list_reader.proofs.Tables.{parts_table}
-
--- an answer that `?` passes on
-pub passes : {A : Type 0} {x : Refusal} (r : Result A Refusal) → IsErr r × IsErrAnd r (λ y. y ≡ x) → r ≡ Err x
-passes r p = let q = err_from_is_err_and r p.1 in q.1 ∙ ap Err q.2
 
 -- a text that no test stops keeps the rules and stays within the cube
 pub text_good : (size : ℕ) (text : List ℕ) → first (text_tests size text) ≡ 0 → (is_list text ≡ true) × (reaches size text ≡ false)

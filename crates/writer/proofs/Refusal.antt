@@ -2,7 +2,7 @@
 use mathlib.Core.Bool.{cond}
 use mathlib.Core.List.{List, [], ◌∷◌}
 use mathlib.Core.Logic.{◌≢◌}
-use mathlib.Core.Path.{◌≡◌, refl, sym, ap, ◌∙◌}
+use mathlib.Core.Path.{◌≡◌, refl, sym, ◌∙◌}
 use Prim.Native.Nat.{ℕ, zero, suc, ◌≤◌, ◌<◌}
 use lib.Dec.{ltb}
 use lib.ListN.{length}
@@ -17,13 +17,7 @@ use Rattle.cube.proofs.Refused.{accepted, accepts, passed_on, refusing}
 use Rattle.cube.proofs.Tables.{dimension_is}
 use Rattle.spelling.specs.Laws.{IsTable}
 use Rattle.writer.specs.Writing.{after_bytes, fault_tests, room_refusal, wrote_bytes}
-use Rattle.std.specs.Prelude.{Result, Ok, Err}
-use Rattle.std.specs.Result.{IsErr, IsErrAnd}
-use Rattle.std.proofs.lemmas.Result.{err_from_is_err_and}
-
--- an answer that `?` passes on
-pub passes : {A : Type 0} {x : Refusal} (r : Result A Refusal) → IsErr r × IsErrAnd r (λ y. y ≡ x) → r ≡ Err x
-passes r p = let q = err_from_is_err_and r p.1 in q.1 ∙ ap Err q.2
+use Rattle.std.specs.Prelude.{Ok, Err}
 
 -- ---- a table that is not refused
 

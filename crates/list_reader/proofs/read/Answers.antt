@@ -8,12 +8,12 @@ use Rattle.std.specs.Prelude.{Err}
 use Rattle.cube.specs.Refusal.{first}
 use Rattle.cube.specs.Refused.{answered}
 use Rattle.cube.specs.Tables.{is_dimension, table_len}
-use Rattle.cube.proofs.Refused.{accepted}
+use Rattle.cube.proofs.Refused.{accepted, passes}
 use Rattle.cube.proofs.Tables.{dimension_is, nodes_few, table_few, table_room}
 use Rattle.spelling.specs.Laws.{Bytes}
 use Rattle.spelling.proofs.Tables.{bytes_zeros}
 use Rattle.list_reader.specs.Reading.{text_tests}
-use Rattle.list_reader.proofs.Outcomes.{passes, right_text, text_good, wrong_dimension, wrong_length, wrong_text}
+use Rattle.list_reader.proofs.Outcomes.{right_text, text_good, wrong_dimension, wrong_length, wrong_text}
 use Rattle.list_reader.proofs.Tables.{reaches_wider}
 use Rattle.list_reader.proofs.read.Goals as goal
 use Rattle.list_reader.proofs.read.Goals.{Else-faults-table_len, Else-not-is_dimension, In_err-check, In_ok-check}

@@ -5,6 +5,7 @@ use Prim.Native.Nat.{ℕ, ◌^◌, ◌*◌, ◌≤◌}
 use native.Mathlib.Omega.{arith}
 use lib.ListN.{length}
 use Rattle.cube.specs.Over.{over}
+use Rattle.cube.proofs.Refused.{passes}
 use Rattle.cube.specs.Tables.{node_bit}
 use Rattle.ranges.specs.Written.{list_text, text_of}
 use Rattle.spelling.specs.Laws.{IsTable}
@@ -15,7 +16,7 @@ use Rattle.cube.proofs.Over.{over_front}
 use Rattle.ranges.proofs.Laws.{ranges_laws}
 use Rattle.writer.specs.Writing.{after_bytes}
 use Rattle.writer.proofs.Parts.{nodes_fit}
-use Rattle.writer.proofs.Refusal.{buffer_kept, buffer_passed, buffer_written, has_room, no_room, passes, table_accepted, wrote_length, wrote_passed, wrote_refused}
+use Rattle.writer.proofs.Refusal.{buffer_kept, buffer_passed, buffer_written, has_room, no_room, table_accepted, wrote_length, wrote_passed, wrote_refused}
 use Rattle.list_writer.proofs.write.Goals as goal
 use Rattle.list_writer.proofs.write.Goals.{After-put_list, After-nodes-size, Else-out-length, In_ok-table_refusal}
 

@@ -6,13 +6,14 @@ use lib.ListN.{length}
 use Rattle.cube.specs.Tables.{node_bit}
 use Rattle.std.proofs.Common.{rules}
 use Rattle.cube.specs.Over.{over}
+use Rattle.cube.proofs.Refused.{passes}
 use Rattle.writer.specs.Writing.{after_bytes}
 use Rattle.spelling.specs.Laws.{IsTable}
 use Rattle.spelling.specs.Spelled.{notice_bytes}
 use Rattle.std.specs.Prelude.{Ok}
 use Rattle.writer.proofs.Passes.{few_groups}
 use Rattle.writer.proofs.Parts.{Sized, addresses_few, all_written, count_few, counted, few_bytes, first_room, nodes_fit, second_room, sized_by, third_room}
-use Rattle.writer.proofs.Refusal.{buffer_kept, buffer_passed, buffer_written, has_room, no_room, passes, table_accepted, wrote_length, wrote_passed, wrote_refused}
+use Rattle.writer.proofs.Refusal.{buffer_kept, buffer_passed, buffer_written, has_room, no_room, table_accepted, wrote_length, wrote_passed, wrote_refused}
 use Rattle.writer.proofs.write.Goals as goal
 use Rattle.writer.proofs.write.Goals.{After-nodes-size, After-put_addresses-count, After-put_number-2, Else-out-length, In_ok-table_refusal}
 
