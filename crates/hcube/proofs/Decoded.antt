@@ -47,7 +47,8 @@ use Rattle.hcube.specs.Decoded.{
 use Rattle.hcube.proofs.DecodedNotices.{dimension_decoded, list_decoded, list_refused, notice_decoded, repair_refused, written_decoded}
 use Rattle.hcube.proofs.DecodedHops.{channels_decoded, hop_decoded, hop_networks_decoded, walk_networks_decoded}
 use Rattle.hcube.proofs.DecodedReasons.{hop_reason_decoded, node_reason_decoded}
-use Rattle.hcube.proofs.Parts.{accepted, cut, few, kind_is, refusal_back, refusal_is, refuses, some, value_is}
+use Rattle.cube.proofs.Refused.{refusal_back}
+use Rattle.hcube.proofs.Parts.{accepted, cut, few, kind_is, refusal_is, refuses, some, value_is}
 use Rattle.hcube.proofs.Small.{LabelFits, has-row, label_small, walk_small, written}
 
 -- ---- labelling

@@ -25,7 +25,8 @@ use Rattle.repair.specs.Repairing.{repair_refusal}
 use Rattle.repair.proofs.Outcomes as repairing
 use Rattle.hcube.specs.Answers.{dimension_number, done_number, notice_number, packed, packed_notice, written_number}
 use Rattle.hcube.specs.Decoded.{noticed_from, refusal_part, value_part, wrote_from}
-use Rattle.hcube.proofs.Parts.{above, accepted, count_is, dimension_is, few, refusal_back, refusal_is, refuses, some, value_is}
+use Rattle.cube.proofs.Refused.{refusal_back}
+use Rattle.hcube.proofs.Parts.{above, accepted, count_is, dimension_is, few, refusal_is, refuses, some, value_is}
 use Rattle.hcube.proofs.Small.{LabelFits, dimension_small}
 
 pub dimension_decoded : (bytes : List ℕ)

@@ -1,34 +1,13 @@
 -- The parts of a packed number: where they are small they come out as they were put in, and what stands above the low 32 bits is in none of the three that
 -- every answer has.
 use mathlib.Core.Logic.{◌≢◌}
-use mathlib.Core.Path.{◌≡◌, refl, sym, ap, ◌∙◌}
+use mathlib.Core.Path.{◌≡◌, sym, ap, ◌∙◌}
 use Prim.Native.Nat.{ℕ, zero, suc, ◌+◌, ◌*◌, ◌/◌, ◌%◌, ◌≤◌, ◌<◌}
 use native.Mathlib.Omega.{arith}
 use Rattle.std.specs.Prelude.{Ok, Err}
 use Rattle.cube.specs.Refused.{answered, number, refusal}
 use Rattle.cube.specs.declared.refusals.Refusal.{Refusal}
-use Rattle.cube.specs.declared.refusals.Refusal.TheVariants.{
-  Dimension,
-  Length,
-  Unused,
-  Label,
-  Node,
-  Source,
-  Destination,
-  Hops,
-  Cut,
-  Group,
-  Count,
-  Address,
-  Room,
-  Text,
-  Board,
-  Network,
-  Mask,
-  Rule,
-  Job,
-}
-use Rattle.cube.proofs.Refused.{number_range}
+use Rattle.cube.proofs.Refused.{number_range, refusal_back}
 use Rattle.hcube.specs.Answers.{packed, packed_notice, packed_reason}
 use Rattle.hcube.specs.Decoded.{
   Shows,
@@ -58,27 +37,6 @@ few r = omega (arith, (number_range r).1)
 
 pub some : (r : Refusal) → number r ≢ 0
 some r z = omega (arith, (number_range r).0)
-
-pub refusal_back : (r : Refusal) → refusal (number r) ≡ r
-refusal_back Dimension = refl
-refusal_back Length = refl
-refusal_back Unused = refl
-refusal_back Label = refl
-refusal_back Node = refl
-refusal_back Source = refl
-refusal_back Destination = refl
-refusal_back Hops = refl
-refusal_back Cut = refl
-refusal_back Group = refl
-refusal_back Count = refl
-refusal_back Address = refl
-refusal_back Room = refl
-refusal_back Text = refl
-refusal_back Board = refl
-refusal_back Network = refl
-refusal_back Mask = refl
-refusal_back Rule = refl
-refusal_back Job = refl
 
 -- the answer by a packed number: accepted, and refused
 pub accepted : {A : Type 0} (k : ℕ) {x y : A} → k ≡ 0 → x ≡ y → answered k x ≡ Ok y

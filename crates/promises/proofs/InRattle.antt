@@ -19,7 +19,7 @@ use Rattle.reader.specs.declared.Step.{Step}
 use Rattle.reader.proofs.Functions as reader
 use Rattle.reader.proofs.Laws.{reader_laws}
 use Rattle.cube.specs.Refused.{refusal}
-use Rattle.hcube.proofs.Parts.{refusal_back}
+use Rattle.cube.proofs.Refused.{refusal_back}
 use Rattle.promises.specs.InRattle.{InRattle}
 use Rattle.promises.specs.Refusals.{NumberGiven}
 use Rattle.promises.proofs.Refusals.{refusals}
