@@ -3,9 +3,8 @@
 // the half of one. The refusals are lent to the crate why.
 #![tactic(auto)]
 
-ghost use Rattle.std.specs.Prelude.{◌≤◌, length, ◌≡◌};
+ghost use Rattle.std.specs.Prelude.{length, ◌≡◌};
 ghost use Rattle.cube.specs.Refused.{answered};
-ghost use Rattle.cube.specs.Tables.{table_len};
 ghost use Rattle.labels.specs.Labelling.{label_refusal, labelled, labels_after};
 ghost use Rattle.passes.specs.Passes.{Sized};
 ghost use Rattle.rule.specs.Cabinet.{cabinet, exchanges_of, is_rule, labels_of};
@@ -13,7 +12,7 @@ ghost use Rattle.rule.specs.Cabinet.{cabinet, exchanges_of, is_rule, labels_of};
 use cube::refusals::Refusal;
 use cube::{is_dimension, nodes, table_len, unused_set};
 use jobs::{is_job, label_bytes};
-use passes::{finish, settle, start, sweep};
+use passes::{Faulty, Rule, Tables, settle, sweep};
 
 // Whether k is the number of a rule: so many neighbours that do not work or are marked make a node unsafe. 2 is the rule of Lee and Hayes, 3 that of
 // Chiu and Wu.
@@ -56,29 +55,25 @@ pub fn label_refusal(
 
 // Labels every node of an accepted cabinet in the half of its job, and answers the number of exchanges: each sweep is one, and the last is the first that
 // marks nothing new.
-fn label_nodes(
-    n: usize,
-    rule: usize,
-    faults: &[u8],
-    draining: &[u8],
-    closed: &[u8],
-    labels: &mut [u8],
-) -> usize
-    requires le_rule { (2 ≤ rule) × (rule ≤ 3) }
-    requires faults_len { length faults.now ≡ table_len n }
-    requires draining_len { length draining.now ≡ table_len n }
-    requires closed_len { length closed.now ≡ table_len n }
-    requires sized { Sized n labels.old }
-    ensures exchanges { result ≡ exchanges_of (cabinet n rule faults.now draining.now closed.now) }
-    ensures labels { labels.new ≡ labels_of (cabinet n rule faults.now draining.now closed.now) }
+fn label_nodes(rule: Rule, tables: Tables, labels: &mut [u8]) -> usize
+    requires { Sized tables.n labels.old }
+    ensures exchanges { let t = tables.entry in result ≡ exchanges_of (cabinet t.n rule.number t.faults.now t.draining.now t.closed.now) }
+    ensures labels { let t = tables.entry in labels.new ≡ labels_of (cabinet t.n rule.number t.faults.now t.draining.now t.closed.now) }
 {
-    start(n, faults, draining, closed, labels);
+    let Tables {
+        n,
+        faults,
+        closed,
+        ..
+    } = tables;
+    tables.start(labels);
     let mut exchanges = 1;
     while sweep(n, rule, labels) != 0 {
         settle(labels);
         exchanges += 1;
     }
-    finish(n, faults, closed, labels);
+    let faulty = Faulty { n, faults, closed };
+    faulty.finish(labels);
     exchanges
 }
 
@@ -100,6 +95,13 @@ pub fn label(
     let size = nodes(n);
     let from = job * size;
     let to = from + size;
-    let exchanges = label_nodes(n, rule, faults, draining, closed, &mut labels[from..to]);
+    let rule = Rule { number: rule };
+    let tables = Tables {
+        n,
+        faults,
+        draining,
+        closed,
+    };
+    let exchanges = label_nodes(rule, tables, &mut labels[from..to]);
     Ok(exchanges)
 }

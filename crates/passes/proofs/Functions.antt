@@ -12,16 +12,16 @@ use Rattle.cube.specs.Cube.{flip}
 use Rattle.cube.specs.Tables.{label_in, node_bit, tab}
 use Rattle.cube.proofs.Contracts.{Says}
 use Rattle.passes.specs.Passes.{finished, fresh, settled, started, swept}
-use Rattle.passes.specs.contracts.finish as finish-claims
-use Rattle.passes.proofs.finish.Reads as finish-claims-reads
+use Rattle.passes.specs.contracts.Faulty.finish as finish-claims
+use Rattle.passes.proofs.Faulty.finish.Reads as finish-claims-reads
 use Rattle.passes.specs.contracts.Node.label as label-claims
 use Rattle.passes.proofs.Node.label.Reads as label-claims-reads
 use Rattle.passes.specs.contracts.Node.near as near-claims
 use Rattle.passes.proofs.Node.near.Reads as near-claims-reads
 use Rattle.passes.specs.contracts.settle as settle-claims
 use Rattle.passes.proofs.settle.Reads as settle-claims-reads
-use Rattle.passes.specs.contracts.start as start-claims
-use Rattle.passes.proofs.start.Reads as start-claims-reads
+use Rattle.passes.specs.contracts.Tables.start as start-claims
+use Rattle.passes.proofs.Tables.start.Reads as start-claims-reads
 use Rattle.passes.specs.contracts.sweep as sweep-claims
 use Rattle.passes.proofs.sweep.Reads as sweep-claims-reads
 
@@ -31,9 +31,9 @@ start =
       clauses = λ w. start-claims.clauses w.𝓛 w.𝓜.mem w.𝓡.returns;
       asked = start-claims-reads.Asked;
       post = start-claims-reads.Post;
-      handed = λ κs a. (a.0, a.1.0.now, a.1.1.0.now, a.1.1.1.0.now, a.1.1.1.1.0.now);
+      handed = λ κs a. (a.0.n, a.0.faults.now, a.0.draining.now, a.0.closed.now, a.1.0.now);
       answered = λ κs r. tt;
-      left = λ κs e. e.1.1.1.1.0.now;
+      left = λ κs e. e.1.0.now;
     }
 
 pub start_says : Says start (λ i. tt)
@@ -46,7 +46,7 @@ sweep =
       clauses = λ w. sweep-claims.clauses w.𝓛 w.𝓜.mem w.𝓡.returns;
       asked = sweep-claims-reads.Asked;
       post = sweep-claims-reads.Post;
-      handed = λ κs a. (a.0, a.1.0, a.1.1.0.now);
+      handed = λ κs a. (a.0, a.1.0.number, a.1.1.0.now);
       answered = λ κs r. r;
       left = λ κs e. e.1.1.0.now;
     }
@@ -77,9 +77,9 @@ finish =
       clauses = λ w. finish-claims.clauses w.𝓛 w.𝓜.mem w.𝓡.returns;
       asked = finish-claims-reads.Asked;
       post = finish-claims-reads.Post;
-      handed = λ κs a. (a.0, a.1.0.now, a.1.1.0.now, a.1.1.1.0.now);
+      handed = λ κs a. (a.0.n, a.0.faults.now, a.0.closed.now, a.1.0.now);
       answered = λ κs r. tt;
-      left = λ κs e. e.1.1.1.0.now;
+      left = λ κs e. e.1.0.now;
     }
 
 pub finish_says : Says finish (λ i. tt)

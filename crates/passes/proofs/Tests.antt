@@ -23,7 +23,7 @@ meets-rule =
       clauses = λ w. meets_rule.clauses w.𝓛 w.𝓜.mem w.𝓡.returns;
       asked = meets_rule-reads.Asked;
       post = meets_rule-reads.Post;
-      handed = λ κs a. (a.0.n, a.1.0, a.0.labels.now, a.0.x);
+      handed = λ κs a. (a.0.n, a.1.0.number, a.0.labels.now, a.0.x);
       answered = λ κs r. (r.holds, r.looked);
       left = λ κs e. tt;
     }

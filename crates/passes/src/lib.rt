@@ -34,6 +34,13 @@ struct Tested {
     looked: usize,
 }
 
+// A rule, by its number: so many neighbours that do not work or are marked make a node unsafe.
+#[derive(Clone, Copy)]
+pub struct Rule {
+    pub number: usize,
+    ghost is_rule: { (2 ≤ number) × (number ≤ 3) },
+}
+
 // A node of an n-cube, by the cube's label table.
 #[derive(Clone, Copy)]
 pub struct Node<'a> {
@@ -63,14 +70,13 @@ impl<'a> Node<'a> {
     // Whether it meets the rule with the marks of the earlier rounds. The test reads its neighbours' labels one by one, lowest dimension first, and stops where
     // those that it has read settle it. With rule 2 or 3 they do exactly where they weigh twice the rule: two that do not work weigh 6, and of bad ones, as
     // many as the rule names, each weighs 2 at least. The weight begins with 64 less that, so that the bit of 64 tells. Nearly all of labelling's time is spent
-    // here. The bit is doubled by hand: with `near(i)`, which shifts, labelling took 1.13 to 1.33 times as long.
-    fn meets_rule(self, rule: usize) -> Tested
-        requires le_rule { (2 ≤ rule) × (rule ≤ 3) }
-        requires kept { Kept self.labels.now }
-        ensures holds { result.holds ≡ meets self.entry.n rule (out_in self.entry.labels.now) (mark_in self.entry.labels.now) self.entry.x }
-        ensures looked { result.looked ≡ looks self.entry.n rule (out_in self.entry.labels.now) (mark_in self.entry.labels.now) self.entry.x }
+    // here. The bit is doubled by hand: with `near(i)`, which shifts, labelling took 1.1 to 1.35 times as long.
+    fn meets_rule(self, rule: Rule) -> Tested
+        requires { Kept self.labels.now }
+        ensures holds { result.holds ≡ meets self.entry.n rule.number (out_in self.entry.labels.now) (mark_in self.entry.labels.now) self.entry.x }
+        ensures looked { result.looked ≡ looks self.entry.n rule.number (out_in self.entry.labels.now) (mark_in self.entry.labels.now) self.entry.x }
     {
-        let mut weight: usize = 64 - 2 * rule;
+        let mut weight: usize = 64 - 2 * rule.number;
         let mut bit: usize = 1;
         for i in 0..self.n {
             let byte = self.labels[self.x ^ bit];
@@ -90,10 +96,9 @@ impl<'a> Node<'a> {
     }
 
     // Whether this round marks it.
-    fn is_fresh(self, rule: usize) -> bool
-        requires le_rule { (2 ≤ rule) × (rule ≤ 3) }
-        requires kept { Kept self.labels.now }
-        ensures { result ≡ fresh self.entry.n rule self.entry.labels.now self.entry.x }
+    fn is_fresh(self, rule: Rule) -> bool
+        requires { Kept self.labels.now }
+        ensures { result ≡ fresh self.entry.n rule.number self.entry.labels.now self.entry.x }
     {
         self.label() == PLAIN && self.meets_rule(rule).holds
     }
@@ -127,49 +132,116 @@ impl<'a> Node<'a> {
     }
 }
 
-// Whether node k is faulty for the job: faulty, or closed by it.
-fn is_faulty(faults: &[u8], closed: &[u8], k: usize) -> bool
-    requires k_in_bounds { k / 8 < length faults.now }
-    requires k_in_bounds_2 { k / 8 < length closed.now }
-    ensures { result ≡ (node_bit faults.now k || node_bit closed.now k) }
-{
-    let faulty = node_bit(faults, k);
-    let shut = node_bit(closed, k);
-    faulty | shut
+// The nodes that are faulty for a job: those of the fault table, and those that the job closes.
+#[derive(Clone, Copy)]
+pub struct Faulty<'a> {
+    pub n: usize,
+    pub faults: &'a [u8],
+    pub closed: &'a [u8],
+    ghost faults_len: { length faults.now ≡ table_len n },
+    ghost closed_len: { length closed.now ≡ table_len n },
 }
 
-// The byte that node k starts with: by all three tables, whether it works.
-fn start_byte(faults: &[u8], draining: &[u8], closed: &[u8], k: usize) -> u8
-    requires k_in_bounds { k / 8 < length faults.now }
-    requires k_in_bounds_2 { k / 8 < length draining.now }
-    requires k_in_bounds_3 { k / 8 < length closed.now }
-    ensures { result ≡ started (λ x. (node_bit faults.now x || node_bit closed.now x) || node_bit draining.now x) k }
-{
-    let faulty = is_faulty(faults, closed, k);
-    let drains = node_bit(draining, k);
-    if faulty | drains { OUT } else { PLAIN }
+impl<'a> Faulty<'a> {
+    // Whether node k is one of them.
+    fn has(self, k: usize) -> bool
+        requires { k < 2 ^ self.n }
+        ensures { result ≡ (node_bit self.entry.faults.now k || node_bit self.entry.closed.now k) }
+    {
+        let faulty = node_bit(self.faults, k);
+        let shut = node_bit(self.closed, k);
+        faulty | shut
+    }
+
+    // The byte of a node that does not work, in the end: one that is faulty or closed is so whether it drains or not, so the table of draining nodes is not
+    // asked.
+    fn out_byte(self, x: usize) -> u8
+        requires { x < 2 ^ self.n }
+        ensures { result ≡ cond (node_bit self.entry.faults.now x || node_bit self.entry.closed.now x) 3 4 }
+    {
+        let faulty = self.has(x);
+        if faulty { OUT } else { DRAINING }
+    }
+
+    // The byte of a node in the end.
+    fn final_byte(self, node: Node) -> u8
+        requires { node.n ≡ self.n }
+        ensures { let s = self.entry in result ≡ finished node.entry.n (λ y. cond (node_bit s.faults.now y || node_bit s.closed.now y) 3 4) node.entry.labels.now node.entry.x }
+    {
+        let label = node.label();
+        if label == OUT {
+            return self.out_byte(node.x);
+        }
+        if node.is_ordinary() {
+            return ORDINARY;
+        }
+        label
+    }
+
+    // The end of labelling: tells the ordinarily unsafe nodes from the strongly unsafe ones, and the draining nodes from the faulty ones. A node without a
+    // mark keeps its byte.
+    pub fn finish(self, labels: &mut [u8])
+        requires { Sized self.n labels.old }
+        ensures { let s = self.entry in labels.new ≡ tab (2 ^ s.n) (finished s.n (λ y. cond (node_bit s.faults.now y || node_bit s.closed.now y) 3 4) labels.old) }
+    {
+        for x in 0..labels.len() {
+            if MARKED <= labels[x] {
+                let node = Node {
+                    n: self.n,
+                    labels: &labels[..],
+                    x,
+                };
+                labels[x] = self.final_byte(node);
+            }
+        }
+    }
 }
 
-// The table before the first round.
-pub fn start(n: usize, faults: &[u8], draining: &[u8], closed: &[u8], labels: &mut [u8])
-    requires faults_len { length faults.now ≡ table_len n }
-    requires draining_len { length draining.now ≡ table_len n }
-    requires closed_len { length closed.now ≡ table_len n }
-    requires labels_len { length labels.old ≡ 2 ^ n }
-    ensures { labels.new ≡ tab (2 ^ n) (started (λ x. (node_bit faults.now x || node_bit closed.now x) || node_bit draining.now x)) }
-{
-    for (k, label) in labels.iter_mut().enumerate() {
-        *label = start_byte(faults, draining, closed, k);
+// The tables of a cabinet, by which its nodes work for a job or do not.
+#[derive(Clone, Copy)]
+pub struct Tables<'a> {
+    pub n: usize,
+    pub faults: &'a [u8],
+    pub draining: &'a [u8],
+    pub closed: &'a [u8],
+    ghost faults_len: { length faults.now ≡ table_len n },
+    ghost draining_len: { length draining.now ≡ table_len n },
+    ghost closed_len: { length closed.now ≡ table_len n },
+}
+
+impl<'a> Tables<'a> {
+    // The byte that node k starts with: by all three tables, whether it works.
+    fn start_byte(self, k: usize) -> u8
+        requires { k < 2 ^ self.n }
+        ensures { let t = self.entry in result ≡ started (λ x. (node_bit t.faults.now x || node_bit t.closed.now x) || node_bit t.draining.now x) k }
+    {
+        let faulty = Faulty {
+            n: self.n,
+            faults: self.faults,
+            closed: self.closed,
+        };
+        let out = faulty.has(k);
+        let drains = node_bit(self.draining, k);
+        if out | drains { OUT } else { PLAIN }
+    }
+
+    // The label table before the first round.
+    pub fn start(self, labels: &mut [u8])
+        requires { length labels.old ≡ 2 ^ self.n }
+        ensures { let t = self.entry in labels.new ≡ tab (2 ^ t.n) (started (λ x. (node_bit t.faults.now x || node_bit t.closed.now x) || node_bit t.draining.now x)) }
+    {
+        for (k, label) in labels.iter_mut().enumerate() {
+            *label = self.start_byte(k);
+        }
     }
 }
 
 // The marks of one round; answers how many.
-pub fn sweep(n: usize, rule: usize, labels: &mut [u8]) -> usize
-    requires le_rule { (2 ≤ rule) × (rule ≤ 3) }
+pub fn sweep(n: usize, rule: Rule, labels: &mut [u8]) -> usize
     requires kept { Kept labels.old }
     requires sized { Sized n labels.old }
-    ensures marked { result ≡ count (2 ^ n) (fresh n rule labels.old) }
-    ensures labels { labels.new ≡ tab (2 ^ n) (swept n rule labels.old) }
+    ensures marked { result ≡ count (2 ^ n) (fresh n rule.number labels.old) }
+    ensures labels { labels.new ≡ tab (2 ^ n) (swept n rule.number labels.old) }
 {
     let mut marked = 0;
     for x in 0..labels.len() {
@@ -198,52 +270,5 @@ pub fn settle(labels: &mut [u8])
 {
     for label in labels.iter_mut() {
         *label = settled_byte(*label);
-    }
-}
-
-// The byte of a node that does not work, in the end: one that is faulty or closed is so whether it drains or not, so the table of draining nodes is not
-// asked.
-fn out_byte(faults: &[u8], closed: &[u8], x: usize) -> u8
-    requires x_in_bounds { x / 8 < length faults.now }
-    requires x_in_bounds_2 { x / 8 < length closed.now }
-    ensures { result ≡ cond (node_bit faults.now x || node_bit closed.now x) 3 4 }
-{
-    let faulty = is_faulty(faults, closed, x);
-    if faulty { OUT } else { DRAINING }
-}
-
-// The byte of a node in the end.
-fn final_byte(faults: &[u8], closed: &[u8], node: Node) -> u8
-    requires x_in_bounds { node.x / 8 < length faults.now }
-    requires x_in_bounds_2 { node.x / 8 < length closed.now }
-    ensures { result ≡ finished node.entry.n (λ y. cond (node_bit faults.now y || node_bit closed.now y) 3 4) node.entry.labels.now node.entry.x }
-{
-    let label = node.label();
-    if label == OUT {
-        return out_byte(faults, closed, node.x);
-    }
-    if node.is_ordinary() {
-        return ORDINARY;
-    }
-    label
-}
-
-// The end of labelling: tells the ordinarily unsafe nodes from the strongly unsafe ones, and the draining nodes from the faulty ones. A node without a mark
-// keeps its byte.
-pub fn finish(n: usize, faults: &[u8], closed: &[u8], labels: &mut [u8])
-    requires faults_len { length faults.now ≡ table_len n }
-    requires closed_len { length closed.now ≡ table_len n }
-    requires sized { Sized n labels.old }
-    ensures { labels.new ≡ tab (2 ^ n) (finished n (λ y. cond (node_bit faults.now y || node_bit closed.now y) 3 4) labels.old) }
-{
-    for x in 0..labels.len() {
-        if MARKED <= labels[x] {
-            let node = Node {
-                n,
-                labels: &labels[..],
-                x,
-            };
-            labels[x] = final_byte(faults, closed, node);
-        }
     }
 }

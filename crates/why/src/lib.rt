@@ -3,12 +3,12 @@
 // took it. Both take any numbers and bytes, and test them; what reads labels is handed the job's half alone.
 #![tactic(auto)]
 
-ghost use Rattle.std.specs.Prelude.{◌≤◌, ◌&&◌, ◌||◌, eqb, leb, length, ◌≡◌};
+ghost use Rattle.std.specs.Prelude.{◌&&◌, ◌||◌, eqb, leb, length, ◌≡◌};
 ghost use Rattle.cube.specs.Refused.{answered};
 ghost use Rattle.causes.specs.Cause.{bad_cause, cause_with, from};
 ghost use Rattle.cube.specs.Count.{count};
 ghost use Rattle.cube.specs.Cube.{flip};
-ghost use Rattle.cube.specs.Tables.{label_in, table_len};
+ghost use Rattle.cube.specs.Tables.{label_in};
 ghost use Rattle.jobs.specs.Jobs.{label_for};
 ghost use Rattle.passes.specs.Passes.{NodeOf, mark_in, out_in};
 ghost use Rattle.rule.specs.Cabinet.{cabinet, labels_of};
@@ -22,7 +22,7 @@ use cube::refusals::Refusal;
 use hop::{at_node, chosen, place_refusal};
 use jobs::half;
 use labels::label_refusal;
-use passes::{MARKED, NEW, Node, OUT, finish, settle, start, sweep};
+use passes::{Faulty, MARKED, NEW, Node, OUT, Rule, Tables, settle, sweep};
 
 // Why a node has its label.
 #[derive(Drop)]
@@ -138,24 +138,18 @@ fn reason(node: Node, watched: Option<(usize, Cause)>) -> NodeReason
 }
 
 // Labels every node of an accepted cabinet in the half of its job, as labelling does, and answers why x has its label.
-fn label_watching(
-    n: usize,
-    rule: usize,
-    x: usize,
-    faults: &[u8],
-    draining: &[u8],
-    closed: &[u8],
-    labels: &mut [u8],
-) -> NodeReason
-    requires le_rule { (2 ≤ rule) × (rule ≤ 3) }
-    requires faults_len { length faults.now ≡ table_len n }
-    requires draining_len { length draining.now ≡ table_len n }
-    requires closed_len { length closed.now ≡ table_len n }
-    requires node_of { NodeOf n labels.old x }
-    ensures answer { result ≡ reason_of (cabinet n rule faults.now draining.now closed.now) x }
-    ensures labels { labels.new ≡ labels_of (cabinet n rule faults.now draining.now closed.now) }
+fn label_watching(rule: Rule, tables: Tables, x: usize, labels: &mut [u8]) -> NodeReason
+    requires { NodeOf tables.n labels.old x }
+    ensures answer { let t = tables.entry in result ≡ reason_of (cabinet t.n rule.number t.faults.now t.draining.now t.closed.now) x }
+    ensures labels { let t = tables.entry in labels.new ≡ labels_of (cabinet t.n rule.number t.faults.now t.draining.now t.closed.now) }
 {
-    start(n, faults, draining, closed, labels);
+    let Tables {
+        n,
+        faults,
+        closed,
+        ..
+    } = tables;
+    tables.start(labels);
     let mut watched = None;
     let mut round = 1;
     while sweep(n, rule, labels) != 0 {
@@ -164,11 +158,12 @@ fn label_watching(
             labels: &labels[..],
             x,
         };
-        watched = watch(rule, node, round, watched);
+        watched = watch(rule.number, node, round, watched);
         settle(labels);
         round += 1;
     }
-    finish(n, faults, closed, labels);
+    let faulty = Faulty { n, faults, closed };
+    faulty.finish(labels);
     let node = Node {
         n,
         labels: &labels[..],
@@ -215,7 +210,14 @@ pub fn why_node(
     let size = nodes(n);
     let from = job * size;
     let to = from + size;
-    Ok(label_watching(n, rule, x, faults, draining, closed, &mut labels[from..to]))
+    let rule = Rule { number: rule };
+    let tables = Tables {
+        n,
+        faults,
+        draining,
+        closed,
+    };
+    Ok(label_watching(rule, tables, x, &mut labels[from..to]))
 }
 
 // ---- a hop

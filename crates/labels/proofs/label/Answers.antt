@@ -41,21 +41,17 @@ overflow_add-to c = omega (arith, ends_short _ _ _ _ (fit (goal.at.overflow_add-
 pub slice_bounds-label_nodes-end : goal.slice_bounds-label_nodes-end
 slice_bounds-label_nodes-end c = ends_within _ _ _ _ (fit (goal.at.slice_bounds-label_nodes-end c).In_ok-label_refusal).halved c.nodes-size.ensures
 
-pub label_nodes-exchanges-requires-clause-le_rule : goal.label_nodes-exchanges-requires-clause-le_rule
-label_nodes-exchanges-requires-clause-le_rule c = (fit (goal.at.label_nodes-exchanges-requires-clause-le_rule c).In_ok-label_refusal).rule
+pub invariant_of-rule : goal.invariant_of-rule
+invariant_of-rule c = record { is_rule = (fit (goal.at.invariant_of-rule c).In_ok-label_refusal).rule }
 
-pub label_nodes-exchanges-requires-clause-faults_len : goal.label_nodes-exchanges-requires-clause-faults_len
-label_nodes-exchanges-requires-clause-faults_len c = (fit (goal.at.label_nodes-exchanges-requires-clause-faults_len c).In_ok-label_refusal).faults
+pub invariant_of-tables : goal.invariant_of-tables
+invariant_of-tables c =
+    let f = fit (goal.at.invariant_of-tables c).In_ok-label_refusal in
+    record { faults_len = f.faults; draining_len = f.draining; closed_len = f.closed }
 
-pub label_nodes-exchanges-requires-clause-draining_len : goal.label_nodes-exchanges-requires-clause-draining_len
-label_nodes-exchanges-requires-clause-draining_len c = (fit (goal.at.label_nodes-exchanges-requires-clause-draining_len c).In_ok-label_refusal).draining
-
-pub label_nodes-exchanges-requires-clause-closed_len : goal.label_nodes-exchanges-requires-clause-closed_len
-label_nodes-exchanges-requires-clause-closed_len c = (fit (goal.at.label_nodes-exchanges-requires-clause-closed_len c).In_ok-label_refusal).closed
-
-pub label_nodes-exchanges-requires-clause-sized : goal.label_nodes-exchanges-requires-clause-sized
-label_nodes-exchanges-requires-clause-sized c =
-    let f = fit (goal.at.label_nodes-exchanges-requires-clause-sized c).In_ok-label_refusal in
+pub label_nodes-exchanges-requires : goal.label_nodes-exchanges-requires
+label_nodes-exchanges-requires c =
+    let f = fit (goal.at.label_nodes-exchanges-requires c).In_ok-label_refusal in
     record {
       small = f.halved.small;
       sized = ap length (part_is_half _ _ _ c.nodes-size.ensures _) ∙ halved_long _ _ _ f.halved;

@@ -6,8 +6,12 @@ use Rattle.rule.specs.Rule.{working}
 use Rattle.labels.proofs.Loop.{Turn}
 use Rattle.labels.proofs.label_nodes.Given as goal
 
-abbrev pub invariant-loop-labels : goal.invariant-loop-labels
-invariant-loop-labels l = Turn (cabinet l.n l.rule l.faults l.draining l.closed) l.labels l.exchanges
+abbrev pub invariant-loop-rule : goal.invariant-loop-rule
+invariant-loop-rule l =
+    let t = l.tables in
+    Turn (cabinet t.n l.rule.number t.faults.now t.draining.now t.closed.now) l.labels l.exchanges
 
-abbrev pub decreases-loop-labels : goal.decreases-loop-labels
-decreases-loop-labels l = working l.n (out (cabinet l.n l.rule l.faults l.draining l.closed)) + 1 - l.exchanges
+abbrev pub decreases-loop-rule : goal.decreases-loop-rule
+decreases-loop-rule l =
+    let t = l.tables in
+    working t.n (out (cabinet t.n l.rule.number t.faults.now t.draining.now t.closed.now)) + 1 - l.exchanges

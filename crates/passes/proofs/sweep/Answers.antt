@@ -12,12 +12,12 @@ use Rattle.passes.proofs.sweep.Goals.{else-is_fresh, then-is_fresh}
 pub loop-x-init : goal.loop-x-init
 loop-x-init c = (fill_start _ _, sym (count_zero _))
 
-pub is_fresh-requires-clause-kept : goal.is_fresh-requires-clause-kept
-is_fresh-requires-clause-kept c = kept_on _ _ _ _ _ c.loop-x.invariant.0 c.requires.kept
+pub is_fresh-requires : goal.is_fresh-requires
+is_fresh-requires c = kept_on _ _ _ _ _ c.loop-x.invariant.0 c.requires.kept
 
 pub overflow_add-marked : goal.overflow_add-marked
 overflow_add-marked c =
-    omega (arith, count_bound c.loop-x.x (fresh c.args.n c.args.rule c.args.labels.now))
+    omega (arith, count_bound c.loop-x.x (fresh c.args.n c.args.rule.number c.args.labels.now))
 
 pub loop-x-preserved : goal.loop-x-preserved
 loop-x-preserved c =

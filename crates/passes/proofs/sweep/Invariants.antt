@@ -7,4 +7,4 @@ use Rattle.passes.proofs.sweep.Given as goal
 
 abbrev pub invariant-loop-x : goal.invariant-loop-x
 invariant-loop-x l =
-    Filled (swept l.n l.rule l.initial.labels) l.initial.labels l.labels l.x × (l.marked ≡ count l.x (fresh l.n l.rule l.initial.labels))
+    Filled (swept l.n l.rule.number l.initial.labels) l.initial.labels l.labels l.x × (l.marked ≡ count l.x (fresh l.n l.rule.number l.initial.labels))

@@ -49,21 +49,17 @@ overflow_add-to c = omega (arith, ends_short _ _ _ _ (fit (goal.at.overflow_add-
 pub slice_bounds-label_watching-end : goal.slice_bounds-label_watching-end
 slice_bounds-label_watching-end c = ends_within _ _ _ _ (fit (goal.at.slice_bounds-label_watching-end c).In_ok-node_refusal).halved c.nodes-size.ensures
 
-pub label_watching-requires-clause-le_rule : goal.label_watching-requires-clause-le_rule
-label_watching-requires-clause-le_rule c = (fit (goal.at.label_watching-requires-clause-le_rule c).In_ok-node_refusal).rule
+pub invariant_of-rule : goal.invariant_of-rule
+invariant_of-rule c = record { is_rule = (fit (goal.at.invariant_of-rule c).In_ok-node_refusal).rule }
 
-pub label_watching-requires-clause-faults_len : goal.label_watching-requires-clause-faults_len
-label_watching-requires-clause-faults_len c = (fit (goal.at.label_watching-requires-clause-faults_len c).In_ok-node_refusal).faults
+pub invariant_of-tables : goal.invariant_of-tables
+invariant_of-tables c =
+    let f = fit (goal.at.invariant_of-tables c).In_ok-node_refusal in
+    record { faults_len = f.faults; draining_len = f.draining; closed_len = f.closed }
 
-pub label_watching-requires-clause-draining_len : goal.label_watching-requires-clause-draining_len
-label_watching-requires-clause-draining_len c = (fit (goal.at.label_watching-requires-clause-draining_len c).In_ok-node_refusal).draining
-
-pub label_watching-requires-clause-closed_len : goal.label_watching-requires-clause-closed_len
-label_watching-requires-clause-closed_len c = (fit (goal.at.label_watching-requires-clause-closed_len c).In_ok-node_refusal).closed
-
-pub label_watching-requires-clause-node_of : goal.label_watching-requires-clause-node_of
-label_watching-requires-clause-node_of c =
-    let e = (goal.at.label_watching-requires-clause-node_of c).In_ok-node_refusal in
+pub label_watching-requires : goal.label_watching-requires
+label_watching-requires c =
+    let e = (goal.at.label_watching-requires c).In_ok-node_refusal in
     let f = fit e in
     record {
       small = f.halved.small;

@@ -25,7 +25,7 @@ bounds-self-self c =
 
 -- its byte is one of those that the table has
 kept : (c : In-loop-i) → KeptByte (label_in c.args.self.labels.now (flip c.loop-i.i c.args.self.x))
-kept c = c.requires.kept _ (omega (arith, c.args.self.is_node.sized, inside c))
+kept c = c.requires _ (omega (arith, c.args.self.is_node.sized, inside c))
 
 few : (b : ℕ) → KeptByte b → b ≤ 128
 few b kept_plain = omega arith
@@ -36,7 +36,7 @@ few b kept_new = omega arith
 pub overflow_add-weight : goal.overflow_add-weight
 unfolding label_in
 overflow_add-weight c =
-    let p = c.requires.le_rule in
+    let p = c.args.rule.is_rule in
     let e = ap (label_in c.args.self.labels.now) (across _ _ c.loop-i.invariant.1 c.args.self.x) in
     let b = few _ (kept (goal.at.overflow_add-weight c).In-loop-i) in
     omega (arith, e, b, weight_few _ _ _ _ p.0 p.1 _ _ c.loop-i.invariant.0 (omega (arith, c.args.self.is_node.small)))
@@ -44,7 +44,7 @@ overflow_add-weight c =
 pub returns-then-weight-ge64 : goal.returns-then-weight-ge64
 unfolding label_in
 returns-then-weight-ge64 c =
-    let p = c.requires.le_rule in
+    let p = c.args.rule.is_rule in
     let k = kept (goal.at.returns-then-weight-ge64 c).In-loop-i in
     let e = ap (label_in c.args.self.labels.now) (across _ _ c.loop-i.invariant.1 c.args.self.x) in
     let enough = rule_looked _ _ _ _ _ (seen_enough _ _ _ _ p.0 p.1 _ _ c.loop-i.invariant.0 _ (omega arith) e k (omega arith)) in
@@ -53,13 +53,13 @@ returns-then-weight-ge64 c =
 pub loop-i-preserved : goal.loop-i-preserved
 unfolding label_in
 loop-i-preserved c =
-    let p = c.requires.le_rule in
+    let p = c.args.rule.is_rule in
     let k = kept (goal.at.loop-i-preserved c).In-loop-i in
     let e = ap (label_in c.args.self.labels.now) (across _ _ c.loop-i.invariant.1 c.args.self.x) in
     (seen_next _ _ _ _ p.0 p.1 _ _ c.loop-i.invariant.0 _ (omega arith) e k (omega arith), doubled _ _ c.loop-i.invariant.1)
 
 pub returns : goal.returns
 returns c =
-    let p = c.requires.le_rule in
+    let p = c.args.rule.is_rule in
     let all = rule_looked _ _ _ _ _ (seen_all _ _ _ _ p.0 p.1 _ _ c.loop-i.invariant.0 (omega arith)) in
     record { holds = all.0; looked = all.1 }

@@ -6,11 +6,10 @@ use native.Mathlib.Omega.{arith}
 use lib.ListN.{length}
 use Rattle.cube.specs.Tables.{label_in, node_bit}
 use Rattle.cube.proofs.Bools.{by_cases}
-use Rattle.cube.proofs.Tables.{node_room}
 use Rattle.cube.proofs.Filling.{fill_start, fill_here, fill_keep, fill_write, fill_end}
 use Rattle.passes.proofs.Marking.{final_low, final_seen}
-use Rattle.passes.proofs.finish.Goals as goal
-use Rattle.passes.proofs.finish.Goals.{else-labels-x-ge-MARKED, then-labels-x-ge-MARKED}
+use Rattle.passes.proofs.Faulty.finish.Goals as goal
+use Rattle.passes.proofs.Faulty.finish.Goals.{else-labels-x-ge-MARKED, then-labels-x-ge-MARKED}
 
 -- the byte of a node that does not work
 abbrev own : (faults closed : List ℕ) (y : ℕ) → ℕ
@@ -21,12 +20,6 @@ own-high faults closed y = by_cases (λ b. 3 ≤ b) (node_bit faults y || node_b
 
 pub loop-x-init : goal.loop-x-init
 loop-x-init c = fill_start _ _
-
-pub final_byte-requires-clause-x_in_bounds : goal.final_byte-requires-clause-x_in_bounds
-final_byte-requires-clause-x_in_bounds c = node_room c.args.n c.loop-x.x _ c.requires.faults_len (omega arith)
-
-pub final_byte-requires-clause-x_in_bounds_2 : goal.final_byte-requires-clause-x_in_bounds_2
-final_byte-requires-clause-x_in_bounds_2 c = node_room c.args.n c.loop-x.x _ c.requires.closed_len (omega arith)
 
 pub loop-x-preserved : goal.loop-x-preserved
 unfolding label_in

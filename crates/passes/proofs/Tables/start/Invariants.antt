@@ -3,7 +3,9 @@ use mathlib.Core.Bool.{◌||◌}
 use Rattle.cube.specs.Tables.{node_bit}
 use Rattle.passes.specs.Passes.{started}
 use Rattle.cube.proofs.Filling.{Filled}
-use Rattle.passes.proofs.start.Given as goal
+use Rattle.passes.proofs.Tables.start.Given as goal
 
 abbrev pub invariant-loop-k : goal.invariant-loop-k
-invariant-loop-k l = Filled (started (λ x. (node_bit l.faults x || node_bit l.closed x) || node_bit l.draining x)) l.initial.labels l.labels l.k
+invariant-loop-k l =
+    let t = l.self in
+    Filled (started (λ x. (node_bit t.faults.now x || node_bit t.closed.now x) || node_bit t.draining.now x)) l.initial.labels l.labels l.k

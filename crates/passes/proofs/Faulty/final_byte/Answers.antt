@@ -2,7 +2,7 @@
 use mathlib.Core.Path.{sym, ◌∙◌}
 use borrow.Author.Tests.{eq-eqb, ne_eqb}
 use Rattle.passes.specs.Passes.{finished, out_in}
-use Rattle.passes.proofs.final_byte.Goals as goal
+use Rattle.passes.proofs.Faulty.final_byte.Goals as goal
 
 pub returns-then-label-eq-OUT : goal.returns-then-label-eq-OUT
 unfolding finished out_in
