@@ -20,6 +20,8 @@ use Rattle.cube.specs.contracts.table_len
 use Rattle.cube.proofs.table_len.Reads as table_len-reads
 use Rattle.cube.specs.contracts.node_bit
 use Rattle.cube.proofs.node_bit.Reads as node_bit-reads
+use Rattle.cube.specs.contracts.NodeTable.has as has-claims
+use Rattle.cube.proofs.NodeTable.has.Reads as has-claims-reads
 use Rattle.cube.specs.contracts.unused_set
 use Rattle.cube.proofs.unused_set.Reads as unused_set-reads
 use Rattle.cube.specs.contracts.count_of
@@ -114,6 +116,21 @@ node-bit =
 
 pub node_bit_says : Says node-bit (λ i. node_bit i.0 i.1) (λ i. tt)
 node_bit_says = record { says = λ κs a r e p. (p, refl) }
+
+-- the table's dimension and its bytes, and the node
+abbrev pub has : Function has-claims.ended (ℕ × List ℕ × ℕ) Bool Nothing
+has =
+    record {
+      clauses = λ w. has-claims.clauses w.𝓛 w.𝓜.mem w.𝓡.returns;
+      asked = has-claims-reads.Asked;
+      post = has-claims-reads.Post;
+      handed = λ κs a. (a.0.n, a.0.bytes.now, a.1.0);
+      answered = λ κs r. r;
+      left = λ κs e. tt;
+    }
+
+pub has_says : Says has (λ i. node_bit i.1 i.2) (λ i. tt)
+has_says = record { says = λ κs a r e p. (p, refl) }
 
 abbrev pub unused-set : Function unused_set.ended (ℕ × List ℕ) Bool Nothing
 unused-set =

@@ -2,7 +2,7 @@
 // Nothing here refuses: the crates above test what they are handed before they ask, and give the refusals of refusals.rt.
 #![tactic(auto)]
 
-ghost use Rattle.std.specs.Prelude.{◌/◌, ◌^◌, ◌<◌, length, ◌≡◌};
+ghost use Rattle.std.specs.Prelude.{◌/◌, ◌^◌, ◌<◌, ◌≤◌, length, ◌≡◌};
 ghost use Rattle.cube.specs.Cube.{dist, flip};
 ghost use Rattle.cube.specs.Tables.{is_dimension, label_count, node_bit, table_len, unused_set};
 
@@ -56,6 +56,26 @@ pub fn node_bit(t: &[u8], k: usize) -> bool
 {
     let byte = t[k / 8];
     (byte >> (k % 8)) % 2 == 1
+}
+
+// A table of nodes, as a fault table is: a bit for each node of an n-cube.
+#[derive(Clone, Copy)]
+pub struct NodeTable<'a> {
+    pub n: usize,
+    pub bytes: &'a [u8],
+    ghost small: { n ≤ 12 },
+    ghost sized: { length bytes.now ≡ table_len n },
+}
+
+impl NodeTable<'_> {
+    // Whether node k is in it.
+    #[tactic(auto, using(crate::proofs::Tables::node_room))]
+    pub fn has(self, k: usize) -> bool
+        requires { k < 2 ^ self.n }
+        ensures { result ≡ node_bit self.entry.bytes.now k }
+    {
+        node_bit(self.bytes, k)
+    }
 }
 
 // Whether a fault table has a bit set that stands for no node. Only n = 1 and 2 have such bits.

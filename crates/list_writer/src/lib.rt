@@ -2,24 +2,24 @@
 // length is known before the first byte is written; a second pass, by the same functions, writes them.
 #![tactic(auto)]
 
-ghost use Rattle.std.specs.Prelude.{◌*◌, ◌-◌, ◌≤◌, ◌<◌, length, ◌≡◌};
+ghost use Rattle.std.specs.Prelude.{◌-◌, ◌^◌, ◌≤◌, ◌<◌, length, ◌≡◌};
 ghost use Rattle.cube.specs.Tables.{node_bit};
 ghost use Rattle.list_writer.specs.Lists.{digit_at, gap, list_after, run_end, wrote_list};
-ghost use Rattle.ranges.specs.Written.{decimal, entry_text, text_of};
-ghost use Rattle.spelling.specs.Spelled.{having};
+ghost use Rattle.ranges.specs.Written.{decimal, entry_text, list_text};
 
 use cube::refusals::Refusal;
-use cube::{node_bit, nodes};
+use cube::{NodeTable, nodes};
 use writer::sink::{Count, Front, Sink};
 use writer::table_refusal;
 
 // The place behind the run of faulty nodes that begins at node k.
-fn run_end(faults: &[u8], size: usize, k: usize) -> usize
-    requires { (k ≤ size) × (size ≤ 8 * length faults.now) × (size ≤ 4096) }
-    ensures { result ≡ run_end (size - k) k (node_bit faults.now) }
+fn run_end(faults: NodeTable, k: usize) -> usize
+    requires { k ≤ 2 ^ faults.n }
+    ensures { result ≡ run_end (2 ^ faults.entry.n - k) k (node_bit faults.entry.bytes.now) }
 {
+    let size = nodes(faults.n);
     for end in k..size {
-        if !node_bit(faults, end) {
+        if !faults.has(end) {
             return end;
         }
     }
@@ -69,18 +69,18 @@ fn put_entry<S: Sink>(low: usize, high: usize, sink: &mut S)
     }
 }
 
-// Puts the text of the faulty nodes among the first so many, run by run.
-fn put_list<S: Sink>(faults: &[u8], size: usize, sink: &mut S)
-    requires size_bound { (size ≤ 4096) × (size ≤ 8 * length faults.now) }
-    requires room { length (text_of (having size 0 (node_bit faults.now))) ≤ S.room sink.old }
-    ensures { S.puts sink.old (text_of (having size 0 (node_bit faults.now))) sink.new }
+// Puts the text of the faulty nodes, run by run.
+fn put_list<S: Sink>(faults: NodeTable, sink: &mut S)
+    requires { length (list_text faults.n faults.bytes.now) ≤ S.room sink.old }
+    ensures { S.puts sink.old (list_text faults.entry.n faults.entry.bytes.now) sink.new }
 {
+    let size = nodes(faults.n);
     let mut first = true;
     let mut k: usize = 0;
     // no `for` and no chain is plainer: k goes on by a whole run, whose end is known only there
     while k < size {
-        if node_bit(faults, k) {
-            let end = run_end(faults, size, k);
+        if faults.has(k) {
+            let end = run_end(faults, k);
             put_gap(first, sink);
             put_entry(k, end - 1, sink);
             first = false;
@@ -98,14 +98,14 @@ pub fn write(n: usize, faults: &[u8], out: &mut [u8]) -> Result<usize, Refusal>
     ensures buffer { out.new ≡ list_after n faults.now out.old }
 {
     table_refusal(n, faults)?;
-    let size = nodes(n);
+    let faulty = NodeTable { n, bytes: faults };
     let mut measured = Count { bytes: 0 };
-    put_list(faults, size, &mut measured);
+    put_list(faulty, &mut measured);
     let length = measured.bytes;
     if out.len() < length {
         return Err(Refusal::Room);
     }
     let mut front = Front { out, at: 0 };
-    put_list(faults, size, &mut front);
+    put_list(faulty, &mut front);
     Ok(length)
 }

@@ -6,12 +6,11 @@ use Prim.Native.Nat.{ℕ, zero, suc, ◌+◌, ◌*◌, ◌-◌, ◌^◌, ◌≤�
 use native.Mathlib.Omega.{arith}
 use lib.ListN.{length, length-append}
 use Rattle.cube.specs.Over.{over}
-use Rattle.cube.specs.Tables.{node_bit, table_len}
+use Rattle.cube.specs.Tables.{node_bit}
 use Rattle.cube.proofs.Bools.{by_cases}
 use Rattle.cube.proofs.Over.{over_front}
-use Rattle.cube.proofs.Tables.{nodes_few, table_room}
+use Rattle.cube.proofs.Tables.{nodes_few}
 use Rattle.groups.specs.Number.{groups_of}
-use Rattle.spelling.specs.Laws.{IsTable}
 use Rattle.spelling.specs.Sinks.{Counted, Written}
 use Rattle.spelling.specs.Spelled.{address_bytes, faulty_nodes, having, notice_bytes}
 use Rattle.spelling.proofs.Sinks.{write_left, write_more}
@@ -35,44 +34,33 @@ few_addresses base (x ∷ l) =
 few_nodes : (p : ℕ → Bool) (size : ℕ) → length (having size 0 p) ≤ size
 few_nodes p size = few_having p size 0
 
-pub few_bytes : (p : ℕ → Bool) (size : ℕ) → length (address_bytes 0 (having size 0 p)) ≤ 2 * size
+few_bytes : (p : ℕ → Bool) (size : ℕ) → length (address_bytes 0 (having size 0 p)) ≤ 2 * size
 few_bytes p size = omega (arith, few_addresses 0 (having size 0 p), few_having p size 0)
 
 -- ---- a cube that was measured
 
--- an n-cube, a table of its length, its nodes and how many of them are faulty
-pub record Sized (n : ℕ) (faults : List ℕ) (size count : ℕ) : Type 0 where
+-- an n-cube, and how many nodes of it a table names
+pub record Sized (n : ℕ) (faults : List ℕ) (count : ℕ) : Type 0 where
   pub small : n ≤ 12
-  pub long : length faults ≡ table_len n
-  pub nodes : size ≡ 2 ^ n
   pub counted : count ≡ length (faulty_nodes n faults)
 
-pub sized_by : {n size count : ℕ} {faults : List ℕ} → IsTable n faults → size ≡ 2 ^ n → count ≡ length (having size 0 (node_bit faults))
-    → Sized n faults size count
-sized_by {faults} t e h =
-    record { small = t.dimension.1; long = t.sized; nodes = e; counted = h ∙ ap (λ (k : ℕ). length (having k 0 (node_bit faults))) e }
+pub addresses_fit : {n : ℕ} (faults : List ℕ) → n ≤ 12 → length (address_bytes 0 (faulty_nodes n faults)) ≤ 8192
+addresses_fit {n} faults h = omega (arith, few_bytes (node_bit faults) (2 ^ n), nodes_few n h)
 
--- its nodes are few, and have their bits in the table
-pub nodes_fit : {n m size : ℕ} → n ≤ 12 → m ≡ table_len n → size ≡ 2 ^ n → (size ≤ 4096) × (size ≤ 8 * m)
-nodes_fit {n} h l e = (omega (arith, e, nodes_few n h), omega (arith, e, l, table_room n))
-
-module _ {n : ℕ} {faults : List ℕ} {size count : ℕ} (S : Sized n faults size count) where
+module _ {n : ℕ} {faults : List ℕ} {count : ℕ} (S : Sized n faults count) where
   abbrev addresses : List ℕ
-  addresses = address_bytes 0 (having size 0 (node_bit faults))
-
-  fit : (size ≤ 4096) × (size ≤ 8 * length faults)
-  fit = nodes_fit S.small S.long S.nodes
+  addresses = address_bytes 0 (faulty_nodes n faults)
 
   -- so the numbers are small
   pub count_few : count ≤ 4096
-  count_few = omega (arith, S.counted, S.nodes, few_nodes (node_bit faults) (2 ^ n), fit.0)
+  count_few = omega (arith, S.counted, few_nodes (node_bit faults) (2 ^ n), nodes_few n S.small)
 
   pub addresses_few : length addresses ≤ 8192
-  addresses_few = omega (arith, few_bytes (node_bit faults) size, fit.0)
+  addresses_few = addresses_fit faults S.small
 
   spelled : notice_bytes n faults ≡ groups_of n ++ groups_of count ++ addresses
   unfolding notice_bytes
-  spelled = rw (S.counted, S.nodes)
+  spelled = rw S.counted
 
   pub notice_length : length (groups_of n) + length (groups_of count) + length addresses ≡ length (notice_bytes n faults)
   notice_length =

@@ -2,18 +2,18 @@
 // before the first byte is written; a second pass, by the same functions, writes them.
 #![tactic(auto)]
 
-ghost use Rattle.std.specs.Prelude.{◌*◌, ◌<◌, ◌≤◌, length, ◌≡◌};
+ghost use Rattle.std.specs.Prelude.{◌<◌, ◌≤◌, length, ◌≡◌};
 ghost use Rattle.cube.specs.Refusal.{first};
 ghost use Rattle.cube.specs.Refused.{answered};
-ghost use Rattle.cube.specs.Tables.{node_bit, table_len};
+ghost use Rattle.cube.specs.Tables.{table_len};
 ghost use Rattle.groups.specs.Number.{groups_of};
-ghost use Rattle.spelling.specs.Spelled.{address_bytes, faulty_nodes, having, notice_bytes};
+ghost use Rattle.spelling.specs.Spelled.{address_bytes, faulty_nodes, notice_bytes};
 ghost use Rattle.writer.specs.Writing.{buffer_after, fault_tests, wrote};
 
 pub mod sink;
 
 use cube::refusals::Refusal;
-use cube::{is_dimension, node_bit, nodes, table_len, unused_set};
+use cube::{NodeTable, is_dimension, nodes, table_len, unused_set};
 use sink::{Count, Front, Sink};
 
 // Whether a fault table is one of an n-cube, or the refusal.
@@ -45,17 +45,16 @@ fn put_number<S: Sink>(v: usize, sink: &mut S)
     }
 }
 
-// Puts the addresses of the faulty nodes among the first so many, and answers how many these are.
-fn put_addresses<S: Sink>(faults: &[u8], size: usize, sink: &mut S) -> usize
-    requires size_bound { (size ≤ 4096) × (size ≤ 8 * length faults.now) }
-    requires room { length (address_bytes 0 (having size 0 (node_bit faults.now))) ≤ S.room sink.old }
-    ensures count { result ≡ length (having size 0 (node_bit faults.now)) }
-    ensures bytes { S.puts sink.old (address_bytes 0 (having size 0 (node_bit faults.now))) sink.new }
+// Puts the addresses of the faulty nodes, and answers how many these are.
+fn put_addresses<S: Sink>(faults: NodeTable, sink: &mut S) -> usize
+    requires { length (address_bytes 0 (faulty_nodes faults.n faults.bytes.now)) ≤ S.room sink.old }
+    ensures count { result ≡ length (faulty_nodes faults.entry.n faults.entry.bytes.now) }
+    ensures bytes { S.puts sink.old (address_bytes 0 (faulty_nodes faults.entry.n faults.entry.bytes.now)) sink.new }
 {
     let mut count: usize = 0;
     let mut base: usize = 0;
-    for node in 0..size {
-        if node_bit(faults, node) {
+    for node in 0..nodes(faults.n) {
+        if faults.has(node) {
             put_number(node - base, sink);
             count += 1;
             base = node + 1;
@@ -70,9 +69,9 @@ pub fn write(n: usize, faults: &[u8], out: &mut [u8]) -> Result<usize, Refusal>
     ensures buffer { out.new ≡ buffer_after n faults.now out.old }
 {
     table_refusal(n, faults)?;
-    let size = nodes(n);
+    let faulty = NodeTable { n, bytes: faults };
     let mut measured = Count { bytes: 0 };
-    let count = put_addresses(faults, size, &mut measured);
+    let count = put_addresses(faulty, &mut measured);
     put_number(n, &mut measured);
     put_number(count, &mut measured);
     let length = measured.bytes;
@@ -82,6 +81,6 @@ pub fn write(n: usize, faults: &[u8], out: &mut [u8]) -> Result<usize, Refusal>
     let mut front = Front { out, at: 0 };
     put_number(n, &mut front);
     put_number(count, &mut front);
-    put_addresses(faults, size, &mut front);
+    put_addresses(faulty, &mut front);
     Ok(length)
 }

@@ -1,9 +1,8 @@
 -- `write` knows the length before it writes: the table is one that is taken, and the notice has room.
 use mathlib.Core.Path.{◌≡◌, sym, ap, ◌∙◌}
-use Prim.Native.Nat.{ℕ, ◌*◌, ◌≤◌}
+use Prim.Native.Nat.{ℕ, ◌≤◌}
 use native.Mathlib.Omega.{arith}
 use lib.ListN.{length}
-use Rattle.cube.specs.Tables.{node_bit}
 use Rattle.std.proofs.Common.{rules}
 use Rattle.cube.specs.Over.{over}
 use Rattle.cube.proofs.Refused.{passes}
@@ -12,16 +11,17 @@ use Rattle.spelling.specs.Laws.{IsTable}
 use Rattle.spelling.specs.Spelled.{notice_bytes}
 use Rattle.std.specs.Prelude.{Ok}
 use Rattle.writer.proofs.Passes.{few_groups}
-use Rattle.writer.proofs.Parts.{Sized, addresses_few, all_written, count_few, counted, few_bytes, first_room, nodes_fit, second_room, sized_by, third_room}
+use Rattle.writer.proofs.Parts.{Sized, addresses_few, addresses_fit, all_written, count_few, counted, first_room, second_room, third_room}
 use Rattle.writer.proofs.Refusal.{buffer_kept, buffer_passed, buffer_written, has_room, no_room, table_accepted, wrote_length, wrote_passed, wrote_refused}
 use Rattle.writer.proofs.write.Goals as goal
-use Rattle.writer.proofs.write.Goals.{After-nodes-size, After-put_addresses-count, After-put_number-2, Else-out-length, In_ok-table_refusal}
+use Rattle.writer.proofs.write.Goals.{After-put_addresses-count, After-put_number-2, Else-out-length, In_ok-table_refusal}
 
 table : (c : In_ok-table_refusal) → IsTable c.args.n c.args.faults.now
 table c = table_accepted _ _ _ _ (sym c.table_refusal.ensures ∙ c.in_ok-table_refusal.was)
 
-sized : (c : After-put_addresses-count) → Sized c.args.n c.args.faults.now c.nodes-size.result c.put_addresses-count.result
-sized c = sized_by (table_accepted _ _ _ _ (sym c.table_refusal.ensures ∙ c.in_ok-table_refusal.was)) c.nodes-size.ensures c.put_addresses-count.ensures.count
+sized : (c : After-put_addresses-count) → Sized c.args.n c.args.faults.now c.put_addresses-count.result
+sized c =
+    record { small = (table_accepted _ _ _ _ (sym c.table_refusal.ensures ∙ c.in_ok-table_refusal.was)).dimension.1; counted = c.put_addresses-count.ensures.count }
 
 pub returns-in_err-table_refusal : goal.returns-in_err-table_refusal
 returns-in_err-table_refusal c =
@@ -33,16 +33,15 @@ returns-in_err-table_refusal c =
       buffer = buffer_passed a.n a.faults.now w a.out.now e;
     }
 
-pub nodes-size-requires : goal.nodes-size-requires
-nodes-size-requires c = omega (arith, (table c).dimension.1)
+pub invariant_of-faulty-clause-small : goal.invariant_of-faulty-clause-small
+invariant_of-faulty-clause-small c = (table (goal.at.invariant_of-faulty-clause-small c).In_ok-table_refusal).dimension.1
 
-fit : (c : After-nodes-size) → (c.nodes-size.result ≤ 4096) × (c.nodes-size.result ≤ 8 * length c.args.faults.now)
-fit c = let t = table_accepted _ _ _ _ (sym c.table_refusal.ensures ∙ c.in_ok-table_refusal.was) in nodes_fit t.dimension.1 t.sized c.nodes-size.ensures
+pub invariant_of-faulty-clause-sized : goal.invariant_of-faulty-clause-sized
+invariant_of-faulty-clause-sized c = (table (goal.at.invariant_of-faulty-clause-sized c).In_ok-table_refusal).sized
 
 pub put_addresses-count-requires : goal.put_addresses-count-requires
 put_addresses-count-requires c =
-    let f = fit (goal.at.put_addresses-count-requires c).After-nodes-size in
-    record { size_bound = f; room = omega (arith, few_bytes (node_bit c.args.faults.now) c.nodes-size.result, f.0) }
+    omega (arith, addresses_fit c.args.faults.now (table (goal.at.put_addresses-count-requires c).In_ok-table_refusal).dimension.1)
 
 pub put_number-requires : goal.put_number-requires
 put_number-requires c =
@@ -67,7 +66,7 @@ put_number-requires-2 c =
 long : (c : After-put_number-2) → c.put_number-2.new.sink.bytes ≡ length (notice_bytes c.args.n c.args.faults.now)
 long c =
     let t = table_accepted _ _ _ _ (sym c.table_refusal.ensures ∙ c.in_ok-table_refusal.was) in
-    counted (sized_by t c.nodes-size.ensures c.put_addresses-count.ensures.count) c.put_addresses-count.ensures.bytes c.put_number.ensures c.put_number-2.ensures
+    counted (record { small = t.dimension.1; counted = c.put_addresses-count.ensures.count }) c.put_addresses-count.ensures.bytes c.put_number.ensures c.put_number-2.ensures
 
 pub returns-then-out-length : goal.returns-then-out-length
 returns-then-out-length c =
@@ -99,10 +98,7 @@ put_number-requires-4 c =
 pub put_addresses-requires : goal.put_addresses-requires
 put_addresses-requires c =
     let p = goal.at.put_addresses-requires c in
-    record {
-      size_bound = fit p.After-nodes-size;
-      room = third_room (sized p.After-put_addresses-count) c.args.out.now (room p.Else-out-length (long p.After-put_number-2)) c.put_number-3.ensures.0 c.put_number-4.ensures.0;
-    }
+    third_room (sized p.After-put_addresses-count) c.args.out.now (room p.Else-out-length (long p.After-put_number-2)) c.put_number-3.ensures.0 c.put_number-4.ensures.0
 
 pub returns : goal.returns
 returns c =
