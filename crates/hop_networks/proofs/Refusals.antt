@@ -1,14 +1,13 @@
 -- The refusals of a hop by networks, from those that the code finds one after the other: of the board, of what needs no label, of the labels, and 16 with the
 -- decision. The question's table is these parts in a row, so the first part that refuses gives the number of the whole.
-use mathlib.Core.Path.{◌≡◌, refl, sym, ap, ◌∙◌}
+use mathlib.Core.Path.{◌≡◌, refl, sym, ◌∙◌}
 use mathlib.Core.Logic.{⊎_elim}
 use mathlib.Core.Bool.{Bool, true, false}
 use mathlib.Core.List.{List, [], ◌∷◌, ◌++◌}
 use Prim.Native.Nat.{ℕ, ◌^◌, ◌≤◌, ◌<◌}
 use lib.Dec.{leb, ltb}
 use borrow.Author.Tests.{eqb-true, leb-false, leb-true, ltb-false, ltb-true, not-false}
-use Rattle.std.specs.Prelude.{Result, Ok, Err, IsErrAnd}
-use Rattle.std.proofs.lemmas.Result.{err_from_is_err_and}
+use Rattle.std.specs.Prelude.{Ok, Err}
 use Rattle.cube.specs.declared.refusals.Refusal.{Refusal}
 use Rattle.cube.specs.Cube.{flip}
 use Rattle.cube.specs.Refusal.{Test, first, ◌⇒◌}
@@ -29,10 +28,6 @@ use Rattle.blocks.specs.Board.{beyond}
 use Rattle.blocks.specs.Phase.{phase_of}
 use Rattle.hop_networks.specs.Helpers.{board_refusal, decided_on, list_refusal, list_tests}
 use Rattle.hop_networks.specs.Hopping.{board_tests, hop_refusal_in, hopped_in, is_board, lacks}
-
--- what a `?` passes on
-pub passes_on : {T E : Type 0} (r z : Result T E) (e : E) → IsErrAnd r (λ y. y ≡ e) → Err e ≡ z → r ≡ z
-passes_on r z e h f = let p = err_from_is_err_and r h in p.1 ∙ ap Err p.2 ∙ f
 
 -- ---- what the tests show that pass
 

@@ -11,29 +11,8 @@ use Rattle.std.specs.Prelude.{Result, Err, Ok}
 use Rattle.std.specs.Result.{MatchResult}
 use borrow.Author.Tests.{eqb-false, eqb-true, leb-false, ltb-false, ne_eqb, not-false}
 use Rattle.cube.specs.Refusal.{Test, first}
-use Rattle.cube.specs.Refused.{answered, number, refusal}
+use Rattle.cube.specs.Refused.{answered, number}
 use Rattle.cube.specs.declared.refusals.Refusal.{Refusal}
-use Rattle.cube.specs.declared.refusals.Refusal.TheVariants.{
-  Dimension,
-  Length,
-  Unused,
-  Label,
-  Node,
-  Source,
-  Destination,
-  Hops,
-  Cut,
-  Group,
-  Count,
-  Address,
-  Room,
-  Text,
-  Board,
-  Network,
-  Mask,
-  Rule,
-  Job,
-}
 use Rattle.cube.specs.Tables.{highest, is_dimension}
 use Rattle.cube.proofs.Bools.{by_cases}
 use Rattle.cube.proofs.Refusal.{first_le, first_none, first_passes}
@@ -45,28 +24,6 @@ use Rattle.walk.specs.Helpers.{table_refusal, walk_asked, walk_or_refusal}
 use Rattle.walk.specs.Walk.{hops_tests, last, refused, route, row_bytes, stops, table_tests, walk_from, walk_refusal, walk_tests, walked}
 use Rattle.walk.specs.declared.Walked.{Walked}
 use Rattle.walk.proofs.Steps.{hops_within}
-
--- every refusal is that with its number
-pub refusal_of_number : (r : Refusal) → refusal (number r) ≡ r
-refusal_of_number Dimension = refl
-refusal_of_number Length = refl
-refusal_of_number Unused = refl
-refusal_of_number Label = refl
-refusal_of_number Node = refl
-refusal_of_number Source = refl
-refusal_of_number Destination = refl
-refusal_of_number Hops = refl
-refusal_of_number Cut = refl
-refusal_of_number Group = refl
-refusal_of_number Count = refl
-refusal_of_number Address = refl
-refusal_of_number Room = refl
-refusal_of_number Text = refl
-refusal_of_number Board = refl
-refusal_of_number Network = refl
-refusal_of_number Mask = refl
-refusal_of_number Rule = refl
-refusal_of_number Job = refl
 
 module _ (n j s d m room : ℕ) (lab : ℕ → ℕ) where
   abbrev wrong : Bool

@@ -8,7 +8,7 @@ use native.Mathlib.Omega.{arith}
 use lib.ListN.{get_or, length}
 use Rattle.std.specs.Prelude.{Result}
 use Rattle.cube.specs.declared.refusals.Refusal.{Refusal}
-use Rattle.cube.proofs.Refused.{accepted}
+use Rattle.cube.proofs.Refused.{accepted, passes}
 use Rattle.cube.specs.Tables.{label_in}
 use Rattle.hop.specs.Helpers.{Asked, Placed}
 use Rattle.hop.specs.declared.Decision.{Decision}
@@ -18,7 +18,7 @@ use Rattle.hop.specs.declared.Around.{Around}
 use Rattle.hop_networks.specs.Helpers.{board_refusal, decided_on, list_refusal}
 use Rattle.hop_networks.specs.Hopping.{hopped_in, lacks}
 use Rattle.hop_networks.proofs.Deciding.{decided_same}
-use Rattle.hop_networks.proofs.Refusals.{Boarded, board_good, boarded, hop_decided, hop_unboarded, hop_read, hop_unlisted, hop_unread, list_good, passes_on}
+use Rattle.hop_networks.proofs.Refusals.{Boarded, board_good, boarded, hop_decided, hop_unboarded, hop_read, hop_unlisted, hop_unread, list_good}
 use Rattle.hop_networks.proofs.hop_networks.Goals as goal
 use Rattle.hop_networks.proofs.hop_networks.Goals.{After-half-table, In_ok-board_refusal, In_ok-list_refusal}
 
@@ -46,14 +46,14 @@ answers n N j c d w g m t h same r e = e ∙ ap (λ (x : List ℕ). hopped_in n 
 pub returns-in_err-board_refusal : goal.returns-in_err-board_refusal
 unfolding lacks
 returns-in_err-board_refusal c =
-    passes_on _ _ _ c.from_residual.ensures.1 (hop_unboarded _ _ _ _ _ _ _ _ _ _ _ (sym (rw c.is_board.ensures at c.in_err-board_refusal.ensures)))
+    passes _ c.from_residual.ensures ∙ hop_unboarded _ _ _ _ _ _ _ _ _ _ _ (sym (rw c.is_board.ensures at c.in_err-board_refusal.ensures))
 
 pub list_refusal-requires : goal.list_refusal-requires
 list_refusal-requires c = (board c).small
 
 pub returns-in_err-list_refusal : goal.returns-in_err-list_refusal
 returns-in_err-list_refusal c =
-    passes_on _ _ _ c.from_residual-in_err-list_refusal.ensures.1 (hop_unlisted _ _ _ _ _ _ _ _ _ (unrefused (goal.at.returns-in_err-list_refusal c).In_ok-board_refusal) _ _ (sym c.in_err-list_refusal.ensures))
+    passes _ c.from_residual-in_err-list_refusal.ensures ∙ hop_unlisted _ _ _ _ _ _ _ _ _ (unrefused (goal.at.returns-in_err-list_refusal c).In_ok-board_refusal) _ _ (sym c.in_err-list_refusal.ensures)
 
 pub half-table-requires : goal.half-table-requires
 half-table-requires c = (asked c (board (goal.at.half-table-requires c).In_ok-board_refusal).small).halved
@@ -67,8 +67,8 @@ pub returns-in_err-around : goal.returns-in_err-around
 returns-in_err-around c =
     let g = goal.at.returns-in_err-around c in
     answers _ _ _ _ _ _ _ _ _ _ c.half-table.ensures.bytes _
-    (passes_on _ _ _ c.from_residual-in_err-around.ensures.1
-    (hop_unread _ _ _ _ _ _ _ _ _ (unrefused g.In_ok-board_refusal) (unlisted g.In_ok-list_refusal) _ (sym c.in_err-around.ensures)))
+    (passes _ c.from_residual-in_err-around.ensures
+    ∙ hop_unread _ _ _ _ _ _ _ _ _ (unrefused g.In_ok-board_refusal) (unlisted g.In_ok-list_refusal) _ (sym c.in_err-around.ensures))
 
 pub overflow_mul-here : goal.overflow_mul-here
 overflow_mul-here c = let m = board (goal.at.overflow_mul-here c).In_ok-board_refusal in omega (arith, m.network, m.few)

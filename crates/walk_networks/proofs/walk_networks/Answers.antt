@@ -1,13 +1,13 @@
 -- `walk_networks`: the board first, then what needs no label, then what the labels of the job's half refuse; then the hops are found, and written unless the
 -- walk is refused.
-use mathlib.Core.Path.{◌≡◌, refl, sym}
+use mathlib.Core.Path.{◌≡◌, refl, sym, ◌∙◌}
 use mathlib.Core.Bool.{not}
 use Prim.Native.Nat.{◌^◌, ◌<◌, ◌≤◌}
 use native.Mathlib.Omega.{arith}
 use borrow.Author.Tests.{ltb-false, not-false}
 use lib.ListN.{length}
 use Rattle.std.specs.Prelude.{Ok}
-use Rattle.cube.proofs.Refused.{accepted}
+use Rattle.cube.proofs.Refused.{accepted, passes}
 use Rattle.cube.specs.Tables.{label_in}
 use Rattle.cube.proofs.Tables.{dimension_is}
 use Rattle.jobs.specs.Jobs.{half}
@@ -17,7 +17,7 @@ use Rattle.walk.specs.Helpers.{table_refusal}
 use Rattle.blocks.specs.Board.{hops_on, last_on, most_hops}
 use Rattle.hop_networks.specs.Helpers.{board_refusal, list_refusal}
 use Rattle.hop_networks.specs.Hopping.{is_board}
-use Rattle.hop_networks.proofs.Refusals.{board_good, board_is, list_good, passes_on}
+use Rattle.hop_networks.proofs.Refusals.{board_good, board_is, list_good}
 use Rattle.walk_networks.specs.Crossing.{ended_by, too_short}
 use Rattle.walk_networks.proofs.Refusals.{made_few, unboarded, unlabelled, unlisted, unwalked, walked}
 use Rattle.walk_networks.proofs.Steps.{most_few}
@@ -63,7 +63,7 @@ found c = rw c.half-table.ensures.bytes at c.in_ok-found.ensures.answer
 pub returns-in_err-board_refusal : goal.returns-in_err-board_refusal
 returns-in_err-board_refusal c =
     let r = unboarded _ _ _ _ _ _ _ c.args.hops.now _ _ (sym (rw c.is_board.ensures at c.in_err-board_refusal.ensures)) in
-    record { answer = passes_on _ _ _ c.from_residual.ensures.1 r.0; hops = r.1 }
+    record { answer = passes _ c.from_residual.ensures ∙ r.0; hops = r.1 }
 
 pub overflow_mul-most : goal.overflow_mul-most
 overflow_mul-most c = omega (arith, small c)
@@ -79,7 +79,7 @@ unfolding too_short
 returns-in_err-list_refusal c =
     let g = goal.at.returns-in_err-list_refusal c in
     let r = unlisted _ _ _ _ _ _ _ c.args.hops.now (board g.In_ok-board_refusal) _ _ (sym c.in_err-list_refusal.ensures) in
-    record { answer = passes_on _ _ _ c.from_residual-in_err-list_refusal.ensures.1 r.0; hops = r.1 }
+    record { answer = passes _ c.from_residual-in_err-list_refusal.ensures ∙ r.0; hops = r.1 }
 
 pub half-table-requires : goal.half-table-requires
 half-table-requires c = (asked c (small (goal.at.half-table-requires c).In_ok-board_refusal)).0.halved
@@ -94,7 +94,7 @@ returns-in_err-table_refusal c =
     let g = goal.at.returns-in_err-table_refusal c in
     let r = unlabelled _ _ _ _ _ _ _ c.args.hops.now (board g.In_ok-board_refusal) (listed g.In_ok-list_refusal) _ _
     (sym (rw c.half-table.ensures.bytes at c.in_err-table_refusal.ensures)) in
-    record { answer = passes_on _ _ _ c.from_residual-in_err-table_refusal.ensures.1 r.0; hops = r.1 }
+    record { answer = passes _ c.from_residual-in_err-table_refusal.ensures ∙ r.0; hops = r.1 }
 
 pub find-requires : goal.find-requires
 find-requires c =
@@ -107,7 +107,7 @@ returns-in_err-found c =
     let g = goal.at.returns-in_err-found c in
     let w = unwalked _ _ _ _ _ _ _ c.args.hops.now (board g.In_ok-board_refusal) (listed g.In_ok-list_refusal) (labelled g.In_ok-table_refusal) _
     (rw c.half-table.ensures.bytes at c.in_err-found.ensures.answer) in
-    record { answer = passes_on _ _ _ c.from_residual-in_err-found.ensures.1 w.0; hops = w.1 }
+    record { answer = passes _ c.from_residual-in_err-found.ensures ∙ w.0; hops = w.1 }
 
 -- the hops are few enough for both lists
 pub write-requires : goal.write-requires
