@@ -55,6 +55,16 @@ fn refusal(n: usize, faults: &[u8], masks: &[u16], res: usize, row: usize) -> Re
     Ok(())
 }
 
+// Copies a table. (`copy_from_slice` here is a call of memmove, which the archive for C must not need: tests/footprint.)
+fn copy(from: &[u8], to: &mut [u8])
+    requires { length to.old ≡ length from.now }
+    ensures { to.new ≡ from.now }
+{
+    for i in 0..from.len() {
+        to[i] = from[i];
+    }
+}
+
 // Puts node k into the result, and one more than its namer w into the row, where it is not in the result yet. (C lends the two one by one, and so they go
 // from function to function: a struct of them would be no plainer, for each clause speaks of both, before and after.)
 fn put_named(k: usize, w: usize, res: &mut [u8], row: &mut [u16])
@@ -137,7 +147,7 @@ pub fn repair(
     ensures row { row.new ≡ namers_after n faults.now masks.now res.old row.old }
 {
     refusal(n, faults, masks, res.len(), row.len())?;
-    res.copy_from_slice(faults);
+    copy(faults, res);
     row.fill(0);
     let asked = Asked { n, faults, masks };
     asked.hear_all(res, row);

@@ -21,8 +21,8 @@ none c = (answered_ok _ _ _ (sym c.refusal.ensures ∙ c.in_ok-refusal.was)).0
 right : (c : In_ok-refusal) → let a = c.args in Accepted a.n a.faults.now a.masks.now (length a.res.now) (length a.row.now)
 right c = accepted _ _ _ _ _ (none c)
 
-pub copy_from_slice-requires : goal.copy_from_slice-requires
-copy_from_slice-requires c = let r = right (goal.at.copy_from_slice-requires c).In_ok-refusal in r.resulting ∙ sym r.table.sized
+pub copy-requires : goal.copy-requires
+copy-requires c = let r = right (goal.at.copy-requires c).In_ok-refusal in r.resulting ∙ sym r.table.sized
 
 pub invariant_of-asked : goal.invariant_of-asked
 invariant_of-asked c =
