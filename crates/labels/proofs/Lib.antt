@@ -1,3 +1,4 @@
 pub mod Loop
 pub mod Refusal
 pub mod Functions
+pub mod Watched

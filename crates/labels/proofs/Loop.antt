@@ -28,9 +28,9 @@ use Rattle.cube.proofs.Front.{length_tab, get_d_tab, tab_cong}
 use Rattle.rule.specs.Cabinet.{Cabinet, exchanges_of, labels_of, out, out_byte}
 use Rattle.rule.specs.Rule.{quiet, working, rounds, exchanges, safe, label_of, label}
 use Rattle.rule.proofs.Rounds.{marked_suc, newly_says, loud_le, rounds_is}
-use Rattle.passes.specs.Passes.{plain_in, fresh, ordinary, swept, settled, finished}
+use Rattle.passes.specs.Passes.{plain_in, fresh, held, ordinary, swept, settled, finished}
 use Rattle.passes.proofs.Marking.{swept_new, swept_old}
-use Rattle.passes.proofs.Standing.{marks, new, held, held_out, held_mark, held_plain, Stands, byte}
+use Rattle.passes.proofs.Standing.{marks, new, held_out, held_mark, held_plain, Stands, byte}
 use Rattle.passes.proofs.Standing.{Kind, is-out, is_mark, is_plain, kind, fresh_is, marks_are, out_is, mark_is, plain_is}
 
 -- where a turn begins: so many rounds are over, and the exchange that is counted last is under way

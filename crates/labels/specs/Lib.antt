@@ -1,1 +1,2 @@
 pub mod Labelling
+pub mod Watched

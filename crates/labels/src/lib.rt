@@ -1,11 +1,12 @@
 // Labelling: which working nodes are safe, ordinarily unsafe or strongly unsafe. Here are its refusals and its loop over the rounds; the passes that the loop
 // makes over the job's half of the lent label buffer are in the crate passes. Only `label` and its refusals know that there are two jobs: the loop is handed
-// the half of one. The refusals are lent to the crate why.
+// the half of one. The refusals and the loop are lent to the crate why, which watches a node while the rounds go on.
 #![tactic(auto)]
 
-ghost use Rattle.std.specs.Prelude.{length, ◌≡◌};
+ghost use Rattle.std.specs.Prelude.{List, ℕ, length, ◌≡◌};
 ghost use Rattle.cube.specs.Refused.{answered};
 ghost use Rattle.labels.specs.Labelling.{label_refusal, labelled, labels_after};
+ghost use Rattle.labels.specs.Watched.{looked_all};
 ghost use Rattle.passes.specs.Passes.{Sized};
 ghost use Rattle.rule.specs.Cabinet.{cabinet, exchanges_of, is_rule, labels_of};
 
@@ -53,12 +54,45 @@ pub fn label_refusal(
     Ok(())
 }
 
-// Labels every node of an accepted cabinet in the half of its job, and answers the number of exchanges: each sweep is one, and the last is the first that
-// marks nothing new.
-fn label_nodes(rule: Rule, tables: Tables, labels: &mut [u8]) -> usize
-    requires { Sized tables.n labels.old }
+// Who watches labelling. In each round that marks something new it looks at the label table, once the round's marks are in it and before the round ends.
+pub trait Watch {
+    // What it is once it has looked at this table, in the round of this number.
+    ghost after: { Self → List ℕ → ℕ → Self };
+
+    // That it can look at a table of so many labels.
+    ghost fits: { Self → ℕ → Type 0 };
+
+    fn look(&mut self, labels: &[u8], round: usize)
+        requires { fits self.old (length labels.now) }
+        ensures { self.new ≡ after self.old labels.now round };
+
+    ghost still_fits: { (w : Self) (l : List ℕ) (r m : ℕ) → fits w m → fits (after w l r) m };
+}
+
+// Nobody watches.
+impl Watch for () {
+    ghost after = { λ w l r. w };
+
+    ghost fits = { λ w m. Unit };
+
+    fn look(&mut self, _labels: &[u8], _round: usize) {}
+
+    ghost still_fits = { λ w l r m f. f };
+}
+
+// Labels every node of an accepted cabinet in the half of its job, under the eyes of a watcher, and answers the number of exchanges: each sweep is one, and the
+// last is the first that marks nothing new.
+pub fn label_nodes<W: Watch>(
+    rule: Rule,
+    tables: Tables,
+    watcher: &mut W,
+    labels: &mut [u8],
+) -> usize
+    requires sized { Sized tables.n labels.old }
+    requires fits { W.fits watcher.old (length labels.old) }
     ensures exchanges { let t = tables.entry in result ≡ exchanges_of (cabinet t.n rule.number t.faults.now t.draining.now t.closed.now) }
     ensures labels { let t = tables.entry in labels.new ≡ labels_of (cabinet t.n rule.number t.faults.now t.draining.now t.closed.now) }
+    ensures watcher { let t = tables.entry in watcher.new ≡ looked_all W.after (cabinet t.n rule.number t.faults.now t.draining.now t.closed.now) watcher.old }
 {
     let Tables {
         n,
@@ -69,6 +103,7 @@ fn label_nodes(rule: Rule, tables: Tables, labels: &mut [u8]) -> usize
     tables.start(labels);
     let mut exchanges = 1;
     while sweep(n, rule, labels) != 0 {
+        watcher.look(labels, exchanges);
         settle(labels);
         exchanges += 1;
     }
@@ -102,6 +137,6 @@ pub fn label(
         draining,
         closed,
     };
-    let exchanges = label_nodes(rule, tables, &mut labels[from..to]);
+    let exchanges = label_nodes(rule, tables, &mut (), &mut labels[from..to]);
     Ok(exchanges)
 }

@@ -1,5 +1,5 @@
 -- The passes as they are seen from outside, each with the claims that the check makes of its clauses, and what its contract says: the answer, and what is
--- left of what was lent, for whatever is handed. Each goes over the half of one job, and is lent to the crates labels and why. `settle` alone asks nothing of
+-- left of what was lent, for whatever is handed. Each goes over the half of one job, and is lent to the crate labels. `settle` alone asks nothing of
 -- its caller.
 use mathlib.Core.Bool.{cond, ◌||◌}
 use mathlib.Core.List.{List}

@@ -2,7 +2,7 @@
 -- apart, so a sweep of the table marks what the next round of the definition marks.
 use mathlib.Core.Path.{◌≡◌, refl, sym, ap, ap₂, ◌∙◌, subst}
 use mathlib.Core.Logic.{◌⊎◌, inl, inr}
-use mathlib.Core.Bool.{Bool, true, false, cond, not, ◌&&◌, ◌||◌}
+use mathlib.Core.Bool.{Bool, true, false, not, ◌&&◌, ◌||◌}
 use mathlib.Core.List.{List}
 use Prim.Native.Nat.{ℕ, ◌^◌, ◌<◌}
 use native.Mathlib.Omega.{arith}
@@ -18,7 +18,7 @@ use Rattle.cube.proofs.Front.{length_tab, get_d_tab, tab_cong}
 use Rattle.rule.specs.Cabinet.{Cabinet, out}
 use Rattle.rule.specs.Rule.{meets, newly, marked, quiet}
 use Rattle.rule.proofs.Rounds.{meets_same, marked_zero, marks_work}
-use Rattle.passes.specs.Passes.{Kept, KeptByte, kept_plain, kept_mark, kept_out, out_in, mark_in, plain_in, fresh, started}
+use Rattle.passes.specs.Passes.{Kept, KeptByte, kept_plain, kept_mark, kept_out, out_in, mark_in, plain_in, fresh, held, started}
 
 -- the marks after r rounds, and what the next round adds
 abbrev pub marks : (K : Cabinet) (r x : ℕ) → Bool
@@ -26,10 +26,6 @@ marks K = marked K.n K.rule (out K)
 
 abbrev pub new : (K : Cabinet) (r x : ℕ) → Bool
 new K r = newly K.n K.rule (out K) (marks K r)
-
--- the byte of x after r rounds
-unfoldable pub held : (K : Cabinet) (r x : ℕ) → ℕ
-held K r x = cond (out K x) 3 (cond (marks K r x) 2 0)
 
 pub record Stands (K : Cabinet) (l : List ℕ) (r : ℕ) : Type 0 where
   pub table : l ≡ tab (2 ^ K.n) (held K r)

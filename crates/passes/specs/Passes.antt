@@ -5,7 +5,8 @@ use Rattle.std.specs.Prelude.{Bool, cond, ◌&&◌, List, ◌≡◌, ℕ, ◌^�
 use Rattle.cube.specs.Count.{some}
 use Rattle.cube.specs.Cube.{flip}
 use Rattle.cube.specs.Tables.{label_in}
-use Rattle.rule.specs.Rule.{meets}
+use Rattle.rule.specs.Cabinet.{Cabinet, out}
+use Rattle.rule.specs.Rule.{marked, meets}
 
 -- l is a table of an n-cube; x is a node of it: what the functions inside the crate may assume
 pub record Sized (n : ℕ) (l : List ℕ) : Type 0 where
@@ -44,6 +45,10 @@ fresh n k l x = plain_in l x && meets n k (out_in l) (mark_in l) x
 -- x is marked and has a neighbour without a mark
 unfoldable pub ordinary : (n : ℕ) (l : List ℕ) (x : ℕ) → Bool
 ordinary n l x = mark_in l x && some n (λ i. plain_in l (flip i x))
+
+-- the byte of x after r rounds of the cabinet K
+unfoldable pub held : (K : Cabinet) (r x : ℕ) → ℕ
+held K r x = cond (out K x) 3 (cond (marked K.n K.rule (out K) r x) 2 0)
 
 -- ---- the passes
 

@@ -2,7 +2,7 @@
 // lent label table itself, by the bytes PLAIN, MARKED, OUT and NEW. A byte is what its node weighs in the test of a neighbour: 0, 2 or 3, and NEW weighs
 // nothing in the low seven bits, where the test looks. The last pass tells ORDINARY from MARKED and DRAINING from OUT; PLAIN, MARKED and OUT stay as safe,
 // strongly unsafe and faulty. A node that the job closes is faulty here. The passes are handed the half of one job and know of no other; they are lent to
-// the crate labels, and to the crate why, which watches one node between them.
+// the crate labels. The nodes are lent to the crate why too.
 #![tactic(auto)]
 
 ghost use Rattle.std.specs.Prelude.{◌/◌, ◌<◌, ◌≤◌, ◌^◌, eqb, length, cond, ◌||◌, ◌≡◌};

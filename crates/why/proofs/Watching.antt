@@ -5,11 +5,11 @@ use mathlib.Core.Path.{◌≡◌, refl, sym, ap, ◌∙◌}
 use mathlib.Core.Logic.{⊎_elim}
 use mathlib.Core.Bool.{Bool, true, false, ◌||◌}
 use mathlib.Core.List.{List}
-use Prim.Native.Nat.{ℕ, ◌+◌, ◌^◌, ◌≤◌, ◌<◌}
+use Prim.Native.Nat.{ℕ, zero, suc, ◌+◌, ◌^◌, ◌≤◌, ◌<◌}
 use native.Mathlib.Numerals.{add-one}
 use native.Mathlib.Omega.{arith}
 use lib.Dec.{eqb}
-use borrow.Author.Tests.{eq-eqb, ne_eqb}
+use borrow.Author.Tests.{eq-eqb, eqb-false, ne_eqb}
 use Rattle.cube.specs.Count.{count}
 use Rattle.cube.specs.Cube.{flip}
 use Rattle.cube.specs.Tables.{label_in, tab}
@@ -17,20 +17,17 @@ use Rattle.cube.proofs.Bools.{clash, either, or_none, or_right}
 use Rattle.cube.proofs.Cube.{flip_lt}
 use Rattle.rule.specs.Cabinet.{Cabinet, out}
 use Rattle.rule.specs.Rule.{quiet, rounds}
-use Rattle.rule.proofs.Rounds.{marked_suc, marked_zero, rest}
+use Rattle.rule.proofs.Rounds.{marked_suc, marked_zero, rest, rounds_first}
 use Rattle.causes.specs.Cause.{cause_of, cause_with, earlier, round_of}
 use Rattle.causes.proofs.Causes.{cause_same, earlier_is}
-use Rattle.passes.specs.Passes.{fresh, mark_in, out_in, swept}
+use Rattle.passes.specs.Passes.{fresh, held, mark_in, out_in, swept}
 use Rattle.passes.proofs.Marking.{swept_alike, swept_new, swept_old}
-use Rattle.passes.proofs.Standing.{Kind, Stands, fresh_is, is_mark, is-out, is_plain, kind, mark_is, marks, new, out_is}
-use Rattle.labels.proofs.Loop.{Turn, end_rounds, still_loud, swept_byte}
+use Rattle.passes.proofs.Standing.{Kind, Stands, fresh_is, is_mark, is-out, is_plain, kind, mark_is, marks, marks_are, new, out_is}
+use Rattle.labels.specs.Watched.{looked, round_table}
+use Rattle.labels.proofs.Loop.{still_loud, swept_byte}
 use Rattle.std.specs.Prelude.{Some, None}
 use Rattle.why.specs.Helpers.{Watched, watched_after, watched_of, watched_on}
-
--- where a turn of the loop begins
-pub record Watch (K : Cabinet) (x : ℕ) (l : List ℕ) (w : Watched) (round : ℕ) : Type 0 where
-  pub turn : Turn K l round
-  pub seen : w ≡ watched_after K x turn.over
+use Rattle.why.specs.declared.Watcher.{Watcher}
 
 -- no more rounds were loud than mark something new
 loud_few : (n k : ℕ) (F : ℕ → Bool) (r : ℕ) → ((j : ℕ) → j < r → quiet n k F j ≡ false) → r ≤ rounds n k F
@@ -116,7 +113,44 @@ module _ (K : Cabinet) (l : List ℕ) (r : ℕ) (T : Stands K l r) where
             ⊎_elim (λ (t : new K r x ≡ true). at ∙ seen_now t w ∙ sym (to_see t)) (λ (t : new K r x ≡ false). at ∙ not_seen t w ∙ ew ∙ sym (as_before t))
             (either (new K r x))
 
-    -- where the sweep marked nothing, all was seen
-    pub watched_all : m ≡ 0 → (x : ℕ) (w : Watched) → w ≡ watched_after K x r → w ≡ watched_of K x
-    unfolding watched_of
-    watched_all none x w e = e ∙ ap (watched_after K x) (sym (end_rounds K l r T m l₁ em e₁ none))
+-- ---- the watcher
+
+-- what it is once it has looked at a table, and after r rounds
+abbrev after : (w : Watcher) (l : List ℕ) (round : ℕ) → Watcher
+after w l round = record { n = w.n; rule = w.rule; x = w.x; seen = watched_on w.n w.rule l w.x round w.seen }
+
+abbrev watching : (n rule x : ℕ) (seen : Watched) → Watcher
+watching n rule x seen = record { n = n; rule = rule; x = x; seen = seen }
+
+module _ (K : Cabinet) (x : ℕ) (hx : x < 2 ^ K.n) where
+  abbrev last : ℕ
+  last = rounds K.n K.rule (out K)
+
+  abbrev table : ℕ → List ℕ
+  table r = tab (2 ^ K.n) (held K r)
+
+  stands : (r : ℕ) → r ≤ last → Stands K (table r) r
+  stands r h = record { table = refl; loud = λ j m. rounds_first K.n K.rule (out K) j (omega arith) }
+
+  marks_some : (r : ℕ) → r < last → count (2 ^ K.n) (fresh K.n K.rule (table r)) ≡ 0 → ⊥
+  unfolding quiet
+  marks_some r h z =
+      let T : Stands K (table r) r = stands r (omega arith) in
+      eqb-false _ 0 (rounds_first K.n K.rule (out K) r h) (sym (marks_are K (table r) r T) ∙ z)
+
+  watches_next : (r : ℕ) → r < last → watched_on K.n K.rule (round_table K r) x (r + 1) (watched_after K x r) ≡ watched_after K x (r + 1)
+  unfolding round_table
+  watches_next r h =
+      watched_next K (table r) r (stands r (omega arith)) _ (round_table K r) refl refl x hx (marks_some r h) (r + 1) (watched_after K x r) _ refl refl refl
+
+  watches : (r : ℕ) → r ≤ last → looked after K (watching K.n K.rule x None) r ≡ watching K.n K.rule x (watched_after K x r)
+  unfolding looked
+  watches zero h = ap (watching K.n K.rule x) (watched_first K x)
+  watches (suc r) h =
+      ap (λ (w : Watcher). after w (round_table K r) (r + 1)) (watches r (omega arith))
+      ∙ ap (watching K.n K.rule x) (watches_next r (omega arith) ∙ ap (watched_after K x) (add-one r))
+
+  -- after all of them it has seen all
+  pub watches_all : looked after K (watching K.n K.rule x None) last ≡ watching K.n K.rule x (watched_of K x)
+  unfolding watched_of
+  watches_all = watches last (omega arith)

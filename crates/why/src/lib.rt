@@ -1,9 +1,9 @@
-// The two questions that say why. `why_node` labels the nodes as labelling does, by the same passes, and watches one node: when a round marks it, the marks of
-// the earlier rounds are still in the table, and the node's cause is read from them. `why_hop` makes the tests and the scans of a hop, and answers which scan
+// The two questions that say why. `why_node` labels the nodes by labelling's own loop, and watches one node: when a round marks it, the marks of the earlier
+// rounds are still in the table, and the node's cause is read from them. `why_hop` makes the tests and the scans of a hop, and answers which scan
 // took it. Both take any numbers and bytes, and test them; what reads labels is handed the job's half alone.
 #![tactic(auto)]
 
-ghost use Rattle.std.specs.Prelude.{◌&&◌, ◌||◌, eqb, leb, length, ◌≡◌};
+ghost use Rattle.std.specs.Prelude.{◌<◌, ◌≤◌, ◌^◌, ◌&&◌, ◌||◌, eqb, leb, length, ◌≡◌};
 ghost use Rattle.cube.specs.Refused.{answered};
 ghost use Rattle.causes.specs.Cause.{bad_cause, cause_with, from};
 ghost use Rattle.cube.specs.Count.{count};
@@ -21,8 +21,8 @@ use cube::nodes;
 use cube::refusals::Refusal;
 use hop::{at_node, chosen, place_refusal};
 use jobs::half;
-use labels::label_refusal;
-use passes::{Faulty, MARKED, NEW, Node, OUT, Rule, Tables, settle, sweep};
+use labels::{Watch, label_nodes, label_refusal};
+use passes::{MARKED, NEW, Node, OUT, Rule, Tables};
 
 // Why a node has its label.
 #[derive(Drop)]
@@ -86,19 +86,33 @@ fn cause(rule: usize, node: Node) -> Cause
     bad_cause(rule, node)
 }
 
-// What is seen of a node once this round has marked its nodes, and before they are settled: the round that marked it, and its cause.
-fn watch(
+// Who watches node x of an n-cube while it is labelled by a rule: what it has seen is the round that marked x, and x's cause.
+#[derive(Drop)]
+struct Watcher {
+    n: usize,
     rule: usize,
-    node: Node,
-    round: usize,
-    before: Option<(usize, Cause)>,
-) -> Option<(usize, Cause)>
-    ensures { result ≡ watched_on node.entry.n rule node.entry.labels.now node.entry.x round before }
-{
-    if node.label() == NEW {
-        return Some((round, cause(rule, node)));
+    x: usize,
+    seen: Option<(usize, Cause)>,
+}
+
+impl Watch for Watcher {
+    ghost after = { λ w l r. record { n = w.n; rule = w.rule; x = w.x; seen = watched_on w.n w.rule l w.x r w.seen } };
+
+    ghost fits = { λ w m. (w.n ≤ 12) × ((m ≡ 2 ^ w.n) × (w.x < 2 ^ w.n)) };
+
+    // The marks of this round are in the table, and those of the earlier rounds are still told from them.
+    fn look(&mut self, labels: &[u8], round: usize) {
+        let node = Node {
+            n: self.n,
+            labels,
+            x: self.x,
+        };
+        if node.label() == NEW {
+            self.seen = Some((round, cause(self.rule, node)));
+        }
     }
-    before
+
+    ghost still_fits = { λ w l r m f. f };
 }
 
 // How many of a node's neighbours have a label of at least low.
@@ -143,33 +157,20 @@ fn label_watching(rule: Rule, tables: Tables, x: usize, labels: &mut [u8]) -> No
     ensures answer { let t = tables.entry in result ≡ reason_of (cabinet t.n rule.number t.faults.now t.draining.now t.closed.now) x }
     ensures labels { let t = tables.entry in labels.new ≡ labels_of (cabinet t.n rule.number t.faults.now t.draining.now t.closed.now) }
 {
-    let Tables {
+    let n = tables.n;
+    let mut watcher = Watcher {
         n,
-        faults,
-        closed,
-        ..
-    } = tables;
-    tables.start(labels);
-    let mut watched = None;
-    let mut round = 1;
-    while sweep(n, rule, labels) != 0 {
-        let node = Node {
-            n,
-            labels: &labels[..],
-            x,
-        };
-        watched = watch(rule.number, node, round, watched);
-        settle(labels);
-        round += 1;
-    }
-    let faulty = Faulty { n, faults, closed };
-    faulty.finish(labels);
+        rule: rule.number,
+        x,
+        seen: None,
+    };
+    let _ = label_nodes(rule, tables, &mut watcher, labels);
     let node = Node {
         n,
         labels: &labels[..],
         x,
     };
-    reason(node, watched)
+    reason(node, watcher.seen)
 }
 
 // The refusals: those of labelling, then that of the node.

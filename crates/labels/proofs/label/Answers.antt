@@ -49,9 +49,9 @@ invariant_of-tables c =
     let f = fit (goal.at.invariant_of-tables c).In_ok-label_refusal in
     record { faults_len = f.faults; draining_len = f.draining; closed_len = f.closed }
 
-pub label_nodes-exchanges-requires : goal.label_nodes-exchanges-requires
-label_nodes-exchanges-requires c =
-    let f = fit (goal.at.label_nodes-exchanges-requires c).In_ok-label_refusal in
+pub label_nodes-exchanges-requires-clause-sized : goal.label_nodes-exchanges-requires-clause-sized
+label_nodes-exchanges-requires-clause-sized c =
+    let f = fit (goal.at.label_nodes-exchanges-requires-clause-sized c).In_ok-label_refusal in
     record {
       small = f.halved.small;
       sized = ap length (part_is_half _ _ _ c.nodes-size.ensures _) ∙ halved_long _ _ _ f.halved;
