@@ -39,33 +39,34 @@ fn pack(refusal: u32, kind: u32, value: usize) -> u32
     refusal * 16777216 + kind * 65536 + value as u32
 }
 
-// That of a refusal, of kind 0 and with a value: the place in a notice, and else 0.
-fn refuse(refusal: Refusal, value: usize) -> u32
-    requires { value < 65536 }
-    ensures { result ≡ packed (number refusal) 0 value }
+// That of a refusal, of kind 0 and with a value: the place in a notice.
+fn refuse_at(refusal: Refusal, at: usize) -> u32
+    requires { at < 65536 }
+    ensures { result ≡ packed (number refusal) 0 at }
 {
-    pack(u32::from(refusal), 0, value)
+    pack(u32::from(refusal), 0, at)
 }
 
-// What is answered with a number of kind 0: exchanges, or the length of what was written.
-fn pack_value(answer: Result<usize, Refusal>) -> u32
-    requires { value_in answer < 65536 }
-    ensures { result ≡ written_number answer }
+// That of a refusal without a place.
+fn refuse(refusal: Refusal) -> u32
+    ensures { result ≡ packed (number refusal) 0 0 }
 {
-    match answer {
-        Ok(value) => pack(0, 0, value),
-        Err(refusal) => refuse(refusal, 0),
-    }
+    refuse_at(refusal, 0)
+}
+
+// What is answered by one number alone: exchanges, or the length of what was written.
+fn pack_value(value: usize) -> u32
+    requires { value < 65536 }
+    ensures { result ≡ packed 0 0 value }
+{
+    pack(0, 0, value)
 }
 
 // What is answered with nothing else.
 fn pack_done(answer: Result<(), Refusal>) -> u32
     ensures { result ≡ done_number (refused answer) }
 {
-    match answer {
-        Ok(()) => 0,
-        Err(refusal) => refuse(refusal, 0),
-    }
+    answer.map_or_else(refuse, |()| 0)
 }
 
 // Labels every node by the rule, for a job: the number of exchanges, or the refusal, which leaves the labels as they were.
@@ -91,7 +92,7 @@ pub extern "C" fn hcube_label(
         closed,
         labels,
     );
-    pack_value(answer)
+    answer.map_or_else(refuse, pack_value)
 }
 
 // A decision by its kind and value.
@@ -106,24 +107,13 @@ fn pack_decision(x: Decision) -> u32
     }
 }
 
-// What a hop answers.
-fn pack_hop(answer: Result<Decision, Refusal>) -> u32
-    requires { HopFits answer }
-    ensures { result ≡ hop_number answer }
-{
-    match answer {
-        Ok(x) => pack_decision(x),
-        Err(refusal) => refuse(refusal, 0),
-    }
-}
-
 // Decides one hop at c for d, by the labels of a job.
 #[unsafe(no_mangle)]
 pub extern "C" fn hcube_hop(n: u32, job: u32, c: u32, d: u32, labels: &[u8]) -> u32
     ensures { result ≡ hop_number (hopped n job c d (length labels.now) (label_for n job labels.now)) }
 {
     let answer = hop::hop(n as usize, job as usize, c as usize, d as usize, labels);
-    pack_hop(answer)
+    answer.map_or_else(refuse, pack_decision)
 }
 
 // Byte k of a row, two bytes a node, low byte first.
@@ -154,7 +144,7 @@ fn pack_walk(walked: Walked) -> u32
     match ending {
         Ending::Delivered => pack(0, 0, hops),
         Ending::Halted => pack(0, 1, hops),
-        Ending::Refused(refusal) => refuse(refusal, hops),
+        Ending::Refused(refusal) => refuse_at(refusal, hops),
     }
 }
 
@@ -219,18 +209,17 @@ pub extern "C" fn hcube_hop_networks(
         down as usize,
         labels,
     );
-    pack_hop(answer)
+    answer.map_or_else(refuse, pack_decision)
 }
 
-// What a walk by networks answers: how it ended and its hop count.
-fn pack_crossed(answer: Result<Crossed, Refusal>) -> u32
-    requires { CrossedFits answer }
-    ensures { result ≡ crossed_number answer }
+// A walk by networks by how it ended and its hop count.
+fn pack_crossed(crossed: Crossed) -> u32
+    requires { CrossedFits (Ok crossed) }
+    ensures { result ≡ crossed_number (Ok crossed) }
 {
-    match answer {
-        Ok(Crossed::Delivered(hops)) => pack(0, 0, hops),
-        Ok(Crossed::Halted(hops)) => pack(0, 1, hops),
-        Err(refusal) => refuse(refusal, 0),
+    match crossed {
+        Crossed::Delivered(hops) => pack(0, 0, hops),
+        Crossed::Halted(hops) => pack(0, 1, hops),
     }
 }
 
@@ -257,7 +246,7 @@ pub extern "C" fn hcube_walk_networks(
         labels,
         hops,
     );
-    pack_crossed(answer)
+    answer.map_or_else(refuse, pack_crossed)
 }
 
 // The number of a node's reason: the label is the kind and the round the value, and above stand the cause and what goes with it.
@@ -328,10 +317,7 @@ pub extern "C" fn hcube_why_node(
         closed,
         labels,
     );
-    match answer {
-        Ok(reason) => pack_node(reason),
-        Err(refusal) => refuse(refusal, 0) as u64,
-    }
+    answer.map_or_else(|refusal| refuse(refusal) as u64, pack_node)
 }
 
 // The number of a hop's reason: its scan and its dimension are the value.
@@ -352,10 +338,7 @@ pub extern "C" fn hcube_why_hop(n: u32, job: u32, c: u32, d: u32, labels: &[u8])
     ensures { result ≡ hop_reason_number (hop_reason n job c d (length labels.now) (label_for n job labels.now)) }
 {
     let answer = why::why_hop(n as usize, job as usize, c as usize, d as usize, labels);
-    match answer {
-        Ok(reason) => pack_scan(reason),
-        Err(refusal) => refuse(refusal, 0),
-    }
+    answer.map_or_else(refuse, pack_scan)
 }
 
 // The dimension of the notice at the front of the bytes, or the refusal with its place.
@@ -366,7 +349,7 @@ pub extern "C" fn hcube_notice_dimension(bytes: &[u8]) -> u32
     let answer = notice::dimension(bytes);
     match answer {
         Ok((n, _)) => pack(0, 0, n),
-        Err((refusal, at)) => refuse(refusal, at),
+        Err((refusal, at)) => refuse_at(refusal, at),
     }
 }
 
@@ -389,7 +372,7 @@ pub extern "C" fn hcube_read_notice(bytes: &[u8], faults: &mut [u8]) -> u64
     let answer = notice::read(bytes, faults);
     match answer {
         Ok(notice) => pack_notice(notice),
-        Err((refusal, at)) => refuse(refusal, at) as u64,
+        Err((refusal, at)) => refuse_at(refusal, at) as u64,
     }
 }
 
@@ -400,7 +383,7 @@ pub extern "C" fn hcube_write_notice(n: u32, faults: &[u8], out: &mut [u8]) -> u
     ensures out { out.new ≡ buffer_after n faults.now out.old }
 {
     let answer = writer::write(n as usize, faults, out);
-    pack_value(answer)
+    answer.map_or_else(refuse, pack_value)
 }
 
 // Reads a list text into the fault table: 0, or the refusal, which leaves the table as it was.
@@ -420,7 +403,7 @@ pub extern "C" fn hcube_write_list(n: u32, faults: &[u8], out: &mut [u8]) -> u32
     ensures out { out.new ≡ list_after n faults.now out.old }
 {
     let answer = list_writer::write(n as usize, faults, out);
-    pack_value(answer)
+    answer.map_or_else(refuse, pack_value)
 }
 
 // Repairs a fault table by what its working nodes find dead: 0, or the refusal, which leaves the result and the row as they were.

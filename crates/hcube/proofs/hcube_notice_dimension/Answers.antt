@@ -7,5 +7,5 @@ use Rattle.hcube.proofs.hcube_notice_dimension.Goals as goal
 pub pack-requires : goal.pack-requires
 pack-requires c = (omega arith, (omega arith, dimension_small _ _ (sym c.in-Ok.ensures)))
 
-pub refuse-requires : goal.refuse-requires
-refuse-requires c = dimension_small _ _ (sym c.in-Err.ensures)
+pub refuse_at-requires : goal.refuse_at-requires
+refuse_at-requires c = dimension_small _ _ (sym c.in-Err.ensures)

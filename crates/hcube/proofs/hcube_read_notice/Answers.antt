@@ -10,5 +10,5 @@ pack_notice-requires c =
     let p = parts _ _ _ _ _ (sym c.in-Ok.ensures.answer) in
     (p.dimension, (p.count, p.short))
 
-pub refuse-requires : goal.refuse-requires
-refuse-requires c = omega (arith, (refused_notice _ _ _ _ (sym c.in-Err.ensures.answer)).near)
+pub refuse_at-requires : goal.refuse_at-requires
+refuse_at-requires c = omega (arith, (refused_notice _ _ _ _ (sym c.in-Err.ensures.answer)).near)
