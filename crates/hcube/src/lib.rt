@@ -124,7 +124,7 @@ fn row_byte(row: &[u16; 17], k: usize) -> u8
     row[k / 2].to_le_bytes()[k % 2]
 }
 
-// All 34 bytes of a row.
+// All 34 bytes of a row. (With `out: &mut [u8; 34]` it is no plainer: `write_row` would test a length that its `requires` gives.)
 fn put_row(row: &[u16; 17], out: &mut [u8])
     requires { length out.old ≡ row_bytes }
     ensures { out.new ≡ tab row_bytes (row_byte row.now) }
@@ -250,6 +250,7 @@ pub extern "C" fn hcube_walk_networks(
 }
 
 // The number of a node's reason: the label is the kind and the round the value, and above stand the cause and what goes with it.
+// (A struct of the six is no plainer: each is used here alone, and at five calls its literal would take six lines for one.)
 fn pack_reason(
     label: u8,
     round: usize,
