@@ -49,7 +49,8 @@ fn counts(label: u8, marks: bool) -> bool
     (label == OUT) | (marks & (label == MARKED))
 }
 
-// The lowest dimension from i on across which the node has a neighbour that counts; n where there is none.
+// The lowest dimension from i on across which the node has a neighbour that counts; n where there is none. It stays a loop: the closure of a `find` needs a
+// `requires` of its own for `near`, and the whole is longer. `marks` stays a flag: it is a part of the one test, and closures in its place need a contract each.
 fn next_from(node: Node, marks: bool, i: usize) -> usize
     ensures { result ≡ from node.entry.n (λ k. counted node.entry.labels.now marks (flip k node.entry.x)) i }
 {
@@ -115,7 +116,7 @@ impl Watch for Watcher {
     ghost still_fits = { λ w l r m f. f };
 }
 
-// How many of a node's neighbours have a label of at least low.
+// How many of a node's neighbours have a label of at least low. It stays a loop for the reason that `next_from` does.
 fn labelled_from(node: Node, low: u8) -> usize
     ensures { result ≡ count node.entry.n (λ i. leb low (label_in node.entry.labels.now (flip i node.entry.x))) }
 {
