@@ -50,8 +50,8 @@ use Rattle.promises.proofs.InRattle.{in_rattle}
 use Rattle.promises.proofs.Jobs.{c_jobs, rattle_jobs}
 use Rattle.promises.proofs.Refusals.{refusals}
 use Rattle.promises.proofs.Seen.{as_seen}
-use Rattle.promises.proofs.Settled.{settled, unasked}
-use Rattle.promises.proofs.Tied.{all_tied, in_order}
+use Rattle.promises.proofs.Settled.{settled, unasked, watched}
+use Rattle.promises.proofs.Tied.{all_tied, in_order, tied_watched}
 use Rattle.promises.proofs.Why.{c_whys, rattle_whys}
 use Rattle.promises.proofs.Worked.{worked}
 use Rattle.promises.proofs.Writes.{c_writes, rattle_writes}
@@ -67,7 +67,9 @@ promises =
       tied = all_tied;
       in_order = in_order;
       as_seen = as_seen;
+      tied_watched = tied_watched;
       settled = settled;
+      watched = watched;
       unasked = unasked;
       rattle_answers = rattle_answers;
       c_answers = c_answers;

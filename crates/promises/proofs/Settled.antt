@@ -1,4 +1,7 @@
 -- Each contract gives the answer and what is left as functions of what is handed (the `says` of each crate's Functions), so it settles both.
+use denote.Param.Laws.{Laws}
+use denote.RattleType.{RattleType}
+use mir.Syntax.{Dict}
 use Rattle.cube.proofs.Contracts.{settles}
 use Rattle.cube.proofs.Functions as cube
 use Rattle.groups.proofs.Functions as groups
@@ -7,6 +10,7 @@ use Rattle.reader.proofs.Functions as reader
 use Rattle.jobs.proofs.Functions as jobs
 use Rattle.passes.proofs.Functions as passes
 use Rattle.labels.proofs.Functions as labels
+use Rattle.labels.specs.declared.Watch.{Ghosts}
 use Rattle.hop.proofs.Functions as hop
 use Rattle.walk.proofs.Functions as walk
 use Rattle.hop_networks.proofs.Functions as hop_networks
@@ -18,7 +22,7 @@ use Rattle.list_writer.proofs.Functions as list_writer
 use Rattle.repair.proofs.Functions as repair
 use Rattle.counters.proofs.Functions as counters
 use Rattle.hcube.proofs.Functions as hcube
-use Rattle.promises.specs.Settled.{Settled, Unasked}
+use Rattle.promises.specs.Settled.{Settled, Unasked, Watched}
 
 pub settled : Settled
 settled =
@@ -87,11 +91,15 @@ settled =
       cube_neighbour = settles cube.neighbour_says;
       cube_table_len = settles cube.table_len_says;
       cube_node_bit = settles cube.node_bit_says;
+      cube_has = settles cube.has_says;
       cube_unused_set = settles cube.unused_set_says;
       jobs_label_bytes = settles jobs.label_bytes_says;
       notice_set_bit = settles notice.set_bit_says;
       jobs_half = settles jobs.half_says;
     }
+
+pub watched : (W : RattleType) (laws : Laws W) (G : Ghosts W.Denot) (dict : Dict) → Watched W laws G dict
+watched W laws G dict = record { labels_label_nodes = settles (labels.label_nodes_says W laws G dict) }
 
 pub unasked : Unasked
 unasked =

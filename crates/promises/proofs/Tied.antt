@@ -1,9 +1,13 @@
 -- Each is the same by its text.
 use mathlib.Core.Path.{refl}
 use borrow.Fn.World.{w₀}
+use denote.Param.Laws.{Laws}
+use denote.RattleType.{RattleType}
+use mir.Syntax.{Dict}
+use Rattle.labels.specs.declared.Watch.{Ghosts}
 use Rattle.reader.proofs.Functions as reader
 use Rattle.promises.specs.Handed.{InOrder}
-use Rattle.promises.specs.Tied.{AllTied}
+use Rattle.promises.specs.Tied.{AllTied, TiedWatched}
 use Rattle.promises.specs.TiedNetworks.{NetworksTied}
 
 networks_tied : NetworksTied
@@ -79,11 +83,15 @@ all_tied =
       cube_neighbour = record { clauses = λ w. refl; asked = refl; post = refl };
       cube_table_len = record { clauses = λ w. refl; asked = refl; post = refl };
       cube_node_bit = record { clauses = λ w. refl; asked = refl; post = refl };
+      cube_has = record { clauses = λ w. refl; asked = refl; post = refl };
       cube_unused_set = record { clauses = λ w. refl; asked = refl; post = refl };
       jobs_is_job = record { clauses = λ w. refl; asked = refl; post = refl };
       jobs_label_bytes = record { clauses = λ w. refl; asked = refl; post = refl };
       jobs_half = record { clauses = λ w. refl; asked = refl; post = refl };
     }
+
+pub tied_watched : (W : RattleType) (laws : Laws W) (G : Ghosts W.Denot) (dict : Dict) → TiedWatched W laws G dict
+tied_watched W laws G dict = record { labels_label_nodes = record { clauses = λ w. refl; asked = refl; post = refl } }
 
 pub in_order : InOrder
 in_order =

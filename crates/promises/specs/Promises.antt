@@ -1,4 +1,7 @@
 -- All that is promised of the library, in one record: if this is proved, each statement that it names is.
+use denote.Param.Laws.{Laws}
+use denote.RattleType.{RattleType}
+use mir.Syntax.{Dict}
 use Rattle.std.specs.Prelude.{Bool, ℕ, ◌^◌, ◌≤◌, ◌<◌}
 use Rattle.cube.specs.Laws.{CubeLaws}
 use Rattle.jobs.specs.Laws.{JobLaws}
@@ -8,6 +11,7 @@ use Rattle.reader.specs.Laws.{ReaderLaws}
 use Rattle.spelling.specs.Laws.{SpellingLaws}
 use Rattle.ranges.specs.Laws.{RangesLaws}
 use Rattle.repair.specs.Laws.{RepairLaws}
+use Rattle.labels.specs.declared.Watch.{Ghosts}
 use Rattle.rule.specs.Cabinet.{Cabinet, exchanges_of}
 use Rattle.rule.specs.Closed.{Largest}
 use Rattle.rule.specs.Exchanges.{Exchanges}
@@ -51,9 +55,9 @@ use Rattle.promises.specs.Jobs.{Jobs}
 use Rattle.promises.specs.Library as library
 use Rattle.promises.specs.Refusals.{Refusals}
 use Rattle.promises.specs.Seen.{AsSeen}
-use Rattle.promises.specs.Settled.{Settled, Unasked}
+use Rattle.promises.specs.Settled.{Settled, Unasked, Watched}
 use Rattle.promises.specs.Handed.{InOrder}
-use Rattle.promises.specs.Tied.{AllTied}
+use Rattle.promises.specs.Tied.{AllTied, TiedWatched}
 use Rattle.promises.specs.Why.{Whys}
 use Rattle.promises.specs.Worked.{Worked}
 use Rattle.promises.specs.Writes.{Writes}
@@ -68,7 +72,9 @@ pub record Promises : Type 2 where
   pub tied : AllTied
   pub in_order : InOrder
   pub as_seen : AsSeen
+  pub tied_watched : (W : RattleType) (laws : Laws W) (G : Ghosts W.Denot) (dict : Dict) → TiedWatched W laws G dict
   pub settled : Settled
+  pub watched : (W : RattleType) (laws : Laws W) (G : Ghosts W.Denot) (dict : Dict) → Watched W laws G dict
   pub unasked : Unasked
   pub rattle_answers : Answers library.rattle
   pub c_answers : Answers library.c

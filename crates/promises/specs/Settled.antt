@@ -1,5 +1,8 @@
 -- Each contract settles everything (RULES, What the contracts settle): two answers that it allows are equal, and so is each lent buffer afterwards. And nothing
 -- is asked of a caller. Both are said of the claims that the check makes of the function's own clauses, for every public function of the library's crates.
+use denote.Param.Laws.{Laws}
+use denote.RattleType.{RattleType}
+use mir.Syntax.{Dict}
 use Rattle.cube.specs.Allowed.{AsksNothing, Settles}
 use Rattle.cube.proofs.Functions as cube
 use Rattle.groups.proofs.Functions as groups
@@ -8,6 +11,7 @@ use Rattle.reader.proofs.Functions as reader
 use Rattle.jobs.proofs.Functions as jobs
 use Rattle.passes.proofs.Functions as passes
 use Rattle.labels.proofs.Functions as labels
+use Rattle.labels.specs.declared.Watch.{Ghosts}
 use Rattle.hop.proofs.Functions as hop
 use Rattle.walk.proofs.Functions as walk
 use Rattle.hop_networks.proofs.Functions as hop_networks
@@ -88,13 +92,18 @@ pub record Settled : Type 0 where
   pub cube_neighbour : Settles cube.neighbour
   pub cube_table_len : Settles cube.table-len
   pub cube_node_bit : Settles cube.node-bit
+  pub cube_has : Settles cube.has
   pub cube_unused_set : Settles cube.unused-set
   pub jobs_label_bytes : Settles jobs.label-bytes
   pub notice_set_bit : Settles notice.set-bit
   -- the half of a job: its bytes, and its place in the caller's memory
   pub jobs_half : Settles jobs.half
 
--- all but those last twenty-two
+-- and the one that is generic, whoever watches
+pub record Watched (W : RattleType) (laws : Laws W) (G : Ghosts W.Denot) (dict : Dict) : Type 0 where
+  pub labels_label_nodes : Settles (labels.label-nodes W laws G dict)
+
+-- all but those that have a `requires`
 pub record Unasked : Type 2 where
   pub hcube-label : AsksNothing hcube.label
   pub hcube-hop : AsksNothing hcube.hop

@@ -6,8 +6,11 @@ use borrow.Fn.Claims.{AllOf}
 use borrow.Fn.Read.{ReadAt, no_know}
 use borrow.Fn.World.{World, w₀}
 use contract.Lifetimes.{Lfts}
+use denote.Param.Laws.{Laws}
+use denote.RattleType.{RattleType}
 use denote.Triple.Clauses.{AtExit, Ended}
 use denote.Triple.Entry.{Args, Res}
+use mir.Syntax.{Dict}
 use Rattle.cube.specs.Allowed.{Function, Tied, Written}
 use Rattle.cube.proofs.Functions as cube
 use Rattle.cube.specs.contracts.count_of as cube_count_of
@@ -24,6 +27,8 @@ use Rattle.cube.specs.contracts.nodes as cube_nodes
 use Rattle.cube.proofs.nodes.Reads as cube_nodes-reads
 use Rattle.cube.specs.contracts.table_len as cube_table_len
 use Rattle.cube.proofs.table_len.Reads as cube_table_len-reads
+use Rattle.cube.specs.contracts.NodeTable.has as cube_has
+use Rattle.cube.proofs.NodeTable.has.Reads as cube_has-reads
 use Rattle.cube.specs.contracts.unused_set as cube_unused_set
 use Rattle.cube.proofs.unused_set.Reads as cube_unused_set-reads
 use Rattle.groups.proofs.Functions as groups
@@ -57,17 +62,20 @@ use Rattle.passes.specs.contracts.Node.label as passes_label
 use Rattle.passes.proofs.Node.label.Reads as passes_label-reads
 use Rattle.passes.specs.contracts.Node.near as passes_near
 use Rattle.passes.proofs.Node.near.Reads as passes_near-reads
-use Rattle.passes.specs.contracts.finish as passes_finish
-use Rattle.passes.proofs.finish.Reads as passes_finish-reads
+use Rattle.passes.specs.contracts.Faulty.finish as passes_finish
+use Rattle.passes.proofs.Faulty.finish.Reads as passes_finish-reads
 use Rattle.passes.specs.contracts.settle as passes_settle
 use Rattle.passes.proofs.settle.Reads as passes_settle-reads
-use Rattle.passes.specs.contracts.start as passes_start
-use Rattle.passes.proofs.start.Reads as passes_start-reads
+use Rattle.passes.specs.contracts.Tables.start as passes_start
+use Rattle.passes.proofs.Tables.start.Reads as passes_start-reads
 use Rattle.passes.specs.contracts.sweep as passes_sweep
 use Rattle.passes.proofs.sweep.Reads as passes_sweep-reads
 use Rattle.labels.proofs.Functions as labels
 use Rattle.labels.specs.contracts.label as labels_label
 use Rattle.labels.proofs.label.Reads as labels_label-reads
+use Rattle.labels.specs.declared.Watch.{Ghosts}
+use Rattle.labels.specs.contracts.label_nodes as labels_label_nodes
+use Rattle.labels.proofs.label_nodes.Reads as labels_label_nodes-reads
 use Rattle.labels.specs.contracts.label_refusal as labels_label_refusal
 use Rattle.labels.proofs.label_refusal.Reads as labels_label_refusal-reads
 use Rattle.hop.proofs.Functions as hop
@@ -307,6 +315,9 @@ pub record AllTied : Type 2 where
   pub cube_node_bit :
       Tied cube.node-bit (λ w. cube_node_bit.clauses w.𝓛 w.𝓜.mem w.𝓡.returns)
       cube_node_bit-reads.Asked cube_node_bit-reads.Post
+  pub cube_has :
+      Tied cube.has (λ w. cube_has.clauses w.𝓛 w.𝓜.mem w.𝓡.returns)
+      cube_has-reads.Asked cube_has-reads.Post
   pub cube_unused_set :
       Tied cube.unused-set (λ w. cube_unused_set.clauses w.𝓛 w.𝓜.mem w.𝓡.returns)
       cube_unused_set-reads.Asked cube_unused_set-reads.Post
@@ -317,3 +328,9 @@ pub record AllTied : Type 2 where
       Tied jobs.label-bytes (λ w. jobs_label_bytes.clauses w.𝓛 w.𝓜.mem w.𝓡.returns)
       jobs_label_bytes-reads.Asked jobs_label_bytes-reads.Post
   pub jobs_half : Tied jobs.half (λ w. jobs_half.clauses w.𝓛 w.𝓜.mem w.𝓡.returns) jobs_half-reads.Asked jobs_half-reads.Post
+
+-- and the one that is generic, whoever watches
+pub record TiedWatched (W : RattleType) (laws : Laws W) (G : Ghosts W.Denot) (dict : Dict) : Type 2 where
+  pub labels_label_nodes :
+      Tied (labels.label-nodes W laws G dict) (λ w. labels_label_nodes.clauses W G dict w.𝓛 w.𝓜.mem w.𝓡.returns)
+      (labels_label_nodes-reads.Asked W laws G dict) (labels_label_nodes-reads.Post W laws G dict)
