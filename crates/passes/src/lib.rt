@@ -144,6 +144,7 @@ pub struct Faulty<'a> {
 
 impl<'a> Faulty<'a> {
     // Whether node k is one of them.
+    #[tactic(auto, using(cube::proofs::Tables::node_room))]
     fn has(self, k: usize) -> bool
         requires { k < 2 ^ self.n }
         ensures { result ≡ (node_bit self.entry.faults.now k || node_bit self.entry.closed.now k) }
@@ -211,6 +212,7 @@ pub struct Tables<'a> {
 
 impl<'a> Tables<'a> {
     // The byte that node k starts with: by all three tables, whether it works.
+    #[tactic(auto, using(cube::proofs::Tables::node_room))]
     fn start_byte(self, k: usize) -> u8
         requires { k < 2 ^ self.n }
         ensures { let t = self.entry in result ≡ started (λ x. (node_bit t.faults.now x || node_bit t.closed.now x) || node_bit t.draining.now x) k }
