@@ -62,8 +62,10 @@ pub fn node_bit(t: &[u8], k: usize) -> bool
 #[derive(Clone, Copy)]
 pub struct NodeTable<'a> {
     pub n: usize,
+    pub size: usize, // a loop that ends at 1 << n shifts at each turn
     pub bytes: &'a [u8],
     ghost small: { n ≤ 12 },
+    ghost counted: { size ≡ 2 ^ n },
     ghost sized: { length bytes.now ≡ table_len n },
 }
 

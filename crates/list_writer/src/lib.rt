@@ -17,7 +17,7 @@ fn run_end(faults: NodeTable, k: usize) -> usize
     requires { k ≤ 2 ^ faults.n }
     ensures { result ≡ run_end (2 ^ faults.entry.n - k) k (node_bit faults.entry.bytes.now) }
 {
-    let size = nodes(faults.n);
+    let size = faults.size;
     for end in k..size {
         if !faults.has(end) {
             return end;
@@ -74,7 +74,7 @@ fn put_list<S: Sink>(faults: NodeTable, sink: &mut S)
     requires { length (list_text faults.n faults.bytes.now) ≤ S.room sink.old }
     ensures { S.puts sink.old (list_text faults.entry.n faults.entry.bytes.now) sink.new }
 {
-    let size = nodes(faults.n);
+    let size = faults.size;
     let mut first = true;
     let mut k: usize = 0;
     // no `for` and no chain is plainer: k goes on by a whole run, whose end is known only there
@@ -98,7 +98,11 @@ pub fn write(n: usize, faults: &[u8], out: &mut [u8]) -> Result<usize, Refusal>
     ensures buffer { out.new ≡ list_after n faults.now out.old }
 {
     table_refusal(n, faults)?;
-    let faulty = NodeTable { n, bytes: faults };
+    let faulty = NodeTable {
+        n,
+        size: nodes(n),
+        bytes: faults,
+    };
     let mut measured = Count { bytes: 0 };
     put_list(faulty, &mut measured);
     let length = measured.bytes;

@@ -53,7 +53,7 @@ fn put_addresses<S: Sink>(faults: NodeTable, sink: &mut S) -> usize
 {
     let mut count: usize = 0;
     let mut base: usize = 0;
-    for node in 0..nodes(faults.n) {
+    for node in 0..faults.size {
         if faults.has(node) {
             put_number(node - base, sink);
             count += 1;
@@ -69,7 +69,11 @@ pub fn write(n: usize, faults: &[u8], out: &mut [u8]) -> Result<usize, Refusal>
     ensures buffer { out.new ≡ buffer_after n faults.now out.old }
 {
     table_refusal(n, faults)?;
-    let faulty = NodeTable { n, bytes: faults };
+    let faulty = NodeTable {
+        n,
+        size: nodes(n),
+        bytes: faults,
+    };
     let mut measured = Count { bytes: 0 };
     let count = put_addresses(faulty, &mut measured);
     put_number(n, &mut measured);

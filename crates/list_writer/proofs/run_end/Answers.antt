@@ -13,5 +13,5 @@ loop-end-preserved c =
 
 pub returns : goal.returns
 returns c =
-    let e : c.nodes-size.result ≡ c.loop-end.end = omega arith in
-    e ∙ sym (end_beyond _ _ _ (omega (arith, c.nodes-size.ensures))) ∙ c.loop-end.invariant
+    let e : c.args.faults.size ≡ c.loop-end.end = omega arith in
+    e ∙ sym (end_beyond _ _ _ (omega (arith, c.args.faults.counted))) ∙ c.loop-end.invariant

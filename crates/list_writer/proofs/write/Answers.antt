@@ -32,6 +32,9 @@ returns-in_err-table_refusal c =
       buffer = buffer_passed a.n a.faults.now w a.out.now e;
     }
 
+pub nodes-requires : goal.nodes-requires
+nodes-requires c = omega (arith, (table (goal.at.nodes-requires c).In_ok-table_refusal).dimension.1)
+
 pub invariant_of-faulty-clause-small : goal.invariant_of-faulty-clause-small
 invariant_of-faulty-clause-small c = (table (goal.at.invariant_of-faulty-clause-small c).In_ok-table_refusal).dimension.1
 
