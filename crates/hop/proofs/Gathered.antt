@@ -1,5 +1,5 @@
 -- A decision by the labels gathered is that by the table: the copy holds each neighbour's label at its dimension. At the destination no label counts.
-use mathlib.Core.Path.{◌≡◌, sym, ap, ◌∙◌}
+use mathlib.Core.Path.{◌≡◌, refl, ap, ◌∙◌}
 use mathlib.Core.Logic.{◌≢◌}
 use mathlib.Core.Bool.{cond}
 use mathlib.Core.List.{List}
@@ -12,9 +12,8 @@ use Rattle.std.specs.Prelude.{Option}
 use Rattle.cube.specs.Cube.{flip}
 use Rattle.cube.proofs.Front.{get_d_tab}
 use Rattle.scans.proofs.Local.{first_same, lowest_same}
-use Rattle.hop.specs.Helpers.{across, chosen, gathered}
+use Rattle.hop.specs.Helpers.{across, around, chosen, gathered}
 use Rattle.hop.specs.Hop.{hop}
-use Rattle.hop.specs.declared.Around.{Around}
 use Rattle.hop.specs.declared.Decision.TheVariants.{Deliver}
 use Rattle.hop.proofs.Scanning.{deliver, decided}
 
@@ -41,11 +40,15 @@ module _ (n : ℕ) (lab : ℕ → ℕ) (c : ℕ) (near : List ℕ) (small : n �
   pub goes : (d : ℕ) (p : Option (ℕ × ℕ)) → c < 2 ^ n → d < 2 ^ n → c ≢ d → p ≡ chosen n c d (lab c) (λ i. get_or near i 0) → across p ≡ hop n lab c d
   goes d p hc hd far e = picks n lab c d p small hc hd far (e ∙ chosen_is d)
 
--- so by what is read at a node
-pub goes_by : (n : ℕ) (lab : ℕ → ℕ) (c d : ℕ) (a : Around) (p : Option (ℕ × ℕ)) → n ≤ 12 → c < 2 ^ n → d < 2 ^ n → c ≢ d
-    → record { own = lab c; near = gathered n lab c } ≡ a → p ≡ chosen n c d a.own (λ i. get_or a.near i 0) → across p ≡ hop n lab c d
-goes_by n lab c d a p small hc hd far e ep =
-    goes n lab c a.near small (sym (ap (λ (x : Around). x.near) e)) d p hc hd far (rw (ap (λ (x : Around). x.own) e) ep)
+-- so by what c knows of a message to d
+pub goes_by : (n : ℕ) (lab : ℕ → ℕ) (c d : ℕ) (h : ℕ × ℕ × ℕ × ℕ × List ℕ) (p : Option (ℕ × ℕ)) → n ≤ 12 → c < 2 ^ n → d < 2 ^ n → c ≢ d
+    → h ≡ around n c d lab → p ≡ chosen h.0 h.1 h.2 h.3 (λ i. get_or h.4 i 0) → across p ≡ hop n lab c d
+unfolding around
+goes_by n lab c d h p small hc hd far e ep = goes n lab c (gathered n lab c) small refl d p hc hd far (rw e at ep)
+
+pub apart_by : (n : ℕ) (lab : ℕ → ℕ) (c d : ℕ) (h : ℕ × ℕ × ℕ × ℕ × List ℕ) → h ≡ around n c d lab → c ≢ d → h.1 ≢ h.2
+unfolding around
+apart_by n lab c d h e far = rw e far
 
 -- and at it
 pub arrives : (n : ℕ) (lab : ℕ → ℕ) (c d : ℕ) → c ≡ d → Deliver ≡ hop n lab c d

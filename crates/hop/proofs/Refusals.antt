@@ -1,28 +1,25 @@
 -- The refusals of a hop, from those that the code finds one after the other: first what needs no label, then what the labels give. The question's table
 -- is these parts in a row, so the first part that refuses gives the number of the whole.
-use mathlib.Core.Path.{◌≡◌, refl, ◌∙◌}
+use mathlib.Core.Path.{◌≡◌, refl, sym, ◌∙◌}
 use mathlib.Core.Bool.{Bool, false}
 use mathlib.Core.List.{List, [], ◌++◌}
 use Prim.Native.Nat.{ℕ, ◌^◌}
 use lib.Dec.{eqb, leb, ltb}
-use lib.ListN.{length}
 use borrow.Author.Tests.{eqb-true, leb-false, ltb-true, not-false}
-use Rattle.std.specs.Prelude.{Ok, Err}
+use Rattle.std.specs.Prelude.{Result, Ok, Err}
 use Rattle.cube.specs.declared.refusals.Refusal.{Refusal}
 use Rattle.cube.specs.Count.{some}
 use Rattle.cube.specs.Cube.{flip}
 use Rattle.cube.specs.Refusal.{Test, first}
 use Rattle.cube.specs.Refused.{answered}
-use Rattle.cube.specs.Tables.{highest, is_dimension}
+use Rattle.cube.specs.Tables.{highest, is_dimension, label_in}
 use Rattle.cube.proofs.Bools.{or_false}
 use Rattle.cube.proofs.Refusal.{None, first_none, first_passes, first_stops}
 use Rattle.cube.proofs.Refused.{accepted, passed_on, refusing}
 use Rattle.cube.proofs.Tables.{dimension_is}
-use Rattle.jobs.specs.Jobs.{Halved, half, is_job, label_bytes}
-use Rattle.jobs.proofs.Laws.{half_long}
-use Rattle.hop.specs.Helpers.{Asked, Placed, at_node, gathered, near_refusal, place_refusal, place_tests}
+use Rattle.jobs.specs.Jobs.{Halved, is_job, label_bytes}
+use Rattle.hop.specs.Helpers.{Asked, around, at_node, near_refusal, place_refusal, place_tests}
 use Rattle.hop.specs.Hop.{hop, hop_refusal, hopped, near_tests}
-use Rattle.hop.specs.declared.Around.{Around}
 use Rattle.hop.specs.declared.Decision.{Decision}
 
 -- a table that refuses gives the refusal, whatever comes after it
@@ -63,12 +60,6 @@ pub placed : (n j a b m : ℕ) (other : Bool) → place_refusal n j a b m other 
 unfolding place_refusal
 placed n j a b m other e = good_place n j a b m other [] (first_none 19 (place_tests n j a b m other) refl e)
 
--- a job's half is then a label table, as the functions want it that are handed it
-pub half_placed : (n j a b : ℕ) (l : List ℕ) → Asked n j a b (length l) → Placed n a b (length (half j (2 ^ n) l))
-unfolding label_bytes
-half_placed n j a b l p =
-    record { small = p.halved.small; sized = half_long (2 ^ n) l p.halved.sized j p.halved.job; first = p.first; second = p.second }
-
 -- ---- what is read at a node
 
 module _ (n c d : ℕ) (lab : ℕ → ℕ) (high : Bool) (h : high ≡ some n (λ i. ltb highest (lab (flip i c)))) where
@@ -76,10 +67,15 @@ module _ (n c d : ℕ) (lab : ℕ → ℕ) (high : Bool) (h : high ≡ some n (�
   unfolding at_node
   node_refuses x r e = passed_on _ _ _ r (rw h at e)
 
-  pub node_reads : (near : List ℕ) → near ≡ gathered n lab c → {A : Type 0} (x y : A) → answered (near_refusal c d (lab c) high) x ≡ Ok y
-      → Ok (record { own = lab c; near = near }) ≡ at_node n c d lab
+  pub node_reads : (s : ℕ × ℕ × ℕ × ℕ × List ℕ) → s ≡ around n c d lab → {A : Type 0} (x y : A) → answered (near_refusal c d (lab c) high) x ≡ Ok y
+      → Ok s ≡ at_node n c d lab
   unfolding at_node
-  node_reads near g x y e = rw (g, (accepted _ _ _ (rw h at e)).0)
+  node_reads s g x y e = rw (g, (accepted _ _ _ (rw h at e)).0)
+
+-- what is read in a job's half, h, by the numbers and bytes that the code has of it
+module _ (n m : ℕ) (t h : List ℕ) (em : m ≡ n) (et : t ≡ h) (c d : ℕ) where
+  pub half_read : (r : Result (ℕ × ℕ × ℕ × ℕ × List ℕ) Refusal) → r ≡ at_node m c d (label_in t) → at_node n c d (label_in h) ≡ r
+  half_read r e = sym (rw (em, et) at e)
 
 -- ---- the hop
 
@@ -106,9 +102,9 @@ module _ (n j c d m : ℕ) (lab : ℕ → ℕ) where
     unfolding at_node
     hop_refuses x r f = rw by_labels (passed_on _ _ x r f)
 
-    pub hop_reads : (a : Around) → at_node n c d lab ≡ Ok a → (hop_refusal n j c d m lab ≡ 0) × (record { own = lab c; near = gathered n lab c } ≡ a)
+    pub hop_reads : (s : ℕ × ℕ × ℕ × ℕ × List ℕ) → at_node n c d lab ≡ Ok s → (hop_refusal n j c d m lab ≡ 0) × (s ≡ around n c d lab)
     unfolding at_node
-    hop_reads a f = let r = accepted _ _ _ f in (by_labels ∙ r.0, r.1)
+    hop_reads s f = let r = accepted _ _ _ f in (by_labels ∙ r.0, sym r.1)
 
   -- where nothing is refused, the place is good
   pub hop_good : hop_refusal n j c d m lab ≡ 0 → Asked n j c d m

@@ -8,8 +8,7 @@ use native.Mathlib.Omega.{arith}
 use lib.Bits.{bit_xor}
 use lib.Dec.{eqb, leb, ltb}
 use borrow.Author.Tests.{eqb-true, leb-true, ne_eqb, lt-ltb, le-ltb}
-use Rattle.std.specs.Option.{MatchOption}
-use Rattle.std.specs.Prelude.{Option, Some, None, option_map}
+use Rattle.std.specs.Prelude.{Some, None}
 use Rattle.cube.specs.Count.{least}
 use Rattle.cube.specs.Cube.{apart, dist, flip}
 use Rattle.cube.proofs.Count.{below_suc}
@@ -135,27 +134,6 @@ module _ (n c d own : ℕ) (near : ℕ → ℕ) where
   pub take_none : Past no_scan → None ≡ chosen n c d own near
   unfolding chosen
   take_none p = rw (first_at no_scan (omega arith) p (λ l. absurd (omega arith)))
-
-  -- so far either nothing is found or what is picked
-  abbrev pub SoFar : ℕ → Option (ℕ × ℕ) → Type 0
-  SoFar s None = Past s
-  SoFar s (Some p) = Some p ≡ chosen n c d own near
-
-  found_by : (s : ℕ) (o : Option ℕ) → o ≡ found n (lowest n c d own near s) → s < no_scan → Past s → SoFar (suc s) (option_map (λ i. (s, i)) o)
-  found_by s None e h p = pass s p e
-  found_by s (Some i) e h p = take s i h p e
-
-  pub or_scan : (s x : ℕ) (r r' : Option (ℕ × ℕ)) (Q : Type 0) → s < no_scan → x ≡ lowest n c d own near s → SoFar s r
-      → MatchOption r Q (λ v. r' ≡ Some v) → (Q → r' ≡ option_map (λ i. (s, i)) (found n x)) → SoFar (suc s) r'
-  or_scan s x None r' Q h e p q f = rw (f q) (found_by s (found n x) (ap (found n) e) h p)
-  or_scan s x (Some v) r' Q h e p q f = rw q p
-
-  pub first_found : (x : ℕ) (r : Option (ℕ × ℕ)) → x ≡ lowest n c d own near 0 → r ≡ option_map (λ i. (0, i)) (found n x) → SoFar 1 r
-  first_found x r e f = rw f (found_by 0 (found n x) (ap (found n) e) (omega arith) past_none)
-
-  pub all_tried : (r : Option (ℕ × ℕ)) → SoFar no_scan r → r ≡ chosen n c d own near
-  all_tried None p = take_none p
-  all_tried (Some v) p = p
 
   -- ---- the decision
 

@@ -1,6 +1,6 @@
 -- What the functions inside the crate answer, and what they may assume; the walk shares the refusals that need no label. No contract of a question cites
 -- these: proofs/Refusals.antt shows how the refusals of a hop are made of them, proofs/Scanning.antt how the decision is.
-use Rattle.std.specs.Prelude.{Bool, cond, ◌&&◌, List, ◌∷◌, ◌++◌, ◌≡◌, ℕ, ◌^◌, ◌<◌, ◌≤◌, leb, ltb, Option, Some, None, Result}
+use Rattle.std.specs.Prelude.{Bool, cond, ◌&&◌, List, ◌∷◌, ◌++◌, ℕ, ◌^◌, ◌<◌, leb, ltb, Option, Some, None, Result}
 use Rattle.cube.specs.Count.{some}
 use Rattle.cube.specs.Cube.{bit, flip}
 use Rattle.cube.specs.Refusal.{Test, first, ◌⇒◌}
@@ -10,7 +10,6 @@ use Rattle.cube.specs.declared.refusals.Refusal.{Refusal}
 use Rattle.jobs.specs.Jobs.{Halved}
 use Rattle.scans.specs.Scans.{first_scan, lowest, no_scan}
 use Rattle.hop.specs.Hop.{label_tests, node_tests, size_tests}
-use Rattle.hop.specs.declared.Around.{Around}
 use Rattle.hop.specs.declared.Decision.{Decision}
 use Rattle.hop.specs.declared.Decision.TheVariants.{Hop, Halted}
 
@@ -29,13 +28,6 @@ pub record Asked (n j a b m : ℕ) : Type 0 where
   pub first : a < 2 ^ n
   pub second : b < 2 ^ n
 
--- and what the functions that are handed that half, a table of m bytes, may assume of it
-pub record Placed (n a b m : ℕ) : Type 0 where
-  pub small : n ≤ 12
-  pub sized : m ≡ 2 ^ n
-  pub first : a < 2 ^ n
-  pub second : b < 2 ^ n
-
 -- ---- those that the labels give
 
 unfoldable pub near_refusal : (c d own : ℕ) (high : Bool) → ℕ
@@ -47,10 +39,13 @@ near_refusal c d own high = first (label_tests c d own high)
 unfoldable pub gathered : (n : ℕ) (lab : ℕ → ℕ) (c : ℕ) → List ℕ
 gathered n lab c = tab 12 (λ i. cond (ltb i n) (lab (flip i c)) 0)
 
--- what is read at c on the way to d, or refused by it
-unfoldable pub at_node : (n c d : ℕ) (lab : ℕ → ℕ) → Result Around Refusal
-at_node n c d lab =
-    answered (near_refusal c d (lab c) (some n (λ i. ltb highest (lab (flip i c))))) (record { own = lab c; near = gathered n lab c })
+-- what c knows of a message to d: the dimension, both nodes, c's label and those of its neighbours
+unfoldable pub around : (n c d : ℕ) (lab : ℕ → ℕ) → ℕ × ℕ × ℕ × ℕ × List ℕ
+around n c d lab = (n, c, d, lab c, gathered n lab c)
+
+-- or why a question there is refused
+unfoldable pub at_node : (n c d : ℕ) (lab : ℕ → ℕ) → Result (ℕ × ℕ × ℕ × ℕ × List ℕ) Refusal
+at_node n c d lab = answered (near_refusal c d (lab c) (some n (λ i. ltb highest (lab (flip i c))))) (around n c d lab)
 
 -- dimension i is in the set, a number whose bits are the dimensions, and the label of the neighbour across it is at most top
 unfoldable pub in_set : (set : ℕ) (near : ℕ → ℕ) (top i : ℕ) → Bool

@@ -1,23 +1,26 @@
 -- The decision at c on a board, from what is picked.
-use mathlib.Core.Path.{◌≡◌}
+use mathlib.Core.Path.{◌≡◌, refl, ap, ◌∙◌}
 use mathlib.Core.Logic.{◌≢◌}
 use mathlib.Core.Bool.{false}
+use mathlib.Core.List.{List}
 use Prim.Native.Nat.{ℕ, ◌+◌, ◌*◌, ◌/◌, ◌^◌, ◌≤◌, ◌<◌}
 use lib.Dec.{eqb}
+use lib.ListN.{get_or}
 use borrow.Author.Tests.{le-leb, le-ltb, lt-leb, lt-ltb, ne_eqb}
-use Rattle.std.specs.Prelude.{Some, None, Result, Ok, Err}
+use Rattle.std.specs.Prelude.{Option, Some, None, Result, Ok, Err}
 use Rattle.cube.specs.declared.refusals.Refusal.{Refusal}
 use Rattle.cube.specs.declared.refusals.Refusal.TheVariants.{Network}
-use Rattle.cube.specs.Cube.{dist}
+use Rattle.cube.specs.Cube.{dist, flip}
 use Rattle.cube.proofs.Cube.{dist_self, dist_zero}
-use Rattle.hop.specs.Helpers.{found}
+use Rattle.hop.specs.Helpers.{around, found, gathered}
+use Rattle.hop.proofs.Gathered.{near_at}
 use Rattle.hop.proofs.Sets.{none_found, some_found}
 use Rattle.hop.specs.declared.Decision.{Decision}
 use Rattle.hop.specs.declared.Decision.TheVariants.{Deliver, Hop, Halted}
 use Rattle.blocks.specs.Blocks.{decide_in, pick}
 use Rattle.blocks.specs.Board.{beyond, numbered}
 use Rattle.blocks.specs.Phase.{after, channel_number}
-use Rattle.blocks.proofs.Picks.{decide_same}
+use Rattle.blocks.proofs.Picks.{decide_same, pick_same}
 use Rattle.hop_networks.specs.Helpers.{decided_on}
 
 module _ (n N c d p own : ℕ) (near : ℕ → ℕ) where
@@ -61,3 +64,17 @@ module _ (n N c d p own : ℕ) (near : ℕ → ℕ) where
 pub decided_same : (n N c d p own : ℕ) (near near' : ℕ → ℕ) → ((i : ℕ) → i < n → near i ≡ near' i) → decided_on n N c d p own near ≡ decided_on n N c d p own near'
 unfolding decided_on
 decided_same n N c d p own near near' same = rw (decide_same n c d p own near near' same)
+
+-- what is picked and decided by what c knows of a message to d, which is what the labels give
+module _ (n c d p : ℕ) (lab : ℕ → ℕ) (small : n ≤ 12) (h : ℕ × ℕ × ℕ × ℕ × List ℕ) (e : h ≡ around n c d lab) where
+  near_is : (i : ℕ) → i < n → get_or (gathered n lab c) i 0 ≡ lab (flip i c)
+  near_is = near_at n lab c (gathered n lab c) small refl
+
+  pub picked_by : (r : Option ℕ) → r ≡ found h.0 (pick h.0 h.1 h.2 p h.3 (λ i. get_or h.4 i 0)) → r ≡ found n (pick n c d p (lab c) (λ i. lab (flip i c)))
+  unfolding around
+  picked_by r f = (rw e at f) ∙ ap (found n) (pick_same _ _ _ _ _ _ (λ i. lab (flip i c)) near_is)
+
+  pub decided_by : (N : ℕ) (r : Result Decision Refusal) → r ≡ decided_on h.0 N h.1 h.2 p h.3 (λ i. get_or h.4 i 0)
+      → r ≡ decided_on n N c d p (lab c) (λ i. lab (flip i c))
+  unfolding around
+  decided_by N r f = (rw e at f) ∙ decided_same _ _ _ _ _ _ _ _ near_is

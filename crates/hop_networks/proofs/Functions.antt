@@ -116,17 +116,17 @@ after =
 pub after_says : Says after (λ i. phases.after i.0 i.1 i.2) (λ i. tt)
 after_says = record { says = λ κs a r e p. (p, refl) }
 
--- handed the dimension, both nodes, the phase and the labels
-abbrev pub pick-at : Function pick_at.ended (ℕ × ℕ × ℕ × ℕ × List ℕ) (Option ℕ) Nothing
+-- handed the dimension, the labels, both nodes and the phase
+abbrev pub pick-at : Function pick_at.ended (ℕ × List ℕ × ℕ × ℕ × ℕ) (Option ℕ) Nothing
 pick-at =
     record {
       clauses = λ w. pick_at.clauses w.𝓛 w.𝓜.mem w.𝓡.returns;
       asked = pick_at-reads.Asked;
       post = pick_at-reads.Post;
-      handed = λ κs a. (a.0, a.1.0, a.1.1.0, a.1.1.1.0, a.1.1.1.1.0.now);
+      handed = λ κs a. (a.0.n, a.0.bytes.now, a.1.0, a.1.1.0, a.1.1.1.0);
       answered = λ κs r. r;
       left = λ κs e. tt;
     }
 
-pub pick_at_says : Says pick-at (λ i. found i.0 (blocks.pick i.0 i.1 i.2 i.3 (label_in i.4 i.1) (λ k. label_in i.4 (flip k i.1)))) (λ i. tt)
+pub pick_at_says : Says pick-at (λ i. found i.0 (blocks.pick i.0 i.2 i.3 i.4 (label_in i.1 i.2) (λ k. label_in i.1 (flip k i.2)))) (λ i. tt)
 pick_at_says = record { says = λ κs a r e p. (p, refl) }

@@ -17,8 +17,7 @@ use Rattle.cube.proofs.Bools.{and_true, either, or_false}
 use Rattle.cube.proofs.Refusal.{first_none, first_passes}
 use Rattle.cube.proofs.Tables.{dimension_is}
 use Rattle.jobs.specs.Jobs.{is_job, label_bytes}
-use Rattle.hop.specs.Helpers.{Asked, at_node, gathered, near_refusal}
-use Rattle.hop.specs.declared.Around.{Around}
+use Rattle.hop.specs.Helpers.{Asked, around, at_node, near_refusal}
 use Rattle.cube.proofs.Refused.{accepted}
 use Rattle.hop.specs.Hop.{job_tests, near_tests, node_tests}
 use Rattle.hop.specs.declared.Decision.{Decision}
@@ -125,9 +124,9 @@ module _ (n N j c d w g m : ℕ) (lab : ℕ → ℕ) where
       hop_unread r e = hop_unlabelled _ r e
 
       -- what was read at the node, where nothing is refused
-      pub hop_read : (a : Around) → at_node n c d lab ≡ Ok a → (first near ≡ 0) × (record { own = lab c; near = gathered n lab c } ≡ a)
+      pub hop_read : (s : ℕ × ℕ × ℕ × ℕ × List ℕ) → at_node n c d lab ≡ Ok s → (first near ≡ 0) × (s ≡ around n c d lab)
       unfolding at_node near_refusal
-      hop_read a e = accepted _ _ _ e
+      hop_read s e = let r = accepted _ _ _ e in (r.0, sym r.1)
 
       pub hop_decided : first near ≡ 0 → decided_on n N c d (phase_of w g) (lab c) (λ i. lab (flip i c)) ≡ hopped_in n N j c d w g m lab
       unfolding hopped_in decided_on hop_in first

@@ -8,15 +8,15 @@ ghost use Rattle.blocks.specs.Phase as phases;
 ghost use Rattle.cube.specs.Cube.{flip};
 ghost use Rattle.cube.specs.Refused.{answered};
 ghost use Rattle.cube.specs.Tables.{label_in};
-ghost use Rattle.hop.specs.Helpers.{Placed, found};
+ghost use Rattle.hop.specs.Helpers.{found};
 ghost use Rattle.hop_networks.specs.Helpers.{board_refusal, decided_on, is_forward, list_refusal, on_set, side_set};
 ghost use Rattle.hop_networks.specs.Hopping.{hopped_in, is_board};
 ghost use Rattle.jobs.specs.Jobs.{label_for};
 
 use cube::refusals::Refusal;
 use cube::{distance, is_dimension, nodes};
-use hop::{Decision, at_node, gather, last_hop, lowest};
-use jobs::{half, is_job, label_bytes};
+use hop::{Decision, Here, around, at_node};
+use jobs::{Labels, is_job, label_bytes};
 
 // Whether a board may have so many networks.
 #[tactic(auto, unfolding(crate::specs::Hopping::is_board))]
@@ -143,61 +143,53 @@ fn may_sixth(l: u32, phase: usize) -> bool
     !goes_down(phase) | (l <= 2)
 }
 
-// What a node knows of a message: where it is and where it goes, its phase, the node's own label, and those of its neighbours.
+// What a node knows of a message, and the message's phase.
 #[derive(Clone, Copy)]
-struct Here<'a> {
-    n: usize,
-    c: usize,
-    d: usize,
+struct InPhase<'a> {
+    here: Here<'a>,
     phase: usize,
-    own: u8,
-    near: &'a [u8; 12],
-    ghost small: { n ≤ 12 },
-    ghost inside: { c < 2 ^ n },
-    ghost target: { d < 2 ^ n },
 }
 
-impl Here<'_> {
+impl InPhase<'_> {
     // One call of FORWARD, for the dimensions of one side: the dimension of its hop. on are those of the phase's direction, turning the others.
     fn call(&self, side: Side) -> Option<usize>
-        ensures { let s = self.now in result ≡ found s.n (blocks.call s.n s.c s.d s.phase s.own (λ i. get_or s.near.now i 0) (is_forward side)) }
+        ensures { let s = self.now.here in result ≡ found s.n (blocks.call s.n s.c s.d self.now.phase s.own (λ i. get_or s.near.now i 0) (is_forward side)) }
     {
-        let n = self.n;
-        let near = self.near;
-        let set = side.set(n, self.c, self.d);
-        let on = set & on_set(n, self.c, self.phase);
+        let here = &self.here;
+        let set = side.set(here.n, here.c, here.d);
+        let on = set & on_set(here.n, here.c, self.phase);
         let turning = set ^ on;
-        if let Some(i) = lowest(n, on, near, 0) {
+        if let Some(i) = here.lowest(on, 0) {
             return Some(i);
         }
-        if let Some(i) = lowest(n, turning, near, 0) {
+        if let Some(i) = here.lowest(turning, 0) {
             return Some(i);
         }
-        if let Some(i) = lowest(n, on, near, 1) {
+        if let Some(i) = here.lowest(on, 1) {
             return Some(i);
         }
-        let l = distance(self.c, self.d);
-        if let Some(i) = lowest(n, turning, near, 1) {
+        let l = distance(here.c, here.d);
+        if let Some(i) = here.lowest(turning, 1) {
             return may_fourth(l, self.phase).then_some(i);
         }
-        if !eager(self.own, l) {
+        if !eager(here.own, l) {
             return None;
         }
-        if let Some(i) = lowest(n, on, near, 2) {
+        if let Some(i) = here.lowest(on, 2) {
             return Some(i);
         }
         if may_sixth(l, self.phase) {
-            return lowest(n, turning, near, 2);
+            return here.lowest(turning, 2);
         }
         None
     }
 
     // The dimension of the hop, away from the destination: to d itself where it drains next door, else by the forward dimensions, else by the spare ones.
     fn pick(&self) -> Option<usize>
-        requires { self.now.c ≢ self.now.d }
-        ensures { let s = self.now in result ≡ found s.n (blocks.pick s.n s.c s.d s.phase s.own (λ i. get_or s.near.now i 0)) }
+        requires { self.now.here.c ≢ self.now.here.d }
+        ensures { let s = self.now.here in result ≡ found s.n (blocks.pick s.n s.c s.d self.now.phase s.own (λ i. get_or s.near.now i 0)) }
     {
-        if let Some(i) = last_hop(self.n, self.c, self.d, self.near) {
+        if let Some(i) = self.here.last_hop() {
             return Some(i);
         }
         if let Some(i) = self.call(Side::Forward) {
@@ -210,15 +202,15 @@ impl Here<'_> {
     #[tactic(auto, unfolding(hop::specs::Helpers::found))]
     fn decided(&self, networks: usize) -> Result<Decision, Refusal>
         requires { (networks ≤ 5) × (self.now.phase < 64) }
-        ensures { let s = self.now in result ≡ decided_on s.n networks s.c s.d s.phase s.own (λ i. get_or s.near.now i 0) }
+        ensures { let s = self.now.here in result ≡ decided_on s.n networks s.c s.d self.now.phase s.own (λ i. get_or s.near.now i 0) }
     {
-        if self.c == self.d {
+        if self.here.c == self.here.d {
             return Ok(Decision::Deliver);
         }
         let Some(i) = self.pick() else {
             return Ok(Decision::Halted);
         };
-        let next = after(self.phase, self.c, i);
+        let next = after(self.phase, self.here.c, i);
         if 2 * networks <= next {
             return Err(Refusal::Network);
         }
@@ -227,22 +219,14 @@ impl Here<'_> {
 }
 
 // The dimension of the hop at c, by a label table that was tested: what a walk asks at each node.
-pub fn pick_at(n: usize, c: usize, d: usize, phase: usize, labels: &[u8]) -> Option<usize>
-    requires { Placed n c d (length labels.now) × (c ≢ d) }
-    ensures { result ≡ found n (blocks.pick n c d phase (label_in labels.now c) (λ i. label_in labels.now (flip i c))) }
+pub fn pick_at(labels: Labels, c: usize, d: usize, phase: usize) -> Option<usize>
+    requires { (c < 2 ^ labels.n) × (d < 2 ^ labels.n) × (c ≢ d) }
+    ensures { let lab = label_in labels.entry.bytes.now in result ≡ found labels.entry.n (blocks.pick labels.entry.n c d phase (lab c) (λ i. lab (flip i c))) }
 {
-    let own = labels[c];
     let mut near = [0u8; 12];
-    gather(n, labels, c, &mut near);
-    let here = Here {
-        n,
-        c,
-        d,
-        phase,
-        own,
-        near: &near,
-    };
-    here.pick()
+    let (here, _) = around(labels, c, d, &mut near);
+    let message = InPhase { here, phase };
+    message.pick()
 }
 
 // The decision at c on the way to d, for a job, on a board: the message is in that network, and goes down where down is 1. Both are numbers, since C hands them
@@ -264,15 +248,11 @@ pub fn hop_networks(
         !is_board(networks) | ((networks <= network) | (1 < down)),
     )?;
     list_refusal(n, job, c, d, labels.len(), false)?;
-    let table = half(n, job, labels);
-    let around = at_node(n, c, d, table)?;
-    let here = Here {
-        n,
-        c,
-        d,
+    let mut near = [0u8; 12];
+    let here = at_node(Labels::of(n, job, labels), c, d, &mut near)?;
+    let message = InPhase {
+        here,
         phase: 2 * network + down,
-        own: around.own,
-        near: &around.near,
     };
-    here.decided(networks)
+    message.decided(networks)
 }

@@ -55,17 +55,17 @@ walk_for_asks = record { asked = λ κs a. tt; empty = λ w κs a. (tt, refl) }
 pub walk_for_says : Says walk-for (λ i. walked i.0 i.1 i.2 i.3 (length i.4) i.5 (label_for i.0 i.1 i.4)) (λ i. tt)
 walk_for_says = record { says = λ κs a r e p. (p, refl) }
 
--- handed the dimension, both nodes and the labels
-abbrev pub table-refusal : Function table_refusal.ended (ℕ × ℕ × ℕ × List ℕ) (Result Unit Refusal) Nothing
+-- handed the dimension, the labels and both nodes
+abbrev pub table-refusal : Function table_refusal.ended (ℕ × List ℕ × ℕ × ℕ) (Result Unit Refusal) Nothing
 table-refusal =
     record {
       clauses = λ w. table_refusal.clauses w.𝓛 w.𝓜.mem w.𝓡.returns;
       asked = table_refusal-reads.Asked;
       post = table_refusal-reads.Post;
-      handed = λ κs a. (a.0, a.1.0, a.1.1.0, a.1.1.1.0.now);
+      handed = λ κs a. (a.0.n, a.0.bytes.now, a.1.0, a.1.1.0);
       answered = λ κs r. r;
       left = λ κs e. tt;
     }
 
-pub table_refusal_says : Says table-refusal (λ i. answered (table_refusal i.0 i.1 i.2 (label_in i.3)) tt) (λ i. tt)
+pub table_refusal_says : Says table-refusal (λ i. answered (table_refusal i.0 i.2 i.3 (label_in i.1)) tt) (λ i. tt)
 table_refusal_says = record { says = λ κs a r e p. (p, refl) }

@@ -2,11 +2,10 @@
 // test them. The other functions are theirs, and what reads labels is handed the job's half alone; `table_refusal` is lent to the walk by networks too.
 #![tactic(auto)]
 
-ghost use Rattle.std.specs.Prelude.{◌<◌, length, ◌≡◌};
+ghost use Rattle.std.specs.Prelude.{◌<◌, ◌^◌, length, ◌≡◌};
 ghost use Rattle.cube.specs.Count.{largest};
 ghost use Rattle.cube.specs.Refused.{answered, number};
 ghost use Rattle.cube.specs.Tables.{label_in};
-ghost use Rattle.hop.specs.Helpers.{Placed};
 ghost use Rattle.jobs.specs.Jobs.{label_for};
 ghost use Rattle.walk.specs.Helpers.{table_refusal, walk_asked, walk_or_refusal};
 ghost use Rattle.walk.specs.Walk.{moved, refused, row_bytes, walked};
@@ -14,7 +13,7 @@ ghost use Rattle.walk.specs.Walk.{moved, refused, row_bytes, walked};
 use cube::refusals::Refusal;
 use cube::{HIGHEST, neighbour};
 use hop::{Decision, hop_at, place_refusal};
-use jobs::half;
+use jobs::Labels;
 
 const ROW_BYTES: usize = 34; // a row that is lent: two bytes for each of 17 places
 
@@ -70,9 +69,9 @@ fn refused(refusal: Refusal) -> Walked
 
 // The walk from s: a message is moved until a decision is no hop. It is refused where it would go on after n + 4 hops. (The loop has no counter of its own: the
 // travelling message counts its hops, as RULES, Walk, has it.)
-fn walk_or_refusal(n: usize, s: usize, d: usize, labels: &[u8]) -> Result<Walked, Refusal>
-    requires { Placed n s d (length labels.now) }
-    ensures { result ≡ walk_or_refusal n (label_in labels.now) d s }
+fn walk_or_refusal(labels: Labels, s: usize, d: usize) -> Result<Walked, Refusal>
+    requires { (s < 2 ^ labels.n) × (d < 2 ^ labels.n) }
+    ensures { result ≡ walk_or_refusal labels.entry.n (label_in labels.entry.bytes.now) d s }
 {
     let mut row = [0u16; 17];
     row[0] = s as u16;
@@ -85,7 +84,7 @@ fn walk_or_refusal(n: usize, s: usize, d: usize, labels: &[u8]) -> Result<Walked
         let at = m.at;
         let to = m.to;
         let hops = m.hops;
-        match hop_at(n, at, to, labels) {
+        match hop_at(labels, at, to) {
             Decision::Deliver => return Ok(Walked {
                 row,
                 hops,
@@ -97,7 +96,7 @@ fn walk_or_refusal(n: usize, s: usize, d: usize, labels: &[u8]) -> Result<Walked
                 ending: Ending::Halted,
             }),
             Decision::Hop(i) => {
-                if n + 4 <= hops {
+                if labels.n + 4 <= hops {
                     return Err(Refusal::Hops);
                 }
                 m = m.moved(i);
@@ -121,17 +120,17 @@ fn largest(labels: &[u8]) -> u8
 }
 
 // The refusals that the labels give.
-pub fn table_refusal(n: usize, s: usize, d: usize, labels: &[u8]) -> Result<(), Refusal>
-    requires { Placed n s d (length labels.now) }
-    ensures { result ≡ answered (table_refusal n s d (label_in labels.now)) tt }
+pub fn table_refusal(labels: Labels, s: usize, d: usize) -> Result<(), Refusal>
+    requires { (s < 2 ^ labels.n) × (d < 2 ^ labels.n) }
+    ensures { result ≡ answered (table_refusal labels.entry.n s d (label_in labels.entry.bytes.now)) tt }
 {
-    if HIGHEST < largest(labels) {
+    if HIGHEST < largest(labels.bytes) {
         return Err(Refusal::Label);
     }
-    if 3 <= labels[s] {
+    if 3 <= labels.at(s) {
         return Err(Refusal::Source);
     }
-    if labels[d] == 3 {
+    if labels.at(d) == 3 {
         return Err(Refusal::Destination);
     }
     Ok(())
@@ -149,9 +148,9 @@ fn walk_asked(
     ensures { result ≡ walk_asked n job s d (length labels.now) room (label_for n job labels.now) }
 {
     place_refusal(n, job, s, d, labels.len(), room != ROW_BYTES)?;
-    let table = half(n, job, labels);
-    table_refusal(n, s, d, table)?;
-    walk_or_refusal(n, s, d, table)
+    let table = Labels::of(n, job, labels);
+    table_refusal(table, s, d)?;
+    walk_or_refusal(table, s, d)
 }
 
 // The walk from s to d for a job, for a caller who lends a row of `room` bytes: another length than 34 is refused.

@@ -1,3 +1,2 @@
 pub mod Crossing
 pub mod Local
-pub mod Helpers

@@ -3,18 +3,17 @@
 // half alone.
 #![tactic(auto)]
 
-ghost use Rattle.std.specs.Prelude.{◌≤◌, ◌++◌, drop, length, take, ◌≡◌};
+ghost use Rattle.std.specs.Prelude.{◌<◌, ◌≤◌, ◌^◌, ◌++◌, drop, length, take, ◌≡◌};
 ghost use Rattle.blocks.specs.Board.{hops_on, last_on, number_at};
 ghost use Rattle.cube.proofs.Front.{front};
 ghost use Rattle.cube.specs.Tables.{label_in};
 ghost use Rattle.jobs.specs.Jobs.{label_for};
 ghost use Rattle.walk_networks.specs.Crossing.{crossing, ended_by, hops_after, made};
-ghost use Rattle.walk_networks.specs.Helpers.{Crossable};
 
 use cube::neighbour;
 use cube::refusals::Refusal;
 use hop_networks::{after, board_refusal, is_board, list_refusal, pick_at};
-use jobs::half;
+use jobs::Labels;
 use walk::table_refusal;
 
 // How a walk ended, with its hop count.
@@ -42,22 +41,21 @@ impl Crossed {
 // tests would stand again.
 #[tactic(auto, unfolding(hop::specs::Helpers::found))]
 fn find(
-    n: usize,
+    labels: Labels,
     networks: usize,
     s: usize,
     d: usize,
-    labels: &[u8],
     list: &mut [u8; 120],
 ) -> Result<Crossed, Refusal>
-    requires { Crossable n networks s d (length labels.now) × (length list.old ≡ 120) }
-    ensures answer { result ≡ ended_by (hops_on n networks (label_in labels.now) d s) (last_on n networks (label_in labels.now) d s) }
-    ensures list { list.new ≡ front (number_at n (label_in labels.now) d s) (hops_on n networks (label_in labels.now) d s) list.old }
+    requires { (s < 2 ^ labels.n) × (d < 2 ^ labels.n) × (0 < networks) × (networks ≤ 5) × (length list.old ≡ 120) }
+    ensures answer { let l = labels.entry in let lab = label_in l.bytes.now in result ≡ ended_by (hops_on l.n networks lab d s) (last_on l.n networks lab d s) }
+    ensures list { let l = labels.entry in let lab = label_in l.bytes.now in list.new ≡ front (number_at l.n lab d s) (hops_on l.n networks lab d s) list.old }
 {
     let mut at = s;
     let mut phase = 0;
     let mut hops = 0;
     while at != d {
-        let Some(i) = pick_at(n, at, d, phase, labels) else {
+        let Some(i) = pick_at(labels, at, d, phase) else {
             return Ok(Crossed::Halted(hops));
         };
         let next = after(phase, at, i);
@@ -96,10 +94,10 @@ pub fn walk_networks(
     board_refusal(n, !is_board(networks))?;
     let most = 2 * n * networks;
     list_refusal(n, job, s, d, labels.len(), hops.len() < most)?;
-    let table = half(n, job, labels);
-    table_refusal(n, s, d, table)?;
+    let table = Labels::of(n, job, labels);
+    table_refusal(table, s, d)?;
     let mut list = [0u8; 120];
-    let found = find(n, networks, s, d, table, &mut list)?;
+    let found = find(table, networks, s, d, &mut list)?;
     write(found.hops(), &list, hops);
     Ok(found)
 }

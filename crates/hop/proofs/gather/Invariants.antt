@@ -9,4 +9,4 @@ use Rattle.hop.proofs.gather.Given as goal
 
 abbrev pub invariant-loop-i : goal.invariant-loop-i
 invariant-loop-i l =
-    (l.near ≡ front (λ k. label_in l.labels (flip k l.c)) l.i (replicate 12 0)) × ((k : ℕ) → k < l.i → label_in l.labels (flip k l.c) ≤ l.joined)
+    (l.near ≡ front (λ k. label_in l.labels.bytes.now (flip k l.c)) l.i (replicate 12 0)) × ((k : ℕ) → k < l.i → label_in l.labels.bytes.now (flip k l.c) ≤ l.joined)

@@ -5,7 +5,7 @@ use Rattle.walk.proofs.Steps.{Walking}
 use Rattle.walk.proofs.walk_or_refusal.Given as goal
 
 abbrev pub invariant-loop-row : goal.invariant-loop-row
-invariant-loop-row l = Walking l.n (label_in l.labels) l.d l.s l.row l.m
+invariant-loop-row l = Walking l.labels.n (label_in l.labels.bytes.now) l.d l.s l.row l.m
 
 abbrev pub decreases-loop-row : goal.decreases-loop-row
-decreases-loop-row l = l.n + 4 - l.m.hops
+decreases-loop-row l = l.labels.n + 4 - l.m.hops

@@ -6,7 +6,7 @@ use Rattle.walk_networks.proofs.Steps.{Going}
 use Rattle.walk_networks.proofs.find.Given as goal
 
 abbrev pub invariant-loop-at : goal.invariant-loop-at
-invariant-loop-at l = Going l.n l.networks (label_in l.labels) l.d l.s l.initial.list l.list l.at l.phase l.hops
+invariant-loop-at l = Going l.labels.n l.networks (label_in l.labels.bytes.now) l.d l.s l.initial.list l.list l.at l.phase l.hops
 
 abbrev pub decreases-loop-at : goal.decreases-loop-at
-decreases-loop-at l = most_hops l.n l.networks - l.hops
+decreases-loop-at l = most_hops l.labels.n l.networks - l.hops

@@ -11,8 +11,7 @@ use Rattle.cube.proofs.Refused.{accepted, passes}
 use Rattle.cube.specs.Tables.{label_in}
 use Rattle.cube.proofs.Tables.{dimension_is}
 use Rattle.jobs.specs.Jobs.{half}
-use Rattle.hop.specs.Helpers.{Asked, Placed}
-use Rattle.hop.proofs.Refusals.{half_placed}
+use Rattle.hop.specs.Helpers.{Asked}
 use Rattle.walk.specs.Helpers.{table_refusal}
 use Rattle.blocks.specs.Board.{hops_on, last_on, most_hops}
 use Rattle.hop_networks.specs.Helpers.{board_refusal, list_refusal}
@@ -22,7 +21,7 @@ use Rattle.walk_networks.specs.Crossing.{ended_by, too_short}
 use Rattle.walk_networks.proofs.Refusals.{made_few, unboarded, unlabelled, unlisted, unwalked, walked}
 use Rattle.walk_networks.proofs.Steps.{most_few}
 use Rattle.walk_networks.proofs.walk_networks.Goals as goal
-use Rattle.walk_networks.proofs.walk_networks.Goals.{After-half-table, In_ok-board_refusal, In_ok-found, In_ok-list_refusal, In_ok-table_refusal}
+use Rattle.walk_networks.proofs.walk_networks.Goals.{After-of-table, In_ok-board_refusal, In_ok-found, In_ok-list_refusal, In_ok-table_refusal}
 
 -- what the first two tests show
 board : (c : In_ok-board_refusal) → let a = c.args in board_refusal a.n (not (is_board a.networks)) ≡ 0
@@ -47,18 +46,18 @@ asked : (c : In_ok-list_refusal) → c.args.n ≤ 12 → let a = c.args in
 unfolding too_short
 asked c l = let r = list_good _ _ _ _ _ _ l (listed c) in (r.0, ltb-false _ _ r.1)
 
--- the job's half is a table, and its labels are tested and walked by
-good : (c : After-half-table) → let a = c.args in Asked a.n a.job a.s a.d (length a.labels.now) → Placed a.n a.s a.d (length c.half-table.result.now)
-good c p = rw c.half-table.ensures.bytes (half_placed _ _ _ _ _ p)
+-- the labels that it goes by are the half's
+good : (c : After-of-table) → let a = c.args in Asked a.n a.job a.s a.d (length a.labels.now) → (a.s < 2 ^ c.of-table.result.n) × (a.d < 2 ^ c.of-table.result.n)
+good c p = rw c.of-table.ensures.n (p.first, p.second)
 
 labelled : (c : In_ok-table_refusal) → let a = c.args in table_refusal a.n a.s a.d (label_in (half a.job (2 ^ a.n) a.labels.now)) ≡ 0
-labelled c = (accepted _ _ _ (sym (rw c.half-table.ensures.bytes at c.in_ok-table_refusal.ensures))).0
+labelled c = (accepted _ _ _ (sym (rw (c.of-table.ensures.n, c.of-table.ensures.bytes) at c.in_ok-table_refusal.ensures))).0
 
 -- the walk is found by the half's labels, and the list has room for it
 found : (c : In_ok-found) → let a = c.args in
     let lab = label_in (half a.job (2 ^ a.n) a.labels.now) in
     Ok c.in_ok-found.found ≡ ended_by (hops_on a.n a.networks lab a.d a.s) (last_on a.n a.networks lab a.d a.s)
-found c = rw c.half-table.ensures.bytes at c.in_ok-found.ensures.answer
+found c = rw (c.of-table.ensures.n, c.of-table.ensures.bytes) at c.in_ok-found.ensures.answer
 
 pub returns-in_err-board_refusal : goal.returns-in_err-board_refusal
 returns-in_err-board_refusal c =
@@ -81,8 +80,8 @@ returns-in_err-list_refusal c =
     let r = unlisted _ _ _ _ _ _ _ c.args.hops.now (board g.In_ok-board_refusal) _ _ (sym c.in_err-list_refusal.ensures) in
     record { answer = passes _ c.from_residual-in_err-list_refusal.ensures ∙ r.0; hops = r.1 }
 
-pub half-table-requires : goal.half-table-requires
-half-table-requires c = (asked c (small (goal.at.half-table-requires c).In_ok-board_refusal)).0.halved
+pub of-table-requires : goal.of-table-requires
+of-table-requires c = (asked c (small (goal.at.of-table-requires c).In_ok-board_refusal)).0.halved
 
 pub table_refusal-requires : goal.table_refusal-requires
 table_refusal-requires c =
@@ -93,20 +92,21 @@ pub returns-in_err-table_refusal : goal.returns-in_err-table_refusal
 returns-in_err-table_refusal c =
     let g = goal.at.returns-in_err-table_refusal c in
     let r = unlabelled _ _ _ _ _ _ _ c.args.hops.now (board g.In_ok-board_refusal) (listed g.In_ok-list_refusal) _ _
-    (sym (rw c.half-table.ensures.bytes at c.in_err-table_refusal.ensures)) in
+    (sym (rw (c.of-table.ensures.n, c.of-table.ensures.bytes) at c.in_err-table_refusal.ensures)) in
     record { answer = passes _ c.from_residual-in_err-table_refusal.ensures ∙ r.0; hops = r.1 }
 
 pub find-requires : goal.find-requires
 find-requires c =
     let g = goal.at.find-requires c in
     let b = networks-few g.In_ok-board_refusal in
-    (record { placed = good g.After-half-table (asked g.In_ok-list_refusal (small g.In_ok-board_refusal)).0; some = b.0; few = b.1 }, refl)
+    let p = good g.After-of-table (asked g.In_ok-list_refusal (small g.In_ok-board_refusal)).0 in
+    (p.0, p.1, b.0, b.1, refl)
 
 pub returns-in_err-found : goal.returns-in_err-found
 returns-in_err-found c =
     let g = goal.at.returns-in_err-found c in
     let w = unwalked _ _ _ _ _ _ _ c.args.hops.now (board g.In_ok-board_refusal) (listed g.In_ok-list_refusal) (labelled g.In_ok-table_refusal) _
-    (rw c.half-table.ensures.bytes at c.in_err-found.ensures.answer) in
+    (rw (c.of-table.ensures.n, c.of-table.ensures.bytes) at c.in_err-found.ensures.answer) in
     record { answer = passes _ c.from_residual-in_err-found.ensures ∙ w.0; hops = w.1 }
 
 -- the hops are few enough for both lists
@@ -122,6 +122,6 @@ pub returns : goal.returns
 returns c =
     let g = goal.at.returns c in
     let r = walked _ _ _ _ _ _ _ c.args.hops.now (board g.In_ok-board_refusal) (listed g.In_ok-list_refusal) (labelled g.In_ok-table_refusal) _ _ _ _ (found g.In_ok-found)
-    (rw c.half-table.ensures.bytes at c.in_ok-found.ensures.list)
+    (rw (c.of-table.ensures.n, c.of-table.ensures.bytes) at c.in_ok-found.ensures.list)
     (rw c.hops.ensures at c.write.ensures) in
     record { answer = r.0; hops = r.1 }

@@ -3,7 +3,7 @@ use mathlib.Core.Path.{sym, ap, ◌∙◌}
 use Rattle.hop.specs.Helpers.{found}
 use Rattle.hop.proofs.Sets.{none_found, some_found}
 use Rattle.blocks.proofs.Picks.{pick_forward, pick_home, pick_spare}
-use Rattle.hop_networks.proofs.Here.pick.Goals as goal
+use Rattle.hop_networks.proofs.InPhase.pick.Goals as goal
 
 pub returns-in-Some : goal.returns-in-Some
 returns-in-Some c =

@@ -1,7 +1,7 @@
 -- `call`: each block that finds nothing is passed, and the first that finds a dimension makes its hop or ends the call.
 use mathlib.Core.Path.{◌≡◌, refl, sym, ap, ap₂, ◌∙◌}
 use mathlib.Core.Bool.{Bool, true}
-use Prim.Native.Nat.{ℕ, ◌≤◌, ◌<◌, ◌^◌}
+use Prim.Native.Nat.{ℕ, ◌<◌, ◌^◌}
 use native.Mathlib.Omega.{arith}
 use lib.Bits.{bit_and, bit_xor}
 use lib.ListN.{get_or}
@@ -15,8 +15,8 @@ use Rattle.blocks.specs.Blocks.{block_at, block_of, eager, lowest, on, turning}
 use Rattle.hop.proofs.Sets.{none_found}
 use Rattle.hop_networks.proofs.Calling as calling
 use Rattle.hop_networks.proofs.Calling.{Past, last, last_not, on_block, onward, onward_lt, pass, past_none, shy, take, turned, turned_lt, turning_block}
-use Rattle.hop_networks.proofs.Here.call.Goals as goal
-use Rattle.hop_networks.proofs.Here.call.Goals.{Else-not-eager, In_default-lowest-3, In_default-lowest-4}
+use Rattle.hop_networks.proofs.InPhase.call.Goals as goal
+use Rattle.hop_networks.proofs.InPhase.call.Goals.{Else-not-eager, In_default-lowest-3, In_default-lowest-4}
 
 -- set is the dimensions of the side, mask those of the phase's direction
 module _ (n c d p own : ℕ) (near : ℕ → ℕ) (side : Bool) (set mask : ℕ) (es : set ≡ side_set n c d side) (em : mask ≡ on_set n c p) where
@@ -36,11 +36,11 @@ module _ (n c d p own : ℕ) (near : ℕ → ℕ) (side : Bool) (set mask : ℕ)
   turning-found r s t may e b = e ∙ ap (λ (x : ℕ). found n (least n (in_set x near t))) turning-is ∙ ap (found n) (turning_block n c d p own near side s t may b)
 
   -- both are sets of the n dimensions
-  on-small : (n ≤ 12) × (c < 2 ^ n) × (d < 2 ^ n) → (n ≤ 12) × (bit_and set mask < 2 ^ n)
-  on-small r = (r.0, omega (arith, on-is, onward_lt n c d p side r.1 r.2))
+  on-small : c < 2 ^ n → d < 2 ^ n → bit_and set mask < 2 ^ n
+  on-small hc hd = omega (arith, on-is, onward_lt n c d p side hc hd)
 
-  turning-small : (n ≤ 12) × (c < 2 ^ n) × (d < 2 ^ n) → (n ≤ 12) × (bit_xor set (bit_and set mask) < 2 ^ n)
-  turning-small r = (r.0, omega (arith, turning-is, turned_lt n c d p side r.1 r.2))
+  turning-small : c < 2 ^ n → d < 2 ^ n → bit_xor set (bit_and set mask) < 2 ^ n
+  turning-small hc hd = omega (arith, turning-is, turned_lt n c d p side hc hd)
 
   -- the first blocks passed, one after the other
   module _ (e1 : None ≡ found n (least n (in_set (bit_and set mask) near 0))) where
@@ -58,25 +58,25 @@ module _ (n c d p own : ℕ) (near : ℕ → ℕ) (side : Bool) (set mask : ℕ)
         past4 : None ≡ found n (least n (in_set (bit_xor set (bit_and set mask)) near 1)) → Past n c d p own near side 4
         past4 e4 = pass n c d p own near side 3 past3 (none_found _ _ (turning-found _ 3 1 _ e4 refl))
 
-passed4 : (c : In_default-lowest-3) → let a = c.args.self.now in Past a.n a.c a.d a.phase a.own (λ i. get_or a.near.now i 0) (is_forward c.args.side) 4
+passed4 : (c : In_default-lowest-3) → let a = c.args.self.now.here in Past a.n a.c a.d c.args.self.now.phase a.own (λ i. get_or a.near.now i 0) (is_forward c.args.side) 4
 passed4 c =
     past4 _ _ _ _ _ _ _ _ _ c.set-set.ensures c.on_set.ensures c.in_default.ensures c.in_default-lowest.ensures c.in_default-lowest-2.ensures
     c.in_default-lowest-3.ensures
 
 -- the last two are tried
-tried : (c : Else-not-eager) → let a = c.args.self.now in eager a.own (dist a.c a.d) ≡ true
+tried : (c : Else-not-eager) → let a = c.args.self.now.here in eager a.own (dist a.c a.d) ≡ true
 tried c = ap (eager _) (sym c.distance-l.ensures) ∙ sym c.eager.ensures ∙ c.if-not-eager.false
 
-passed5 : (c : In_default-lowest-4) → let a = c.args.self.now in
-    eager a.own (dist a.c a.d) ≡ true → Past a.n a.c a.d a.phase a.own (λ i. get_or a.near.now i 0) (is_forward c.args.side) 4
-    → Past a.n a.c a.d a.phase a.own (λ i. get_or a.near.now i 0) (is_forward c.args.side) 5
+passed5 : (c : In_default-lowest-4) → let a = c.args.self.now.here in
+    eager a.own (dist a.c a.d) ≡ true → Past a.n a.c a.d c.args.self.now.phase a.own (λ i. get_or a.near.now i 0) (is_forward c.args.side) 4
+    → Past a.n a.c a.d c.args.self.now.phase a.own (λ i. get_or a.near.now i 0) (is_forward c.args.side) 5
 passed5 c t q =
     pass _ _ _ _ _ _ _ 4 q
     (none_found _ _ (on-found _ _ _ _ _ _ _ _ _ c.set-set.ensures c.on_set.ensures _ 4 2 _ c.in_default-lowest-4.ensures (ap (λ (b : Bool). block_of on 2 b true) t)))
 
 pub lowest-requires : goal.lowest-requires
 lowest-requires c =
-    on-small _ _ _ _ c.args.self.now.own (λ i. get_or c.args.self.now.near.now i 0) _ _ _ c.set-set.ensures c.on_set.ensures (c.args.self.now.small, c.args.self.now.inside, c.args.self.now.target)
+    on-small _ _ _ _ c.args.self.now.here.own (λ i. get_or c.args.self.now.here.near.now i 0) _ _ _ c.set-set.ensures c.on_set.ensures c.args.self.now.here.inside c.args.self.now.here.target
 
 pub returns-in-Some : goal.returns-in-Some
 returns-in-Some c =
@@ -84,7 +84,7 @@ returns-in-Some c =
 
 pub lowest-requires-2 : goal.lowest-requires-2
 lowest-requires-2 c =
-    turning-small _ _ _ _ c.args.self.now.own (λ i. get_or c.args.self.now.near.now i 0) _ _ _ c.set-set.ensures c.on_set.ensures (c.args.self.now.small, c.args.self.now.inside, c.args.self.now.target)
+    turning-small _ _ _ _ c.args.self.now.here.own (λ i. get_or c.args.self.now.here.near.now i 0) _ _ _ c.set-set.ensures c.on_set.ensures c.args.self.now.here.inside c.args.self.now.here.target
 
 pub returns-in-Some-lowest : goal.returns-in-Some-lowest
 returns-in-Some-lowest c =
@@ -93,7 +93,7 @@ returns-in-Some-lowest c =
 
 pub lowest-requires-3 : goal.lowest-requires-3
 lowest-requires-3 c =
-    on-small _ _ _ _ c.args.self.now.own (λ i. get_or c.args.self.now.near.now i 0) _ _ _ c.set-set.ensures c.on_set.ensures (c.args.self.now.small, c.args.self.now.inside, c.args.self.now.target)
+    on-small _ _ _ _ c.args.self.now.here.own (λ i. get_or c.args.self.now.here.near.now i 0) _ _ _ c.set-set.ensures c.on_set.ensures c.args.self.now.here.inside c.args.self.now.here.target
 
 pub returns-in-Some-lowest-2 : goal.returns-in-Some-lowest-2
 returns-in-Some-lowest-2 c =
@@ -102,7 +102,7 @@ returns-in-Some-lowest-2 c =
 
 pub lowest-requires-4 : goal.lowest-requires-4
 lowest-requires-4 c =
-    turning-small _ _ _ _ c.args.self.now.own (λ i. get_or c.args.self.now.near.now i 0) _ _ _ c.set-set.ensures c.on_set.ensures (c.args.self.now.small, c.args.self.now.inside, c.args.self.now.target)
+    turning-small _ _ _ _ c.args.self.now.here.own (λ i. get_or c.args.self.now.here.near.now i 0) _ _ _ c.set-set.ensures c.on_set.ensures c.args.self.now.here.inside c.args.self.now.here.target
 
 pub returns-in-Some-lowest-3 : goal.returns-in-Some-lowest-3
 returns-in-Some-lowest-3 c =
@@ -118,7 +118,7 @@ returns-then-not-eager c =
 
 pub lowest-requires-5 : goal.lowest-requires-5
 lowest-requires-5 c =
-    on-small _ _ _ _ c.args.self.now.own (λ i. get_or c.args.self.now.near.now i 0) _ _ _ c.set-set.ensures c.on_set.ensures (c.args.self.now.small, c.args.self.now.inside, c.args.self.now.target)
+    on-small _ _ _ _ c.args.self.now.here.own (λ i. get_or c.args.self.now.here.near.now i 0) _ _ _ c.set-set.ensures c.on_set.ensures c.args.self.now.here.inside c.args.self.now.here.target
 
 pub returns-in-Some-lowest-4 : goal.returns-in-Some-lowest-4
 returns-in-Some-lowest-4 c =
@@ -127,12 +127,12 @@ returns-in-Some-lowest-4 c =
 
 pub lowest-requires-then-may_sixth : goal.lowest-requires-then-may_sixth
 lowest-requires-then-may_sixth c =
-    turning-small _ _ _ _ c.args.self.now.own (λ i. get_or c.args.self.now.near.now i 0) _ _ _ c.set-set.ensures c.on_set.ensures (c.args.self.now.small, c.args.self.now.inside, c.args.self.now.target)
+    turning-small _ _ _ _ c.args.self.now.here.own (λ i. get_or c.args.self.now.here.near.now i 0) _ _ _ c.set-set.ensures c.on_set.ensures c.args.self.now.here.inside c.args.self.now.here.target
 
 pub returns-then-may_sixth : goal.returns-then-may_sixth
 returns-then-may_sixth c =
     turning-found _ _ _ _ _ _ _ _ _ c.set-set.ensures c.on_set.ensures _ 5 2 _ c.lowest-then-may_sixth.ensures
-    (ap (λ (b : Bool). block_of turning 2 b (block_at c.args.self.now.own (dist c.args.self.now.c c.args.self.now.d) c.args.self.now.phase 5).may) (tried (goal.at.returns-then-may_sixth c).Else-not-eager))
+    (ap (λ (b : Bool). block_of turning 2 b (block_at c.args.self.now.here.own (dist c.args.self.now.here.c c.args.self.now.here.d) c.args.self.now.phase 5).may) (tried (goal.at.returns-then-may_sixth c).Else-not-eager))
     ∙ last _ _ _ _ _ _ _ (passed5 (goal.at.returns-then-may_sixth c).In_default-lowest-4 (tried (goal.at.returns-then-may_sixth c).Else-not-eager) (passed4 (goal.at.returns-then-may_sixth c).In_default-lowest-3)) ((rw c.distance-l.ensures at (sym c.may_sixth.ensures)) ∙ c.if-may_sixth.true)
 
 pub returns : goal.returns
