@@ -2,6 +2,7 @@
 use mathlib.Core.Path.{◌≡◌, refl, sym, ap, ◌∙◌}
 use mathlib.Core.Logic.{◌⊎◌, inl, inr, ⊎_elim, ◌≢◌}
 use mathlib.Core.Bool.{true, false, cond}
+use mathlib.Core.List.{List}
 use Prim.Native.Nat.{ℕ, zero, suc, ◌^◌, ◌≤◌, ◌<◌}
 use lib.Dec.{eqb, ltb}
 use borrow.Author.Tests.{ne_eqb}
@@ -12,8 +13,7 @@ use Rattle.cube.proofs.Cube.{dist_self, dist_zero}
 use Rattle.cube.specs.Refused.{answered}
 use Rattle.scans.specs.Scans.{first_scan, lowest, no_scan}
 use Rattle.scans.proofs.Local.{first_same, lowest_same}
-use Rattle.hop.specs.Helpers.{chosen, gathered}
-use Rattle.hop.specs.declared.Around.{Around}
+use Rattle.hop.specs.Helpers.{around, chosen, gathered}
 use Rattle.hop.proofs.Gathered.{chosen_is}
 use Rattle.hop.specs.Hop as H
 use Rattle.hop.specs.declared.Decision.{Decision}
@@ -106,8 +106,7 @@ module _ (n j c d m : ℕ) (lab : ℕ → ℕ) where
         (ap taken e ∙ picked scan (lowest n c d own near scan) ∙ sym (rw (ne_eqb (dist c d) 0 (λ z. far (dist_zero n c d hc hd z)))))
 
     -- as it was read at the node
-    pub taken_by : n ≤ 12 → c < 2 ^ n → d < 2 ^ n → c ≢ d → (a : Around) (p : Option (ℕ × ℕ)) → record { own = lab c; near = gathered n lab c } ≡ a
-        → p ≡ chosen n c d a.own (λ i. get_or a.near i 0) → Ok (taken p) ≡ hop_reason n j c d m lab
-    taken_by small hc hd far a p e ep =
-        taken_is hc hd far p
-        (rw (ap (λ (x : Around). x.own) e) ep ∙ chosen_is n lab c a.near small (sym (ap (λ (x : Around). x.near) e)) d)
+    pub taken_by : n ≤ 12 → c < 2 ^ n → d < 2 ^ n → c ≢ d → (h : ℕ × ℕ × ℕ × ℕ × List ℕ) (p : Option (ℕ × ℕ)) → h ≡ around n c d lab
+        → p ≡ chosen h.0 h.1 h.2 h.3 (λ i. get_or h.4 i 0) → Ok (taken p) ≡ hop_reason n j c d m lab
+    unfolding around
+    taken_by small hc hd far h p e ep = taken_is hc hd far p ((rw e at ep) ∙ chosen_is n lab c (gathered n lab c) small refl d)

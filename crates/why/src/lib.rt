@@ -19,8 +19,8 @@ ghost use Rattle.why.specs.NodeReasons.{labels_left, node_reason, node_refusal, 
 use causes::Cause;
 use cube::nodes;
 use cube::refusals::Refusal;
-use hop::{at_node, chosen, place_refusal};
-use jobs::half;
+use hop::{at_node, place_refusal};
+use jobs::Labels;
 use labels::{Watch, label_nodes, label_refusal};
 use passes::{MARKED, NEW, Node, OUT, Rule, Tables};
 
@@ -245,9 +245,10 @@ pub fn why_hop(
     ensures { result ≡ hop_reason n job c d (length labels.now) (label_for n job labels.now) }
 {
     place_refusal(n, job, c, d, labels.len(), false)?;
-    let around = at_node(n, c, d, half(n, job, labels))?;
+    let mut near = [0u8; 12];
+    let here = at_node(Labels::of(n, job, labels), c, d, &mut near)?;
     if c != d {
-        return Ok(taken(chosen(n, c, d, around.own, &around.near)));
+        return Ok(taken(here.chosen()));
     }
     Ok(HopReason::Deliver)
 }
