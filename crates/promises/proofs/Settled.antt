@@ -86,6 +86,7 @@ settled =
       hop_gather = settles hop.gather_says;
       hop_chosen = settles hop.chosen_says;
       hop_at_node = settles hop.at_node_says;
+      hop_around = settles hop.around_says;
       hop_hop_at = settles hop.hop_at_says;
       cube_nodes = settles cube.nodes_says;
       cube_neighbour = settles cube.neighbour_says;
@@ -96,6 +97,8 @@ settled =
       jobs_label_bytes = settles jobs.label_bytes_says;
       notice_set_bit = settles notice.set_bit_says;
       jobs_half = settles jobs.half_says;
+      jobs_of = settles jobs.labels_of_says;
+      jobs_at = settles jobs.label_at_says;
     }
 
 pub watched : (W : RattleType) (laws : Laws W) (G : Ghosts W.Denot) (dict : Dict) → Watched W laws G dict

@@ -55,6 +55,7 @@ all_tied =
       walk_table_refusal = record { clauses = λ w. refl; asked = refl; post = refl };
       hop_gather = record { clauses = λ w. refl; asked = refl; post = refl };
       hop_at_node = record { clauses = λ w. refl; asked = refl; post = refl };
+      hop_around = record { clauses = λ w. refl; asked = refl; post = refl };
       hop_chosen = record { clauses = λ w. refl; asked = refl; post = refl };
       hop_hop_at = record { clauses = λ w. refl; asked = refl; post = refl };
       walk_walk = record { clauses = λ w. refl; asked = refl; post = refl };
@@ -87,6 +88,8 @@ all_tied =
       cube_unused_set = record { clauses = λ w. refl; asked = refl; post = refl };
       jobs_is_job = record { clauses = λ w. refl; asked = refl; post = refl };
       jobs_label_bytes = record { clauses = λ w. refl; asked = refl; post = refl };
+      jobs_of = record { clauses = λ w. refl; asked = refl; post = refl };
+      jobs_at = record { clauses = λ w. refl; asked = refl; post = refl };
       jobs_half = record { clauses = λ w. refl; asked = refl; post = refl };
     }
 

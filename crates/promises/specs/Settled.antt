@@ -81,6 +81,7 @@ pub record Settled : Type 0 where
   pub hop_hop_at : Settles hop.hop-at
   pub hop_gather : Settles hop.gather
   pub hop_at_node : Settles hop.at-node
+  pub hop_around : Settles hop.around
   pub hop_chosen : Settles hop.chosen
   pub hop_lowest : Settles hop.lowest
   pub hop_last_hop : Settles hop.last-hop
@@ -98,6 +99,9 @@ pub record Settled : Type 0 where
   pub notice_set_bit : Settles notice.set-bit
   -- the half of a job: its bytes, and its place in the caller's memory
   pub jobs_half : Settles jobs.half
+  -- it as a type, with the dimension, and a label of it
+  pub jobs_of : Settles jobs.labels-of
+  pub jobs_at : Settles jobs.label-at
 
 -- and the one that is generic, whoever watches
 pub record Watched (W : RattleType) (laws : Laws W) (G : Ghosts W.Denot) (dict : Dict) : Type 0 where

@@ -51,6 +51,10 @@ use Rattle.reader.specs.contracts.Reader.next as reader_next
 use Rattle.reader.specs.contracts.next_at as reader_next_at
 use Rattle.reader.proofs.next_at.Reads as reader_next_at-reads
 use Rattle.jobs.proofs.Functions as jobs
+use Rattle.jobs.specs.contracts.Labels.at as jobs_at
+use Rattle.jobs.proofs.Labels.at.Reads as jobs_at-reads
+use Rattle.jobs.specs.contracts.Labels.of as jobs_of
+use Rattle.jobs.proofs.Labels.of.Reads as jobs_of-reads
 use Rattle.jobs.specs.contracts.half as jobs_half
 use Rattle.jobs.proofs.half.Reads as jobs_half-reads
 use Rattle.jobs.specs.contracts.is_job as jobs_is_job
@@ -79,10 +83,12 @@ use Rattle.labels.proofs.label_nodes.Reads as labels_label_nodes-reads
 use Rattle.labels.specs.contracts.label_refusal as labels_label_refusal
 use Rattle.labels.proofs.label_refusal.Reads as labels_label_refusal-reads
 use Rattle.hop.proofs.Functions as hop
+use Rattle.hop.specs.contracts.around as hop_around
+use Rattle.hop.proofs.around.Reads as hop_around-reads
 use Rattle.hop.specs.contracts.at_node as hop_at_node
 use Rattle.hop.proofs.at_node.Reads as hop_at_node-reads
-use Rattle.hop.specs.contracts.chosen as hop_chosen
-use Rattle.hop.proofs.chosen.Reads as hop_chosen-reads
+use Rattle.hop.specs.contracts.Here.chosen as hop_chosen
+use Rattle.hop.proofs.Here.chosen.Reads as hop_chosen-reads
 use Rattle.hop.specs.contracts.gather as hop_gather
 use Rattle.hop.proofs.gather.Reads as hop_gather-reads
 use Rattle.hop.specs.contracts.hop as hop_hop
@@ -91,10 +97,10 @@ use Rattle.hop.specs.contracts.hop_at as hop_hop_at
 use Rattle.hop.proofs.hop_at.Reads as hop_hop_at-reads
 use Rattle.hop.specs.contracts.place_refusal as hop_place_refusal
 use Rattle.hop.proofs.place_refusal.Reads as hop_place_refusal-reads
-use Rattle.hop.specs.contracts.last_hop as hop_last_hop
-use Rattle.hop.proofs.last_hop.Reads as hop_last_hop-reads
-use Rattle.hop.specs.contracts.lowest as hop_lowest
-use Rattle.hop.proofs.lowest.Reads as hop_lowest-reads
+use Rattle.hop.specs.contracts.Here.last_hop as hop_last_hop
+use Rattle.hop.proofs.Here.last_hop.Reads as hop_last_hop-reads
+use Rattle.hop.specs.contracts.Here.lowest as hop_lowest
+use Rattle.hop.proofs.Here.lowest.Reads as hop_lowest-reads
 use Rattle.hop.specs.contracts.near_refusal as hop_near_refusal
 use Rattle.hop.proofs.near_refusal.Reads as hop_near_refusal-reads
 use Rattle.walk.proofs.Functions as walk
@@ -222,6 +228,9 @@ pub record AllTied : Type 2 where
   pub hop_gather :
       Tied hop.gather (λ w. hop_gather.clauses w.𝓛 w.𝓜.mem w.𝓡.returns)
       hop_gather-reads.Asked hop_gather-reads.Post
+  pub hop_around :
+      Tied hop.around (λ w. hop_around.clauses w.𝓛 w.𝓜.mem w.𝓡.returns)
+      hop_around-reads.Asked hop_around-reads.Post
   pub hop_at_node :
       Tied hop.at-node (λ w. hop_at_node.clauses w.𝓛 w.𝓜.mem w.𝓡.returns)
       hop_at_node-reads.Asked hop_at_node-reads.Post
@@ -327,6 +336,12 @@ pub record AllTied : Type 2 where
   pub jobs_label_bytes :
       Tied jobs.label-bytes (λ w. jobs_label_bytes.clauses w.𝓛 w.𝓜.mem w.𝓡.returns)
       jobs_label_bytes-reads.Asked jobs_label_bytes-reads.Post
+  pub jobs_of :
+      Tied jobs.labels-of (λ w. jobs_of.clauses w.𝓛 w.𝓜.mem w.𝓡.returns)
+      jobs_of-reads.Asked jobs_of-reads.Post
+  pub jobs_at :
+      Tied jobs.label-at (λ w. jobs_at.clauses w.𝓛 w.𝓜.mem w.𝓡.returns)
+      jobs_at-reads.Asked jobs_at-reads.Post
   pub jobs_half : Tied jobs.half (λ w. jobs_half.clauses w.𝓛 w.𝓜.mem w.𝓡.returns) jobs_half-reads.Asked jobs_half-reads.Post
 
 -- and the one that is generic, whoever watches
