@@ -68,7 +68,7 @@ fn refused(refusal: Refusal) -> Walked
 }
 
 // The walk from s: a message is moved until a decision is no hop. It is refused where it would go on after n + 4 hops. (The loop has no counter of its own: the
-// travelling message counts its hops, as RULES, Walk, has it.)
+// travelling message counts its hops, as the rules have it (RULES, Walk).)
 fn walk_or_refusal(labels: Labels, s: usize, d: usize) -> Result<Walked, Refusal>
     requires { (s < 2 ^ labels.n) × (d < 2 ^ labels.n) }
     ensures { result ≡ walk_or_refusal labels.entry.n (label_in labels.entry.bytes.now) d s }
