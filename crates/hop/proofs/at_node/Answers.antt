@@ -2,7 +2,7 @@
 use mathlib.Core.List.{List}
 use mathlib.Core.Path.{sym, ap}
 use Prim.Native.Nat.{ℕ}
-use Rattle.std.proofs.lemmas.Result.{err_from_is_err_and}
+use Rattle.cube.proofs.Refused.{passes}
 use Rattle.cube.specs.Tables.{label_in}
 use Rattle.hop.specs.Helpers.{around}
 use Rattle.hop.proofs.Refusals.{node_reads, node_refuses}
@@ -11,9 +11,8 @@ use Rattle.hop.proofs.at_node.Goals as goal
 pub returns-in_err-near_refusal : goal.returns-in_err-near_refusal
 unfolding around
 returns-in_err-near_refusal c =
-    let p = err_from_is_err_and c.from_residual.result c.from_residual.ensures.1 in
     let own = ap (λ (s : ℕ × ℕ × ℕ × ℕ × List ℕ). s.3) c.around-high.ensures.here in
-    rw (p.1, p.2) (sym (node_refuses _ _ _ (label_in c.args.labels.bytes.now) _ c.around-high.ensures.high _ _ (sym (rw own at c.in_err-near_refusal.ensures))))
+    rw (passes _ c.from_residual.ensures) (sym (node_refuses _ _ _ (label_in c.args.labels.bytes.now) _ c.around-high.ensures.high _ _ (sym (rw own at c.in_err-near_refusal.ensures))))
 
 pub returns : goal.returns
 unfolding around

@@ -3,8 +3,7 @@
 use mathlib.Core.Path.{◌≡◌, refl, sym, ◌∙◌}
 use mathlib.Core.Bool.{false}
 use lib.ListN.{length}
-use Rattle.std.proofs.lemmas.Result.{err_from_is_err_and}
-use Rattle.cube.proofs.Refused.{accepted}
+use Rattle.cube.proofs.Refused.{accepted, passes}
 use Rattle.hop.specs.Helpers.{place_refusal}
 use Rattle.hop.specs.Hop.{hopped}
 use Rattle.hop.proofs.Gathered.{apart_by, arrives, goes_by}
@@ -19,8 +18,7 @@ accepts c = (accepted _ _ _ (sym c.in_ok-place_refusal.ensures)).0
 pub returns-in_err-place_refusal : goal.returns-in_err-place_refusal
 unfolding hopped
 returns-in_err-place_refusal c =
-    let p = err_from_is_err_and c.from_residual.result c.from_residual.ensures.1 in
-    rw (p.1, p.2) (sym (hop_misplaced _ _ _ _ _ _ _ _ _ (sym c.in_err-place_refusal.ensures)))
+    passes _ c.from_residual.ensures ∙ sym (hop_misplaced _ _ _ _ _ _ _ _ _ (sym c.in_err-place_refusal.ensures))
 
 pub of-requires : goal.of-requires
 of-requires c = (placed _ _ _ _ _ _ (accepts c)).halved
@@ -34,9 +32,8 @@ pub returns-in_err-here : goal.returns-in_err-here
 unfolding hopped
 returns-in_err-here c =
     let a = c.args in
-    let p = err_from_is_err_and c.from_residual-in_err-here.result c.from_residual-in_err-here.ensures.1 in
     let f = hop_refuses a.n a.job a.c a.d _ _ (accepted _ _ _ (sym c.in_ok-place_refusal.ensures)).0 in
-    rw (p.1, p.2) (sym (f _ _ (half_read _ _ _ _ c.of.ensures.n c.of.ensures.bytes _ _ _ c.in_err-here.ensures)))
+    passes _ c.from_residual-in_err-here.ensures ∙ sym (f _ _ (half_read _ _ _ _ c.of.ensures.n c.of.ensures.bytes _ _ _ c.in_err-here.ensures))
 
 pub chosen-requires : goal.chosen-requires
 chosen-requires c =

@@ -2,8 +2,7 @@
 use mathlib.Core.Path.{◌≡◌, sym, ap, ◌∙◌}
 use native.Mathlib.Omega.{arith}
 use lib.ListN.{length}
-use Rattle.std.proofs.lemmas.Result.{err_from_is_err_and}
-use Rattle.cube.proofs.Refused.{accepted}
+use Rattle.cube.proofs.Refused.{accepted, passes}
 use Rattle.jobs.proofs.Halves.{ends_short, ends_within, part_is_half, part_with_half}
 use Rattle.jobs.proofs.Laws.{halved_long}
 use Rattle.rule.specs.Cabinet.{cabinet}
@@ -23,8 +22,7 @@ fit c = fitting (cabinet _ _ _ _ _) _ _ (none c)
 
 pub returns-in_err-label_refusal-clause-answer : goal.returns-in_err-label_refusal-clause-answer
 returns-in_err-label_refusal-clause-answer c =
-    let p = err_from_is_err_and c.from_residual.result c.from_residual.ensures.1 in
-    rw (p.1, p.2) (says_refused (cabinet _ _ _ _ _) _ c.args.labels.now _ (sym c.label_refusal.ensures ∙ c.in_err-label_refusal.was)).0
+    passes _ c.from_residual.ensures ∙ (says_refused (cabinet _ _ _ _ _) _ c.args.labels.now _ (sym c.label_refusal.ensures ∙ c.in_err-label_refusal.was)).0
 
 pub returns-in_err-label_refusal-clause-labels : goal.returns-in_err-label_refusal-clause-labels
 returns-in_err-label_refusal-clause-labels c = (says_refused (cabinet _ _ _ _ _) _ _ _ (sym c.label_refusal.ensures ∙ c.in_err-label_refusal.was)).1

@@ -4,8 +4,7 @@ use mathlib.Core.Bool.{not}
 use Prim.Native.Nat.{◌^◌, ◌<◌}
 use lib.Dec.{eqb}
 use lib.ListN.{length}
-use Rattle.std.proofs.lemmas.Result.{err_from_is_err_and}
-use Rattle.cube.proofs.Refused.{accepted}
+use Rattle.cube.proofs.Refused.{accepted, passes}
 use Rattle.hop.specs.Helpers.{place_refusal}
 use Rattle.hop.proofs.Refusals.{placed}
 use Rattle.walk.specs.Walk.{row_bytes}
@@ -26,8 +25,7 @@ good c =
 
 pub returns-in_err-place_refusal : goal.returns-in_err-place_refusal
 returns-in_err-place_refusal c =
-    let p = err_from_is_err_and c.from_residual.result c.from_residual.ensures.1 in
-    rw (p.1, p.2) (sym (walk_misplaced _ _ _ _ _ _ _ _ _ (sym c.in_err-place_refusal.ensures)))
+    passes _ c.from_residual.ensures ∙ sym (walk_misplaced _ _ _ _ _ _ _ _ _ (sym c.in_err-place_refusal.ensures))
 
 pub of-table-requires : goal.of-table-requires
 of-table-requires c = (placed _ _ _ _ _ _ (unrefused c)).halved
@@ -37,10 +35,9 @@ table_refusal-requires c = good (goal.at.table_refusal-requires c).After-of-tabl
 
 pub returns-in_err-table_refusal : goal.returns-in_err-table_refusal
 returns-in_err-table_refusal c =
-    let p = err_from_is_err_and c.from_residual-in_err-table_refusal.result c.from_residual-in_err-table_refusal.ensures.1 in
     let e = rw (c.of-table.ensures.n, c.of-table.ensures.bytes) at c.in_err-table_refusal.ensures in
     let f = walk_refuses _ _ _ _ _ _ _ (accepted _ _ _ (sym c.in_ok-place_refusal.ensures)).0 _ _ (sym e) in
-    rw (p.1, p.2) (sym f)
+    passes _ c.from_residual-in_err-table_refusal.ensures ∙ sym f
 
 pub walk_or_refusal-requires : goal.walk_or_refusal-requires
 walk_or_refusal-requires c = good (goal.at.walk_or_refusal-requires c).After-of-table

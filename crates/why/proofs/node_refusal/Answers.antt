@@ -2,9 +2,8 @@
 use mathlib.Core.Path.{◌≡◌, sym, ap, ◌∙◌}
 use Prim.Native.Nat.{ℕ}
 use native.Mathlib.Omega.{arith}
-use Rattle.std.proofs.lemmas.Result.{err_from_is_err_and}
 use Rattle.cube.specs.Refused.{answered}
-use Rattle.cube.proofs.Refused.{accepted}
+use Rattle.cube.proofs.Refused.{accepted, passes}
 use Rattle.rule.specs.Cabinet.{cabinet}
 use Rattle.labels.specs.Labelling.{label_refusal}
 use Rattle.labels.proofs.Refusal.{fitting}
@@ -20,8 +19,7 @@ of_number e = ap (λ (z : ℕ). answered {A = Unit {0}} z tt) e
 
 pub returns-in_err-label_refusal : goal.returns-in_err-label_refusal
 returns-in_err-label_refusal c =
-    let p = err_from_is_err_and c.from_residual.result c.from_residual.ensures.1 in
-    rw (p.1, p.2) (refuses_as_labelling (cabinet _ _ _ _ _) _ _ _ _ (sym c.label_refusal.ensures ∙ c.in_err-label_refusal.was))
+    passes _ c.from_residual.ensures ∙ refuses_as_labelling (cabinet _ _ _ _ _) _ _ _ _ (sym c.label_refusal.ensures ∙ c.in_err-label_refusal.was)
 
 pub nodes-requires : goal.nodes-requires
 nodes-requires c = omega (arith, (fitting (cabinet _ _ _ _ _) _ _ (none (goal.at.nodes-requires c).In_ok-label_refusal)).halved.small)

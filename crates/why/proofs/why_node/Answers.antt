@@ -9,8 +9,7 @@ use Rattle.jobs.proofs.Laws.{halved_long}
 use Rattle.rule.specs.Cabinet.{cabinet}
 use Rattle.labels.specs.Labelling.{label_refusal}
 use Rattle.labels.proofs.Refusal.{Fitting, fitting}
-use Rattle.std.proofs.lemmas.Result.{err_from_is_err_and}
-use Rattle.cube.proofs.Refused.{accepted as passes}
+use Rattle.cube.proofs.Refused.{accepted as unrefused, passes}
 use Rattle.why.specs.NodeReasons.{node_refusal}
 use Rattle.why.proofs.Refusal.{accepted, says_reason, says_refused}
 use Rattle.why.proofs.why_node.Goals as goal
@@ -19,7 +18,7 @@ use Rattle.why.proofs.why_node.Goals.{In_ok-node_refusal}
 -- past the test nothing is refused, everything fits, and x is a node
 none : (c : In_ok-node_refusal) → let a = c.args in
     node_refusal (cabinet a.n a.rule a.faults.now a.draining.now a.closed.now) a.job (length a.labels.now) a.x ≡ 0
-none c = (passes _ _ _ (sym c.node_refusal.ensures ∙ c.in_ok-node_refusal.was)).0
+none c = (unrefused _ _ _ (sym c.node_refusal.ensures ∙ c.in_ok-node_refusal.was)).0
 
 good : (c : In_ok-node_refusal) → let a = c.args in let K = cabinet a.n a.rule a.faults.now a.draining.now a.closed.now in
     (label_refusal K a.job (length a.labels.now) ≡ 0) × (a.x < 2 ^ a.n)
@@ -31,8 +30,7 @@ fit c = fitting (cabinet _ _ _ _ _) _ _ (good c).0
 
 pub returns-in_err-node_refusal-clause-answer : goal.returns-in_err-node_refusal-clause-answer
 returns-in_err-node_refusal-clause-answer c =
-    let p = err_from_is_err_and c.from_residual.result c.from_residual.ensures.1 in
-    rw (p.1, p.2) (says_refused (cabinet _ _ _ _ _) _ _ c.args.labels.now _ (sym c.node_refusal.ensures ∙ c.in_err-node_refusal.was)).0
+    passes _ c.from_residual.ensures ∙ (says_refused (cabinet _ _ _ _ _) _ _ c.args.labels.now _ (sym c.node_refusal.ensures ∙ c.in_err-node_refusal.was)).0
 
 pub returns-in_err-node_refusal-clause-labels : goal.returns-in_err-node_refusal-clause-labels
 returns-in_err-node_refusal-clause-labels c = (says_refused (cabinet _ _ _ _ _) _ _ _ _ (sym c.node_refusal.ensures ∙ c.in_err-node_refusal.was)).1
