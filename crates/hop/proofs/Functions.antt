@@ -37,8 +37,8 @@ use Rattle.hop.specs.contracts.hop_at
 use Rattle.hop.proofs.hop_at.Reads as hop_at-reads
 use Rattle.hop.specs.contracts.Here.last_hop
 use Rattle.hop.proofs.Here.last_hop.Reads as last_hop-reads
-use Rattle.hop.specs.contracts.Here.lowest as lowest-claims
-use Rattle.hop.proofs.Here.lowest.Reads as lowest-claims-reads
+use Rattle.hop.specs.contracts.lowest as lowest-claims
+use Rattle.hop.proofs.lowest.Reads as lowest-claims-reads
 use Rattle.hop.specs.contracts.near_refusal
 use Rattle.hop.proofs.near_refusal.Reads as near_refusal-reads
 
@@ -175,7 +175,7 @@ lowest =
       clauses = λ w. lowest-claims.clauses w.𝓛 w.𝓜.mem w.𝓡.returns;
       asked = lowest-claims-reads.Asked;
       post = lowest-claims-reads.Post;
-      handed = λ κs a. (a.0.now.n, a.1.0, a.0.now.near.now, a.1.1.0);
+      handed = λ κs a. (a.0, a.1.0, a.1.1.0.now, a.1.1.1.0);
       answered = λ κs r. r;
       left = λ κs e. tt;
     }

@@ -114,24 +114,24 @@ pub fn around<'a>(labels: Labels, c: usize, d: usize, near: &'a mut [u8; 12]) ->
     (here, high)
 }
 
-impl Here<'_> {
-    // The lowest dimension of a set whose neighbour's label is at most top. The bits of a number are the set's dimensions: its trailing zeros give the lowest
-    // of them, and `rest & (rest - 1)` is the rest without it. (`(0..n).find(..)` was tried: it asks each dimension, and takes a quarter longer.)
-    pub fn lowest(&self, set: usize, top: u8) -> Option<usize>
-        requires { set < 2 ^ self.now.n }
-        ensures { result ≡ found self.now.n (least self.now.n (in_set set (λ i. get_or self.now.near.now i 0) top)) }
-    {
-        let mut rest = set;
-        while rest != 0 {
-            let i = usize::trailing_zeros(rest) as usize;
-            if self.near[i] <= top {
-                return Some(i);
-            }
-            rest = rest & (rest - 1);
+// The lowest dimension of a set whose neighbour's label is at most top. The bits of a number are the set's dimensions: its trailing zeros give the lowest of
+// them, and `rest & (rest - 1)` is the rest without it. (`(0..n).find(..)` was tried: it asks each dimension, and takes a quarter longer.)
+pub fn lowest(n: usize, set: usize, near: &[u8; 12], top: u8) -> Option<usize>
+    requires { (n ≤ 12) × (set < 2 ^ n) }
+    ensures { result ≡ found n (least n (in_set set (λ i. get_or near.now i 0) top)) }
+{
+    let mut rest = set;
+    while rest != 0 {
+        let i = usize::trailing_zeros(rest) as usize;
+        if near[i] <= top {
+            return Some(i);
         }
-        None
+        rest = rest & (rest - 1);
     }
+    None
+}
 
+impl Here<'_> {
     // The hop before the scans: to d itself, where only one dimension is forward, so that d is the neighbour across it, and d drains.
     pub fn last_hop(&self) -> Option<usize>
         requires { self.now.c ≢ self.now.d }
@@ -152,7 +152,7 @@ impl Here<'_> {
     fn forward(&self, top: u8) -> Option<usize>
         ensures { let s = self.now in result ≡ found s.n (least s.n (in_set (bit_xor s.c s.d) (λ i. get_or s.near.now i 0) top)) }
     {
-        self.lowest(self.c ^ self.d, top)
+        lowest(self.n, self.c ^ self.d, self.near, top)
     }
 
     // The third scan: a strongly unsafe node is entered from another, or near the destination.
@@ -169,7 +169,12 @@ impl Here<'_> {
     fn spare(&self, top: u8) -> Option<usize>
         ensures { let s = self.now in result ≡ found s.n (least s.n (in_set (bit_xor (bit_xor s.c s.d) (2 ^ s.n - 1)) (λ i. get_or s.near.now i 0) top)) }
     {
-        self.lowest(self.c ^ self.d ^ (nodes(self.n) - 1), top)
+        lowest(
+            self.n,
+            self.c ^ self.d ^ (nodes(self.n) - 1),
+            self.near,
+            top,
+        )
     }
 
     // What the first of the scans that takes a dimension picks: the scan and the dimension.

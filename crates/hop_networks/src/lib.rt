@@ -15,7 +15,7 @@ ghost use Rattle.jobs.specs.Jobs.{label_for};
 
 use cube::refusals::Refusal;
 use cube::{distance, is_dimension, nodes};
-use hop::{Decision, Here, around, at_node};
+use hop::{Decision, Here, around, at_node, lowest};
 use jobs::{Labels, is_job, label_bytes};
 
 // Whether a board may have so many networks.
@@ -159,27 +159,27 @@ impl InPhase<'_> {
         let set = side.set(here.n, here.c, here.d);
         let on = set & on_set(here.n, here.c, self.phase);
         let turning = set ^ on;
-        if let Some(i) = here.lowest(on, 0) {
+        if let Some(i) = lowest(here.n, on, here.near, 0) {
             return Some(i);
         }
-        if let Some(i) = here.lowest(turning, 0) {
+        if let Some(i) = lowest(here.n, turning, here.near, 0) {
             return Some(i);
         }
-        if let Some(i) = here.lowest(on, 1) {
+        if let Some(i) = lowest(here.n, on, here.near, 1) {
             return Some(i);
         }
         let l = distance(here.c, here.d);
-        if let Some(i) = here.lowest(turning, 1) {
+        if let Some(i) = lowest(here.n, turning, here.near, 1) {
             return may_fourth(l, self.phase).then_some(i);
         }
         if !eager(here.own, l) {
             return None;
         }
-        if let Some(i) = here.lowest(on, 2) {
+        if let Some(i) = lowest(here.n, on, here.near, 2) {
             return Some(i);
         }
         if may_sixth(l, self.phase) {
-            return here.lowest(turning, 2);
+            return lowest(here.n, turning, here.near, 2);
         }
         None
     }

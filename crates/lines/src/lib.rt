@@ -173,13 +173,13 @@ pub fn pair_line(s: usize, d: usize, walked: Walked) -> Line
     line
 }
 
-// A word, the refusal, its place and the end of the line.
-pub fn refused_line(word: &[u8], refusal: Refusal, at: usize) -> Line
+// A word, the number of a refusal, its place and the end of the line.
+pub fn refused_line(word: &[u8], k: u32, at: usize) -> Line
     requires { length word.now ≤ 20 }
-    ensures { result ≡ (word.now ++ decimal (number refusal)) ++ field " " at ++ text "\n" }
+    ensures { result ≡ (word.now ++ decimal k) ++ field " " at ++ text "\n" }
 {
     let mut line = Line::new();
-    line.field(word, refusal);
+    line.field(word, k);
     line.field(b" ", at);
     line.text(b"\n");
     line

@@ -75,7 +75,7 @@ fn notice_line(bytes: &[u8], faults: &mut [u8], labels: &mut [u8; 8192]) -> Head
 {
     match notice::read(bytes, faults) {
         Err((refusal, at)) => Head {
-            line: refused_line(b"notice refused ", refusal, at),
+            line: refused_line(b"notice refused ", u32::from(refusal), at),
             labelled: None,
         },
         Ok(Notice { n, count, .. }) => {
@@ -125,7 +125,7 @@ pub fn line_at(n: usize, labels: &[u8], bytes: &[u8], at: usize) -> Pair
             next,
         },
         Err((refusal, place)) => Pair {
-            line: refused_line(b"input refused ", refusal, place),
+            line: refused_line(b"input refused ", u32::from(refusal), place),
             next: bytes.len(),
         },
     }

@@ -99,8 +99,8 @@ use Rattle.hop.specs.contracts.place_refusal as hop_place_refusal
 use Rattle.hop.proofs.place_refusal.Reads as hop_place_refusal-reads
 use Rattle.hop.specs.contracts.Here.last_hop as hop_last_hop
 use Rattle.hop.proofs.Here.last_hop.Reads as hop_last_hop-reads
-use Rattle.hop.specs.contracts.Here.lowest as hop_lowest
-use Rattle.hop.proofs.Here.lowest.Reads as hop_lowest-reads
+use Rattle.hop.specs.contracts.lowest as hop_lowest
+use Rattle.hop.proofs.lowest.Reads as hop_lowest-reads
 use Rattle.hop.specs.contracts.near_refusal as hop_near_refusal
 use Rattle.hop.proofs.near_refusal.Reads as hop_near_refusal-reads
 use Rattle.walk.proofs.Functions as walk

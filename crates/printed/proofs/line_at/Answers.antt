@@ -23,7 +23,7 @@ pub returns-in-Ok-clause-next : goal.returns-in-Ok-clause-next
 returns-in-Ok-clause-next c = (read (goal.at.returns-in-Ok-clause-next c).In-Ok).1
 
 pub returns-in-Err-clause-line : goal.returns-in-Err-clause-line
-returns-in-Err-clause-line c = c.refused_line.ensures ∙ (refused (goal.at.returns-in-Err-clause-line c).In-Err).0
+returns-in-Err-clause-line c = (rw c.from.ensures at c.refused_line.ensures) ∙ (refused (goal.at.returns-in-Err-clause-line c).In-Err).0
 
 pub returns-in-Err-clause-next : goal.returns-in-Err-clause-next
 returns-in-Err-clause-next c = (refused (goal.at.returns-in-Err-clause-next c).In-Err).1

@@ -32,7 +32,7 @@ first_line-requires c =
     fit (simp length-take (omega (arith, fits s, whole s, c.label_bytes-bytes.ensures)))
 
 pub returns-in-Err : goal.returns-in-Err
-returns-in-Err c = refused_head _ _ c.requires.faults_len _ (sym c.read.ensures.answer ∙ c.in-Err.is) c.refused_line.ensures
+returns-in-Err c = refused_head _ _ c.requires.faults_len _ (sym c.read.ensures.answer ∙ c.in-Err.is) (rw c.from.ensures at c.refused_line.ensures)
 
 pub returns-in-Ok : goal.returns-in-Ok
 returns-in-Ok c =

@@ -76,7 +76,7 @@ passed5 c t q =
 
 pub lowest-requires : goal.lowest-requires
 lowest-requires c =
-    on-small _ _ _ _ c.args.self.now.here.own (λ i. get_or c.args.self.now.here.near.now i 0) _ _ _ c.set-set.ensures c.on_set.ensures c.args.self.now.here.inside c.args.self.now.here.target
+    (c.args.self.now.here.small, on-small _ _ _ _ c.args.self.now.here.own (λ i. get_or c.args.self.now.here.near.now i 0) _ _ _ c.set-set.ensures c.on_set.ensures c.args.self.now.here.inside c.args.self.now.here.target)
 
 pub returns-in-Some : goal.returns-in-Some
 returns-in-Some c =
@@ -84,7 +84,7 @@ returns-in-Some c =
 
 pub lowest-requires-2 : goal.lowest-requires-2
 lowest-requires-2 c =
-    turning-small _ _ _ _ c.args.self.now.here.own (λ i. get_or c.args.self.now.here.near.now i 0) _ _ _ c.set-set.ensures c.on_set.ensures c.args.self.now.here.inside c.args.self.now.here.target
+    (c.args.self.now.here.small, turning-small _ _ _ _ c.args.self.now.here.own (λ i. get_or c.args.self.now.here.near.now i 0) _ _ _ c.set-set.ensures c.on_set.ensures c.args.self.now.here.inside c.args.self.now.here.target)
 
 pub returns-in-Some-lowest : goal.returns-in-Some-lowest
 returns-in-Some-lowest c =
@@ -93,7 +93,7 @@ returns-in-Some-lowest c =
 
 pub lowest-requires-3 : goal.lowest-requires-3
 lowest-requires-3 c =
-    on-small _ _ _ _ c.args.self.now.here.own (λ i. get_or c.args.self.now.here.near.now i 0) _ _ _ c.set-set.ensures c.on_set.ensures c.args.self.now.here.inside c.args.self.now.here.target
+    (c.args.self.now.here.small, on-small _ _ _ _ c.args.self.now.here.own (λ i. get_or c.args.self.now.here.near.now i 0) _ _ _ c.set-set.ensures c.on_set.ensures c.args.self.now.here.inside c.args.self.now.here.target)
 
 pub returns-in-Some-lowest-2 : goal.returns-in-Some-lowest-2
 returns-in-Some-lowest-2 c =
@@ -102,7 +102,7 @@ returns-in-Some-lowest-2 c =
 
 pub lowest-requires-4 : goal.lowest-requires-4
 lowest-requires-4 c =
-    turning-small _ _ _ _ c.args.self.now.here.own (λ i. get_or c.args.self.now.here.near.now i 0) _ _ _ c.set-set.ensures c.on_set.ensures c.args.self.now.here.inside c.args.self.now.here.target
+    (c.args.self.now.here.small, turning-small _ _ _ _ c.args.self.now.here.own (λ i. get_or c.args.self.now.here.near.now i 0) _ _ _ c.set-set.ensures c.on_set.ensures c.args.self.now.here.inside c.args.self.now.here.target)
 
 pub returns-in-Some-lowest-3 : goal.returns-in-Some-lowest-3
 returns-in-Some-lowest-3 c =
@@ -118,7 +118,7 @@ returns-then-not-eager c =
 
 pub lowest-requires-5 : goal.lowest-requires-5
 lowest-requires-5 c =
-    on-small _ _ _ _ c.args.self.now.here.own (λ i. get_or c.args.self.now.here.near.now i 0) _ _ _ c.set-set.ensures c.on_set.ensures c.args.self.now.here.inside c.args.self.now.here.target
+    (c.args.self.now.here.small, on-small _ _ _ _ c.args.self.now.here.own (λ i. get_or c.args.self.now.here.near.now i 0) _ _ _ c.set-set.ensures c.on_set.ensures c.args.self.now.here.inside c.args.self.now.here.target)
 
 pub returns-in-Some-lowest-4 : goal.returns-in-Some-lowest-4
 returns-in-Some-lowest-4 c =
@@ -127,7 +127,7 @@ returns-in-Some-lowest-4 c =
 
 pub lowest-requires-then-may_sixth : goal.lowest-requires-then-may_sixth
 lowest-requires-then-may_sixth c =
-    turning-small _ _ _ _ c.args.self.now.here.own (λ i. get_or c.args.self.now.here.near.now i 0) _ _ _ c.set-set.ensures c.on_set.ensures c.args.self.now.here.inside c.args.self.now.here.target
+    (c.args.self.now.here.small, turning-small _ _ _ _ c.args.self.now.here.own (λ i. get_or c.args.self.now.here.near.now i 0) _ _ _ c.set-set.ensures c.on_set.ensures c.args.self.now.here.inside c.args.self.now.here.target)
 
 pub returns-then-may_sixth : goal.returns-then-may_sixth
 returns-then-may_sixth c =
