@@ -126,6 +126,7 @@ impl Table<'_> {
 // ---- all tables
 
 // Adds table t.
+// (1 ≤ n ≤ 4 stays a clause: two functions here and two of the program have it, and a type would hold the number alone.)
 fn add_table(n: usize, t: usize, labels: &mut [u8], counters: &mut [u32])
     requires le_n { (1 ≤ n) × (n ≤ 4) }
     requires t_bound { (t < tables n) × (length labels.old ≡ label_bytes n) }

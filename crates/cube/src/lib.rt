@@ -34,6 +34,7 @@ pub fn distance(c: usize, d: usize) -> u32
 }
 
 // Whether n is a dimension that the library takes, 1 to 12.
+// (A range of its own, as `is_rule`, `is_board` and `is_tallied` are: a function with the two bounds is no plainer than the range.)
 #[tactic(auto, unfolding(crate::specs::Tables::is_dimension))]
 pub fn is_dimension(n: usize) -> bool
     ensures { result ≡ is_dimension n }

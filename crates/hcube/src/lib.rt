@@ -32,6 +32,7 @@ use walk_networks::Crossed;
 use why::{HopReason, NodeReason};
 
 // One number for the refusal, the kind and the value.
+// (Functions, and no `From`: most ask that a part fits its bits, and `from` may ask nothing.)
 fn pack(refusal: u32, kind: u32, value: usize) -> u32
     requires { (refusal < 256) × ((kind < 256) × (value < 65536)) }
     ensures { result ≡ packed refusal kind value }
@@ -125,6 +126,7 @@ fn row_byte(row: &[u16; 17], k: usize) -> u8
 }
 
 // All 34 bytes of a row. (With `out: &mut [u8; 34]` it is no plainer: `write_row` would test a length that its `requires` gives.)
+// (A loop by k: of `as_chunks_mut` the library does not say what the slice holds in the end.)
 fn put_row(row: &[u16; 17], out: &mut [u8])
     requires { length out.old ≡ row_bytes }
     ensures { out.new ≡ tab row_bytes (row_byte row.now) }

@@ -43,6 +43,7 @@ pub struct Here<'a> {
 }
 
 // The refusals that need no label: of a job, two nodes, a label buffer of len bytes, and whether another lent buffer has a wrong length.
+// (other, and high of `near_refusal`, stay flags: `place_tests` and `label_tests` have them.)
 #[tactic(auto, unfolding(crate::specs::Helpers::place_refusal, cube::specs::Refusal::first, cube::specs::Tables::is_dimension, jobs::specs::Jobs::is_job))]
 pub fn place_refusal(
     n: usize,
@@ -83,6 +84,7 @@ fn some_above(n: usize, near: &[u8; 12]) -> bool
 
 // Reads the labels of c's neighbours, each once, into the first n places of near, and answers whether one is above the highest label. None is above all of
 // them joined by `|`: so where that is no higher, as it is where no neighbour drains, they need not be looked at one by one.
+// (near is the caller's array: where it was answered, a walk took 1.16 times as long.)
 pub fn gather(labels: Labels, c: usize, near: &mut [u8; 12]) -> bool
     requires { (c < 2 ^ labels.n) × (near.old ≡ replicate 12 0) }
     ensures near { near.new ≡ gathered labels.entry.n (label_in labels.entry.bytes.now) c }
@@ -98,6 +100,8 @@ pub fn gather(labels: Labels, c: usize, near: &mut [u8; 12]) -> bool
 }
 
 // What c knows of a message to d, and whether one of its neighbours' labels is above the highest.
+// (The answer of the test stands beside it, in no Result: a walk, whose table was tested, does not ask for it.)
+// (c and d stay parameters here and in what a walk calls: the node is another at each hop, and a struct would be made anew there.)
 pub fn around<'a>(labels: Labels, c: usize, d: usize, near: &'a mut [u8; 12]) -> (Here<'a>, bool)
     requires { (c < 2 ^ labels.n) × (d < 2 ^ labels.n) × (near.old ≡ replicate 12 0) }
     ensures here { let h = result.0 in (h.n, h.c, h.d, h.own, h.near.now) ≡ around labels.entry.n c d (label_in labels.entry.bytes.now) }

@@ -27,6 +27,7 @@ pub fn is_board(networks: usize) -> bool
 }
 
 // The refusals of the dimension and the board: lacking says that the board is none, or has not what is asked of it.
+// (lacking, and short of `list_refusal`, stay flags: `board_tests` and `list_tests` have them, and each question hands over a test of its own.)
 #[tactic(auto, unfolding(crate::specs::Helpers::board_refusal, cube::specs::Refusal::first))]
 pub fn board_refusal(n: usize, lacking: bool) -> Result<(), Refusal>
     ensures { result ≡ answered (board_refusal n lacking) tt }
@@ -41,6 +42,7 @@ pub fn board_refusal(n: usize, lacking: bool) -> Result<(), Refusal>
 }
 
 // The refusals behind these that need no label: of a job, a label buffer of len bytes, a hop list that may be too short, and two nodes.
+// (Beside hop's `place_refusal`: 13 for 2, and the dimension is tested before the board. One function would take two flags more.)
 #[tactic(auto, unfolding(crate::specs::Helpers::list_refusal, cube::specs::Refusal::first))]
 pub fn list_refusal(
     n: usize,
@@ -87,6 +89,7 @@ enum Side {
 
 impl Side {
     // Its dimensions at c, as the bits of a number.
+    // (n ≤ 12 stays a clause where n alone is handed: a type would hold the number alone.)
     #[tactic(auto, unfolding(crate::specs::Helpers::side_set))]
     fn set(self, n: usize, c: usize, d: usize) -> usize
         requires { n ≤ 12 }
@@ -120,6 +123,7 @@ fn on_set(n: usize, c: usize, phase: usize) -> usize
 }
 
 // "c is strongly unsafe or l ≤ 2".
+// (hop's `third` has it of a node; here the distance is counted once for three tests.)
 #[tactic(auto, unfolding(blocks::specs::Blocks::eager))]
 fn eager(own: u8, l: u32) -> bool
     ensures { result ≡ blocks.eager own l }
@@ -128,6 +132,7 @@ fn eager(own: u8, l: u32) -> bool
 }
 
 // Whether the fourth block makes the hop that it finds: from down to up in network 0 alone, or where the destination is near.
+// (Two functions, since the figure has two sentences: one with a flag for network 0 is no plainer.)
 #[tactic(auto, unfolding(blocks::specs::Blocks::may_fourth))]
 fn may_fourth(l: u32, phase: usize) -> bool
     ensures { result ≡ blocks.may_fourth l phase }
@@ -152,6 +157,7 @@ struct InPhase<'a> {
 
 impl InPhase<'_> {
     // One call of FORWARD, for the dimensions of one side: the dimension of its hop. on are those of the phase's direction, turning the others.
+    // (No chain of `or_else`, here and in `pick`, for the reason that hop's `scanned` gives.)
     fn call(&self, side: Side) -> Option<usize>
         ensures { let s = self.now.here in result ≡ found s.n (blocks.call s.n s.c s.d self.now.phase s.own (λ i. get_or s.near.now i 0) (is_forward side)) }
     {

@@ -82,6 +82,7 @@ impl Watch for () {
 
 // Labels every node of an accepted cabinet in the half of its job, under the eyes of a watcher, and answers the number of exchanges: each sweep is one, and the
 // last is the first that marks nothing new.
+// (A `while`: no range has the rounds, since the last is the first that marks nothing.)
 pub fn label_nodes<W: Watch>(
     rule: Rule,
     tables: Tables,
@@ -114,6 +115,8 @@ pub fn label_nodes<W: Watch>(
 
 // Labels every node by the rule, for a job, and answers the number of exchanges, the quiet one included, or refuses and leaves the label buffer as it was.
 // The other job's half is left as it was either way.
+// (The questions take what they are asked one by one, as C hands it: `InOrder`. The half is taken in the same lines by `why_node`,
+// which answers another question.)
 pub fn label(
     n: usize,
     rule: usize,

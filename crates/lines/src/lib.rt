@@ -14,6 +14,7 @@ use std::marker::Model;
 use walk::{Ending, Walked};
 
 // A number that a line holds in decimal digits.
+// (No `Into<u64>`: a usize has none, and it gives a clause a relation, no value.)
 trait Numeral: Copy {
     ghost value: { Self → ℕ };
 
@@ -125,6 +126,7 @@ impl Line {
     }
 
     // A walk that came to an end: its hops, and the nodes visited.
+    // (That a walk has 16 hops at most stays a clause: `Walked` is handed in by callers, and a fact in its type would ask more of them.)
     fn nodes(&mut self, word: &[u8], walked: &Walked)
         requires { walked.now.hops ≤ 16 }
         ensures { self.new ≡ put self.old (word.now ++ decimal walked.now.hops ++ row_text walked.now.row (walked.now.hops + 1)) }

@@ -158,6 +158,7 @@ fn first_entry(s: &[u8]) -> Option<Run>
 }
 
 // Judges the whole text, and writes nothing: it is refused where a rule is broken anywhere, and otherwise where an entry goes beyond the cube.
+// (A `while` over what is left: each entry says where the next one begins. The same in `put_entries`.)
 fn check(text: &[u8], size: usize) -> Result<(), Refusal>
     requires { size ≤ 4096 }
     ensures { result ≡ answered (first (text_tests size text.now)) tt }

@@ -15,6 +15,7 @@ ghost use Rattle.rule.specs.Rule.{meets};
 
 use cube::{neighbour, node_bit};
 
+// The labels are numbers and no enum: bytes of the buffer that C lends, which may hold any (refusal 4), and the rule adds them up.
 const PLAIN: u8 = 0; // no mark; in the end: safe
 
 const ORDINARY: u8 = 1; // in the end: ordinarily unsafe
@@ -35,6 +36,7 @@ struct Tested {
 }
 
 // A rule, by its number: so many neighbours that do not work or are marked make a node unsafe.
+// (No enum: the test of a neighbour counts by the number, and so do the contracts.)
 #[derive(Clone, Copy)]
 pub struct Rule {
     pub number: usize,
@@ -104,6 +106,7 @@ impl<'a> Node<'a> {
     }
 
     // Whether it has a neighbour without a mark: in the end, a safe one. The test stops at the first.
+    // (No one function with `meets_rule`: that adds weights up, this stops at the first. The bit is doubled for the reason given there.)
     fn plain_near(self) -> Tested
         ensures holds { result.holds ≡ some self.entry.n (λ i. plain_in self.entry.labels.now (flip i self.entry.x)) }
         ensures looked { result.looked ≡ looks_near self.entry.n (plain_in self.entry.labels.now) self.entry.x }
@@ -199,6 +202,7 @@ impl<'a> Faulty<'a> {
 }
 
 // The tables of a cabinet, by which its nodes work for a job or do not.
+// (It holds no `Faulty`: a struct has not two references of two lifetimes at one parameter. A `NodeTable` would ask n ≤ 12.)
 #[derive(Clone, Copy)]
 pub struct Tables<'a> {
     pub n: usize,
@@ -239,6 +243,7 @@ impl<'a> Tables<'a> {
 }
 
 // The marks of one round; answers how many.
+// (`Sized` stays a clause here, in `finish` and in `label_nodes`: the table is lent to be written, and no struct holds it meanwhile.)
 pub fn sweep(n: usize, rule: Rule, labels: &mut [u8]) -> usize
     requires kept { Kept labels.old }
     requires sized { Sized n labels.old }
@@ -260,6 +265,7 @@ pub fn sweep(n: usize, rule: Rule, labels: &mut [u8]) -> usize
     marked
 }
 
+// What a byte is at the end of a round. (No `From`: both are bytes.)
 fn settled_byte(byte: u8) -> u8
     ensures { result ≡ cond (eqb byte 128) 2 byte }
 {

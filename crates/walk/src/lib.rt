@@ -25,6 +25,7 @@ pub struct Message {
     pub hops: usize,
 }
 
+// How a walk ended: an enum of three and no Result, since a refused walk has a hop count and a row too (RULES, Walk).
 #[derive(Clone, Copy)]
 pub enum Ending {
     Delivered,
@@ -32,6 +33,7 @@ pub enum Ending {
     Refused(Refusal),
 }
 
+// (17 places beside the count: RULES, Walk. And there is no heap.)
 #[derive(Clone, Copy)]
 pub struct Walked {
     pub row: [u16; 17],

@@ -51,6 +51,7 @@ fn counts(label: u8, marks: bool) -> bool
 
 // The lowest dimension from i on across which the node has a neighbour that counts; n where there is none. It stays a loop: the closure of a `find` needs a
 // `requires` of its own for `near`, and the whole is longer. `marks` stays a flag: it is a part of the one test, and closures in its place need a contract each.
+// (No Option for none: a cause names dimensions that are known to be there, and would open each one.)
 fn next_from(node: Node, marks: bool, i: usize) -> usize
     ensures { result ≡ from node.entry.n (λ k. counted node.entry.labels.now marks (flip k node.entry.x)) i }
 {
@@ -235,6 +236,7 @@ fn taken(picked: Option<(usize, usize)>) -> HopReason
 }
 
 // Why the hop at c on the way to d is taken, for a job. It is asked as the hop is, and reads the same labels: of the job's half c's and each neighbour's once.
+// (It is `hop` once more: one generic body would be handed both decisions as closures, with a contract each, and is no plainer.)
 pub fn why_hop(
     n: usize,
     job: usize,
