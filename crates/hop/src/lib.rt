@@ -107,12 +107,13 @@ pub fn around<'a>(labels: Labels, c: usize, d: usize, near: &'a mut [u8; 12]) ->
     ensures here { let h = result.0 in (h.n, h.c, h.d, h.own, h.near.now) ≡ around labels.entry.n c d (label_in labels.entry.bytes.now) }
     ensures high { result.1 ≡ some labels.entry.n (λ i. ltb highest (label_in labels.entry.bytes.now (flip i c))) }
 {
+    let own = labels.at(c);
     let high = gather(labels, c, near);
     let here = Here {
         n: labels.n,
         c,
         d,
-        own: labels.at(c),
+        own,
         near,
     };
     (here, high)
@@ -145,9 +146,9 @@ impl Here<'_> {
         if forward & (forward - 1) != 0 {
             return None;
         }
-        let i = usize::trailing_zeros(forward) as usize;
-        if self.near[i] == DRAINING {
-            return Some(i);
+        let last = usize::trailing_zeros(forward) as usize;
+        if self.near[last] == DRAINING {
+            return Some(last);
         }
         None
     }

@@ -19,13 +19,13 @@ here a = let s = a.args.self.now in let small = s.small in lowest_of _ _ (omega 
 pub returns-then-forward-ne0 : goal.returns-then-forward-ne0
 returns-then-forward-ne0 c = found_none _ _ (last_left _ _ _ _ _ _ (here (goal.at.returns-then-forward-ne0 c).Start) (λ e _. c.if-forward-ne0.true (one_only _ _ _ _ (here (goal.at.returns-then-forward-ne0 c).Start) e)))
 
-pub bounds-self-i : goal.bounds-self-i
-bounds-self-i c = omega (arith, here (goal.at.bounds-self-i c).Start)
+pub bounds-self-last : goal.bounds-self-last
+bounds-self-last c = omega (arith, here (goal.at.bounds-self-last c).Start)
 
-pub returns-then-self-i-eq-DRAINING : goal.returns-then-self-i-eq-DRAINING
-returns-then-self-i-eq-DRAINING c =
-    let f = here (goal.at.returns-then-self-i-eq-DRAINING c).Start in
-    found_some _ _ _ f.inside (last_taken _ _ _ _ _ _ f (only_one _ _ _ _ f c.if-forward-ne0.false) c.if-self-i-eq-DRAINING.true)
+pub returns-then-self-last-eq-DRAINING : goal.returns-then-self-last-eq-DRAINING
+returns-then-self-last-eq-DRAINING c =
+    let f = here (goal.at.returns-then-self-last-eq-DRAINING c).Start in
+    found_some _ _ _ f.inside (last_taken _ _ _ _ _ _ f (only_one _ _ _ _ f c.if-forward-ne0.false) c.if-self-last-eq-DRAINING.true)
 
 pub returns : goal.returns
-returns c = found_none _ _ (last_left _ _ _ _ _ _ (here (goal.at.returns c).Start) (λ _ q. c.if-self-i-eq-DRAINING.false q))
+returns c = found_none _ _ (last_left _ _ _ _ _ _ (here (goal.at.returns c).Start) (λ _ q. c.if-self-last-eq-DRAINING.false q))
