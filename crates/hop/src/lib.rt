@@ -107,13 +107,12 @@ pub fn around<'a>(labels: Labels, c: usize, d: usize, near: &'a mut [u8; 12]) ->
     ensures here { let h = result.0 in (h.n, h.c, h.d, h.own, h.near.now) ≡ around labels.entry.n c d (label_in labels.entry.bytes.now) }
     ensures high { result.1 ≡ some labels.entry.n (λ i. ltb highest (label_in labels.entry.bytes.now (flip i c))) }
 {
-    let own = labels.at(c);
     let high = gather(labels, c, near);
     let here = Here {
         n: labels.n,
         c,
         d,
-        own,
+        own: labels.at(c),
         near,
     };
     (here, high)
@@ -256,9 +255,16 @@ pub fn at_node<'a>(
     requires { (c < 2 ^ labels.n) × (d < 2 ^ labels.n) × (near.old ≡ replicate 12 0) }
     ensures { result_map_both (λ h. (h.n, h.c, h.d, h.own, h.near.now)) (λ r. r) result ≡ at_node labels.entry.n c d (label_in labels.entry.bytes.now) }
 {
-    let (here, high) = around(labels, c, d, near);
-    near_refusal(c, d, here.own, high)?;
-    Ok(here)
+    let own = labels.at(c);
+    let high = gather(labels, c, near);
+    near_refusal(c, d, own, high)?;
+    Ok(Here {
+        n: labels.n,
+        c,
+        d,
+        own,
+        near,
+    })
 }
 
 // The decision at c on the way to d, for a job. Of the job's half it reads c's label and each neighbour's once, and no other byte.

@@ -5,4 +5,4 @@ use Rattle.hop.proofs.around.Goals as goal
 
 pub returns-clause-here : goal.returns-clause-here
 unfolding around
-returns-clause-here c = rw (c.gather-high.ensures.near, c.at-own.ensures) refl
+returns-clause-here c = rw (c.gather-high.ensures.near, c.at.ensures) refl
