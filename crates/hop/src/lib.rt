@@ -90,7 +90,7 @@ pub fn gather(labels: Labels, c: usize, near: &mut [u8; 12]) -> bool
     ensures near { near.new ≡ gathered labels.entry.n (label_in labels.entry.bytes.now) c }
     ensures high { result ≡ some labels.entry.n (λ i. ltb highest (label_in labels.entry.bytes.now (flip i c))) }
 {
-    let mut joined: u8 = 0;
+    let mut joined = labels.at(c); // the node's own is read first, and may be joined too
     for i in 0..labels.n {
         let label = labels.at(neighbour(c, i));
         near[i] = label;
