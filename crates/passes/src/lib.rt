@@ -79,21 +79,23 @@ impl<'a> Node<'a> {
         ensures looked { result.looked ≡ looks self.entry.n rule.number (out_in self.entry.labels.now) (mark_in self.entry.labels.now) self.entry.x }
     {
         let mut weight: usize = 64 - 2 * rule.number;
+        let mut looked: usize = 0;
         let mut bit: usize = 1;
-        for i in 0..self.n {
+        for _i in 0..self.n {
             let byte = self.labels[self.x ^ bit];
+            looked += 1;
             weight += byte as usize;
             if 64 <= weight % 128 {
                 return Tested {
                     holds: true,
-                    looked: i + 1,
+                    looked,
                 };
             }
             bit *= 2;
         }
         Tested {
             holds: false,
-            looked: self.n,
+            looked,
         }
     }
 
@@ -111,19 +113,21 @@ impl<'a> Node<'a> {
         ensures holds { result.holds ≡ some self.entry.n (λ i. plain_in self.entry.labels.now (flip i self.entry.x)) }
         ensures looked { result.looked ≡ looks_near self.entry.n (plain_in self.entry.labels.now) self.entry.x }
     {
+        let mut looked = 0;
         let mut bit = 1;
-        for k in 0..self.n {
+        for _k in 0..self.n {
+            looked += 1;
             if self.labels[self.x ^ bit] == PLAIN {
                 return Tested {
                     holds: true,
-                    looked: k + 1,
+                    looked,
                 };
             }
             bit *= 2;
         }
         Tested {
             holds: false,
-            looked: self.n,
+            looked,
         }
     }
 

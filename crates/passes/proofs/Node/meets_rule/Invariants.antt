@@ -5,4 +5,4 @@ use Rattle.passes.proofs.Testing.{Seen}
 use Rattle.passes.proofs.Node.meets_rule.Given as goal
 
 abbrev pub invariant-loop-i : goal.invariant-loop-i
-invariant-loop-i l = Seen l.self.n l.fn.rule.number l.self.labels.now l.self.x l.weight l.i × (l.bit ≡ 2 ^ l.i)
+invariant-loop-i l = Seen l.self.n l.fn.rule.number l.self.labels.now l.self.x l.weight l.looked × (l.bit ≡ 2 ^ l.looked) × (l.looked ≡ l._i)

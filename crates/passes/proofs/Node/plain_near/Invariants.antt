@@ -7,4 +7,4 @@ use Rattle.passes.specs.Passes.{plain_in}
 use Rattle.passes.proofs.Node.plain_near.Given as goal
 
 abbrev pub invariant-loop-k : goal.invariant-loop-k
-invariant-loop-k l = ((j : ℕ) → j < l.k → plain_in l.self.labels.now (flip j l.self.x) ≡ false) × (l.bit ≡ 2 ^ l.k)
+invariant-loop-k l = ((j : ℕ) → j < l.looked → plain_in l.self.labels.now (flip j l.self.x) ≡ false) × (l.bit ≡ 2 ^ l.looked) × (l.looked ≡ l._k)
