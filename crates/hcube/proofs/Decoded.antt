@@ -48,15 +48,16 @@ use Rattle.hcube.proofs.DecodedNotices.{dimension_decoded, list_decoded, list_re
 use Rattle.hcube.proofs.DecodedHops.{channels_decoded, hop_decoded, hop_networks_decoded, walk_networks_decoded}
 use Rattle.hcube.proofs.DecodedReasons.{hop_reason_decoded, node_reason_decoded}
 use Rattle.cube.proofs.Refused.{refusal_back}
-use Rattle.hcube.proofs.Parts.{accepted, cut, few, kind_is, refusal_is, refuses, some, value_is}
+use Rattle.hcube.proofs.Parts.{cut, few, kind_is, named, reads_err, reads_ok, refusal_is, some, value_is}
+use Rattle.hcube.proofs.ReadBack.{crossed_read, hop_read, hop_reason_read, label_read, node_read, notice_read, walk_read, written_read}
 use Rattle.hcube.proofs.Small.{LabelFits, has-row, label_small, walk_small, written}
 
 -- ---- labelling
 
 labelled_back : (a : Result ℕ Refusal) → LabelFits a → labelled_from (label_number a) ≡ a
 unfolding labelled_from
-labelled_back (Ok v) f = accepted _ (refusal_is 0 0 v (omega arith) (omega arith) f) (value_is 0 0 v f)
-labelled_back (Err r) f = refuses _ _ r (refusal_is (number r) 0 0 (few r) (omega arith) (omega arith))
+labelled_back (Ok v) f = reads_ok _ _ (refusal_is 0 0 v (omega arith) (omega arith) f) (value_is 0 0 v f)
+labelled_back (Err r) f = reads_err _ _ _ r (refusal_is (number r) 0 0 (few r) (omega arith) (omega arith))
 
 label_decoded : (K : Cabinet) (j m : ℕ) → labelled_from (label_number (L.labelled K j m)) ≡ L.labelled K j m
 label_decoded K j m = labelled_back (L.labelled K j m) (label_small K j m)
@@ -118,7 +119,7 @@ refused_decoded : (before : List ℕ) (k : ℕ) → walked_from (walk_number (W.
 unfolding walked_from W.refused
 refused_decoded before k =
     let r : Refusal = refusal k in
-    rw (refusal_is (number r) 0 0 (few r) (omega arith) (omega arith), ne_eqb (number r) 0 (some r), refusal_back r)
+    rw (refusal_is (number r) 0 0 (few r) (omega arith) (omega arith), ne_eqb (number r) 0 (some r), named (number r) r refl, refusal_back r)
 
 module _ (n j s d : ℕ) (labels before : List ℕ) where
   abbrev lab : ℕ → ℕ
@@ -162,5 +163,13 @@ decodes =
       list_read = list_refused;
       repaired = repair_refused;
       list_written = list_decoded;
+      label-refusal = label_read;
+      hop-refusal = hop_read;
+      walk-refusal = walk_read;
+      walk-networks-refusal = crossed_read;
+      why-node-refusal = node_read;
+      why-hop-refusal = hop_reason_read;
+      notice-refusal = notice_read;
+      written-refusal = written_read;
       cut = cut;
     }

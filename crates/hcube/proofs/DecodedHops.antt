@@ -19,7 +19,7 @@ use Rattle.walk_networks.proofs.Outcomes.{crossing_small}
 use Rattle.hcube.specs.Answers.{crossed_number, hop_number, packed}
 use Rattle.hcube.specs.Decoded.{cross_part, crossed_from, decision_from, hopped_from, kind_part, network_part, value_part}
 use Rattle.hcube.specs.Fits.{CrossedFits, HopFits}
-use Rattle.hcube.proofs.Parts.{accepted, few, kind_is, refusal_is, refuses, value_is}
+use Rattle.hcube.proofs.Parts.{few, kind_is, reads_err, reads_ok, refusal_is, value_is}
 use Rattle.hcube.proofs.Small.{hop_small}
 
 -- ---- a hop
@@ -38,8 +38,8 @@ kind_small Halted = omega arith
 hopped_decoded : (a : Result Decision Refusal) → HopFits a → hopped_from (hop_number a) ≡ a
 unfolding hopped_from
 hopped_decoded (Ok x) f =
-    accepted _ (refusal_is 0 (H.decision_kind x) (H.decision_value x) (omega arith) (kind_small x) f) (decision_decoded x f)
-hopped_decoded (Err r) f = refuses _ _ r (refusal_is (number r) 0 0 (few r) (omega arith) (omega arith))
+    reads_ok _ _ (refusal_is 0 (H.decision_kind x) (H.decision_value x) (omega arith) (kind_small x) f) (decision_decoded x f)
+hopped_decoded (Err r) f = reads_err _ _ _ r (refusal_is (number r) 0 0 (few r) (omega arith) (omega arith))
 
 pub hop_decoded : (n j c d m : ℕ) (lab : ℕ → ℕ) → hopped_from (hop_number (H.hopped n j c d m lab)) ≡ H.hopped n j c d m lab
 hop_decoded n j c d m lab = hopped_decoded (H.hopped n j c d m lab) (hop_small n j c d m lab)
@@ -70,10 +70,10 @@ channels_decoded n p c i small h l = (omega arith, omega arith)
 crossed_decoded : (a : Result Crossed Refusal) → CrossedFits a → crossed_from (crossed_number a) ≡ a
 unfolding crossed_from
 crossed_decoded (Ok (crossed.Delivered v)) f =
-    accepted _ (refusal_is 0 0 v (omega arith) (omega arith) f) (rw (kind_is 0 0 v (omega arith) f) (ap crossed.Delivered (value_is 0 0 v f)))
+    reads_ok _ _ (refusal_is 0 0 v (omega arith) (omega arith) f) (rw (kind_is 0 0 v (omega arith) f) (ap crossed.Delivered (value_is 0 0 v f)))
 crossed_decoded (Ok (crossed.Halted v)) f =
-    accepted _ (refusal_is 0 1 v (omega arith) (omega arith) f) (rw (kind_is 0 1 v (omega arith) f) (ap crossed.Halted (value_is 0 1 v f)))
-crossed_decoded (Err r) f = refuses _ _ r (refusal_is (number r) 0 0 (few r) (omega arith) (omega arith))
+    reads_ok _ _ (refusal_is 0 1 v (omega arith) (omega arith) f) (rw (kind_is 0 1 v (omega arith) f) (ap crossed.Halted (value_is 0 1 v f)))
+crossed_decoded (Err r) f = reads_err _ _ _ r (refusal_is (number r) 0 0 (few r) (omega arith) (omega arith))
 
 module _ (n N j s d m room : ℕ) (lab : ℕ → ℕ) where
   pub walk_networks_small : CrossedFits (C.crossing n N j s d m room lab)

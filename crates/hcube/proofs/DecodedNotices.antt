@@ -26,7 +26,7 @@ use Rattle.repair.proofs.Outcomes as repairing
 use Rattle.hcube.specs.Answers.{dimension_number, done_number, notice_number, packed, packed_notice, written_number}
 use Rattle.hcube.specs.Decoded.{noticed_from, refusal_part, value_part, wrote_from}
 use Rattle.cube.proofs.Refused.{refusal_back}
-use Rattle.hcube.proofs.Parts.{above, accepted, count_is, dimension_is, few, refusal_is, refuses, some, value_is}
+use Rattle.hcube.proofs.Parts.{above, count_is, dimension_is, few, named, reads_err, reads_ok, refusal_is, some, value_is}
 use Rattle.hcube.proofs.Small.{LabelFits, dimension_small}
 
 pub dimension_decoded : (bytes : List ℕ)
@@ -61,13 +61,13 @@ notice_decoded bytes before = go (N.noticed bytes before) refl
         let n = few k in
         let r : refusal_part (packed_notice 0 0 (packed (number k) 0 at)) ≡ number k = omega (arith, p.near) in
         let c : value_part (packed_notice 0 0 (packed (number k) 0 at)) ≡ at = omega (arith, p.near) in
-        rw (r, c, ne_eqb (number k) 0 (some k), refusal_back k)
+        rw (r, c, ne_eqb (number k) 0 (some k), named (number k) k refl, refusal_back k)
 
 -- what writing answers
 wrote_back : (a : T.Wrote) → LabelFits a → wrote_from (written_number a) ≡ a
 unfolding wrote_from
-wrote_back (Ok v) f = accepted _ (refusal_is 0 0 v (omega arith) (omega arith) f) (value_is 0 0 v f)
-wrote_back (Err r) f = refuses _ _ r (refusal_is (number r) 0 0 (few r) (omega arith) (omega arith))
+wrote_back (Ok v) f = reads_ok _ _ (refusal_is 0 0 v (omega arith) (omega arith) f) (value_is 0 0 v f)
+wrote_back (Err r) f = reads_err _ _ _ r (refusal_is (number r) 0 0 (few r) (omega arith) (omega arith))
 
 -- of writing the bytes w, where they are few
 written_fits : (n : ℕ) (faults w : List ℕ) (room : ℕ) → (IsTable n faults → length w ≤ 65535) → LabelFits (T.wrote_bytes n faults w room)

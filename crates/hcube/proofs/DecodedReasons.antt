@@ -37,7 +37,7 @@ use Rattle.hcube.specs.Decoded.{
   value_part,
 }
 use Rattle.hcube.specs.Fits.{ScanFits}
-use Rattle.hcube.proofs.Parts.{cause_is, few, first_is, kind_is, reason_shows, refusal_is, refuses, second_is, third_is, value_is}
+use Rattle.hcube.proofs.Parts.{cause_is, few, first_is, kind_is, reads_err, reason_shows, refusal_is, second_is, third_is, value_is}
 use Rattle.hcube.proofs.Reasons.{NodeFits, hop_reason_small, node_small}
 
 -- ---- a hop
@@ -52,7 +52,7 @@ hop_back (Ok (reason.Hop s i)) f =
     let u : across_part (packed 0 1 (s * 256 + i)) ≡ i = omega (arith, b.0, b.1) in
     rw (refusal_is 0 1 (s * 256 + i) (omega arith) (omega arith) v, kind_is 0 1 (s * 256 + i) (omega arith) v, t, u)
 hop_back (Ok reason.Halted) f = refl
-hop_back (Err r) f = refuses _ _ r (refusal_is (number r) 0 0 (few r) (omega arith) (omega arith))
+hop_back (Err r) f = reads_err _ _ _ r (refusal_is (number r) 0 0 (few r) (omega arith) (omega arith))
 
 pub hop_reason_decoded : (n j c d m : ℕ) (lab : ℕ → ℕ) → hop_reason_from (hop_reason_number (hop_reason n j c d m lab)) ≡ hop_reason n j c d m lab
 hop_reason_decoded n j c d m lab = hop_back (hop_reason n j c d m lab) (hop_reason_small n j c d m lab)
@@ -140,7 +140,7 @@ refusal_alone : (rule : ℕ) (r : Refusal) → node_reason_from rule (node_reaso
 unfolding node_reason_from
 refusal_alone rule r =
     let e : node_reason_number (Err r) ≡ packed (number r) 0 0 = omega arith in
-    refuses _ _ r (ap refusal_part e ∙ refusal_is (number r) 0 0 (few r) (omega arith) (omega arith))
+    reads_err _ _ _ r (ap refusal_part e ∙ refusal_is (number r) 0 0 (few r) (omega arith) (omega arith))
 
 pub node_reason_decoded : (K : Cabinet) (j m x : ℕ) → node_reason_from K.rule (node_reason_number (Y.node_reason K j m x)) ≡ Y.node_reason K j m x
 node_reason_decoded K j m x = go (Y.node_reason K j m x) refl

@@ -6,4 +6,5 @@ pub mod DecodedHops
 pub mod NetworkFunctions
 pub mod Functions
 pub mod Parts
+pub mod ReadBack
 pub mod Decoded

@@ -1,12 +1,17 @@
 -- The parts of a packed number: where they are small they come out as they were put in, and what stands above the low 32 bits is in none of the three that
 -- every answer has.
+use mathlib.Core.Bool.{true}
 use mathlib.Core.Logic.{◌≢◌}
 use mathlib.Core.Path.{◌≡◌, sym, ap, ◌∙◌}
 use Prim.Native.Nat.{ℕ, zero, suc, ◌+◌, ◌*◌, ◌/◌, ◌%◌, ◌≤◌, ◌<◌}
 use native.Mathlib.Omega.{arith}
-use Rattle.std.specs.Prelude.{Ok, Err}
-use Rattle.cube.specs.Refused.{answered, number, refusal}
+use lib.Dec.{leb}
+use borrow.Author.Tests.{le-leb, leb-true}
+use Rattle.std.specs.Prelude.{Result, Ok, Err}
+use Rattle.cube.specs.Refused.{answered, number, refusal, refused}
 use Rattle.cube.specs.declared.refusals.Refusal.{Refusal}
+use Rattle.cube.proofs.Bools.{by_cases}
+use Rattle.cube.proofs.Refused as cube
 use Rattle.cube.proofs.Refused.{number_range, refusal_back}
 use Rattle.hcube.specs.Answers.{packed, packed_notice, packed_reason}
 use Rattle.hcube.specs.Decoded.{
@@ -16,7 +21,9 @@ use Rattle.hcube.specs.Decoded.{
   dimension_part,
   first_part,
   kind_part,
+  last_refusal,
   refusal_part,
+  said,
   second_part,
   third_part,
   value_part,
@@ -45,6 +52,22 @@ accepted k e f = rw (e, f)
 pub refuses : {A : Type 0} (k : ℕ) (x : A) (r : Refusal) → k ≡ number r → answered k x ≡ Err r
 refuses zero x r e = absurd (some r (sym e))
 refuses (suc k) x r e = ap (λ (j : ℕ). Err (refusal j)) e ∙ ap Err (refusal_back r)
+
+-- the same as it is read from the number
+pub reads_ok : {A : Type 0} (k : ℕ) {x y : A} (other : A) → k ≡ 0 → x ≡ y → said k x other ≡ Ok y
+reads_ok k other e f = rw (e, f)
+
+pub named : (k : ℕ) (r : Refusal) → k ≡ number r → leb k last_refusal ≡ true
+named k r e = le-leb k last_refusal (omega (arith, (number_range r).1))
+
+pub reads_err : {A : Type 0} (k : ℕ) (x other : A) (r : Refusal) → k ≡ number r → said k x other ≡ Err r
+reads_err k x other r e = rw (named k r e) (refuses k x r e)
+
+-- and no other number is read as a refusal
+pub read_back : {A : Type 0} (k : ℕ) (x other : A) (q : Refusal) → said k x other ≡ Err q → k ≡ number q
+read_back k x other q =
+    by_cases (λ (a : Result _ Refusal). a ≡ Err q → k ≡ number q) (leb k last_refusal) (λ t e. cube.refuses k x q (omega (arith, leb-true k last_refusal t)) e)
+    (λ _ e. let z : 0 ≡ number q = ap refused e in absurd (some q (sym z)))
 
 -- what stands above the low 32 bits is in none of the three
 pub shows : (high low : ℕ) → Shows (high * 4294967296 + low) low

@@ -1,7 +1,7 @@
 -- What C takes out of an answer, by the header's own macros, and of a row, two bytes a node (RULES, To C): so the answers that C has are the library's own.
 -- Proved in proofs/Decoded.antt.
-use Rattle.std.specs.Prelude.{cond, List, ◌≡◌, ℕ, ◌+◌, ◌*◌, ◌/◌, ◌%◌, ◌≤◌, ◌<◌, eqb, leb, get_or, Result, Err}
-use Rattle.cube.specs.Refused.{answered, refusal}
+use Rattle.std.specs.Prelude.{cond, List, ◌≡◌, ℕ, ◌+◌, ◌*◌, ◌/◌, ◌%◌, ◌≤◌, ◌<◌, eqb, leb, get_or, Result, Ok, Err}
+use Rattle.cube.specs.Refused.{answered, number, refusal}
 use Rattle.cube.specs.declared.refusals.Refusal.{Refusal}
 use Rattle.cube.specs.Tables.{tab}
 use Rattle.rule.specs.Cabinet.{Cabinet}
@@ -96,6 +96,13 @@ node_at row k = get_or row (2 * k) 0 + 256 * get_or row (2 * k + 1) 0
 
 -- ---- the answers by their numbers
 
+-- The answer of refusal number k. No refusal has a number above the last: with one, `other` is read, which is like no answer that is given.
+abbrev pub last_refusal : ℕ
+last_refusal = 19
+
+abbrev pub said : {A : Type 0} → (k : ℕ) → (x other : A) → Result A Refusal
+said k x other = cond (leb k last_refusal) (answered k x) (Ok other)
+
 abbrev pub decision_from : (kind value : ℕ) → Decision
 decision_from kind value = cond (eqb kind 0) Deliver (cond (eqb kind 1) (Hop value) Halted)
 
@@ -103,20 +110,22 @@ abbrev pub ending_from : (kind : ℕ) → Ending
 ending_from kind = cond (eqb kind 0) ending.Delivered ending.Halted
 
 unfoldable pub labelled_from : ℕ → Result ℕ Refusal
-labelled_from r = answered (refusal_part r) (value_part r)
+labelled_from r = said (refusal_part r) (value_part r) r
 
 unfoldable pub hopped_from : ℕ → Result Decision Refusal
-hopped_from r = answered (refusal_part r) (decision_from (kind_part r) (value_part r))
+hopped_from r = said (refusal_part r) (decision_from (kind_part r) (value_part r)) (Hop r)
 
 abbrev pub crossing_from : (kind value : ℕ) → Crossed
 crossing_from kind value = cond (eqb kind 0) (crossed.Delivered value) (crossed.Halted value)
 
 unfoldable pub crossed_from : ℕ → Result Crossed Refusal
-crossed_from r = answered (refusal_part r) (crossing_from (kind_part r) (value_part r))
+crossed_from r = said (refusal_part r) (crossing_from (kind_part r) (value_part r)) (crossed.Delivered r)
 
 unfoldable pub walked_from : ℕ → (row : List ℕ) → Walked
 walked_from r row =
-    cond (eqb (refusal_part r) 0) (record { row = tab 17 (node_at row); hops = value_part r; ending = ending_from (kind_part r) }) (refused (refusal_part r))
+    cond (eqb (refusal_part r) 0)
+    (record { row = tab 17 (node_at row); hops = value_part r; ending = ending_from (kind_part r) })
+    (cond (leb (refusal_part r) last_refusal) (refused (refusal_part r)) (record { row = tab 17 (node_at row); hops = r; ending = ending.Delivered }))
 
 -- of an unsafe node, by its label, round and cause; the caller knows by which rule it asked
 abbrev pub cause_from : (rule number first second third : ℕ) → Cause
@@ -133,19 +142,22 @@ label_reason rule label round cause first second third =
 
 unfoldable pub node_reason_from : (rule : ℕ) → ℕ → Result NodeReason Refusal
 node_reason_from rule r =
-    answered (refusal_part r) (label_reason rule (kind_part r) (value_part r) (cause_part r) (first_part r) (second_part r) (third_part r))
+    said (refusal_part r) (label_reason rule (kind_part r) (value_part r) (cause_part r) (first_part r) (second_part r) (third_part r)) (node.Safe r 0)
 
 unfoldable pub hop_reason_from : ℕ → Result HopReason Refusal
 hop_reason_from r =
-    answered (refusal_part r)
+    said (refusal_part r)
     (cond (eqb (kind_part r) 0) reason.Deliver (cond (eqb (kind_part r) 1) (reason.Hop (scan_part r) (across_part r)) reason.Halted))
+    (reason.Hop r 0)
 
 unfoldable pub noticed_from : ℕ → Noticed
 noticed_from r =
-    cond (eqb (refusal_part r) 0) (a_notice (dimension_part r) (count_part r) (value_part r)) (Err (refusal (refusal_part r), value_part r))
+    cond (eqb (refusal_part r) 0)
+    (a_notice (dimension_part r) (count_part r) (value_part r))
+    (cond (leb (refusal_part r) last_refusal) (Err (refusal (refusal_part r), value_part r)) (a_notice r 0 0))
 
 unfoldable pub wrote_from : ℕ → Wrote
-wrote_from r = answered (refusal_part r) (value_part r)
+wrote_from r = said (refusal_part r) (value_part r) r
 
 -- the three parts of r are those of low
 pub record Shows (r low : ℕ) : Type 0 where
@@ -178,5 +190,14 @@ pub record Decodes : Type 0 where
   pub repaired :
       (n : ℕ) (faults masks : List ℕ) (result row : ℕ)
       → refusal_part (done_number (repair_refusal n faults masks result row)) ≡ repair_refusal n faults masks result row
+  -- a refusal that is read has the number that stands in the answer, and no other number is read as it
+  pub label-refusal : (r : ℕ) (q : Refusal) → labelled_from r ≡ Err q → refusal_part r ≡ number q
+  pub hop-refusal : (r : ℕ) (q : Refusal) → hopped_from r ≡ Err q → refusal_part r ≡ number q
+  pub walk-refusal : (r : ℕ) (row : List ℕ) (q : Refusal) → (walked_from r row).ending ≡ ending.Refused q → refusal_part r ≡ number q
+  pub walk-networks-refusal : (r : ℕ) (q : Refusal) → crossed_from r ≡ Err q → refusal_part r ≡ number q
+  pub why-node-refusal : (rule r : ℕ) (q : Refusal) → node_reason_from rule r ≡ Err q → refusal_part r ≡ number q
+  pub why-hop-refusal : (r : ℕ) (q : Refusal) → hop_reason_from r ≡ Err q → refusal_part r ≡ number q
+  pub notice-refusal : (r at : ℕ) (q : Refusal) → noticed_from r ≡ Err (q, at) → refusal_part r ≡ number q
+  pub written-refusal : (r : ℕ) (q : Refusal) → wrote_from r ≡ Err q → refusal_part r ≡ number q
   -- and an answer that is cut to 32 bits still shows its refusal, its kind and its value
   pub cut : (r : ℕ) → Shows r (r % 4294967296)
