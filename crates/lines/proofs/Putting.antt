@@ -3,15 +3,13 @@ use mathlib.Core.Path.{◌≡◌, refl, sym, ap, ◌∙◌}
 use mathlib.Core.List.{List, [], ◌∷◌, ◌++◌, append_assoc, append-nil, map}
 use mathlib.Core.Logic.{⊎_elim}
 use mathlib.Core.Bool.{true, false}
-use Prim.Native.Nat.{ℕ, zero, suc, ◌+◌, ◌-◌, ◌*◌, ◌/◌, ◌^◌, ◌≤◌, min}
+use Prim.Native.Nat.{ℕ, zero, suc, ◌+◌, ◌*◌, ◌/◌, ◌^◌, ◌≤◌}
 use native.Mathlib.Numerals.{add-one}
 use native.Mathlib.Omega.{arith}
 use lib.Dec.{leb, ltb}
 use lib.ListN.{get_or, length, length-append, length-take, take}
 use borrow.Author.Tests.{leb-true, leb-false}
-use Rattle.std.proofs.lemmas.List.{get_or-map, get_or-take, length-take-le, map-id, take-append-le, take_all}
-use Rattle.std.proofs.lemmas.Slice.{take-put_mid}
-use borrow.Rule.Slice.PartMut.{put_mid}
+use Rattle.std.proofs.lemmas.List.{get_or-map, get_or-take, length-take-le, map-id, take-append-le, take-take, take_all}
 use Rattle.std.proofs.Math.Seq.{take-append-add}
 use Rattle.cube.proofs.Bools.{either}
 use Rattle.cube.proofs.Search.{the_least}
@@ -40,21 +38,19 @@ pub whole : (x : List ℕ) → length x ≤ room → put [] x ≡ x
 unfolding put
 whole x h = take_all room x h
 
--- of a word what there is room for
-fitting : (word : List ℕ) (n left : ℕ) → n ≡ min (length word) left → take n word ≡ take left word
-fitting word n left e = grind (arith, take_all)
-
--- in a line's bytes: the first `len` are its text, and those behind are written over by what there is room for
-pub copied : (bytes word new : List ℕ) (len n k : ℕ) → length bytes ≡ room → len ≤ room → n ≡ min (length word) (room - len) → new ≡ take n word
-    → take (len + n) (put_mid len k bytes new) ≡ put (take len bytes) word
+-- a word that there is room for is all there, and of one that is longer, as much as there is room for
+pub put_whole : (line word : List ℕ) → length line + length word ≤ room → line ++ word ≡ put line word
 unfolding put
-copied bytes word new len n k whole upto e m =
-    let line = take len bytes in
-    let long : length line ≡ len = simp length-take (omega arith) in
-    let left : room ≡ length line + (room - length line) = omega arith in
-    take-put_mid len k bytes new (len + n) (rw m (simp length-take (omega arith))) (omega arith)
-    ∙ ap (λ (l : List ℕ). line ++ l) (m ∙ fitting word n (room - length line) (omega arith))
-    ∙ sym (ap (λ (m : ℕ). take m (line ++ word)) left ∙ take-append-add line word (room - length line))
+put_whole line word h = sym (take_all room (line ++ word) (simp length-append (omega arith)))
+
+pub put_front : (line word : List ℕ) (left : ℕ) → length line + left ≡ room → line ++ take left word ≡ put line word
+unfolding put
+put_front line word left e = sym (ap (λ (m : ℕ). take m (line ++ word)) (sym e) ∙ take-append-add line word left)
+
+-- a line that the digits were put behind, with the length set back to so many of them
+pub cut_back : (line digits bytes : List ℕ) (len k : ℕ) → take len bytes ≡ line ++ digits → len ≡ length line + length digits → k ≤ length digits
+    → take (length line + k) bytes ≡ line ++ take k digits
+cut_back line digits bytes len k e whole h = sym (take-take (length line + k) len bytes (omega arith)) ∙ ap (take (length line + k)) e ∙ take-append-add line digits k
 
 -- ---- rows
 

@@ -1,5 +1,5 @@
 // The lines of the listing program and of the tally. A `Line` has room for 1,024 bytes, which is enough for any of them: what is put behind its text and does
-// not fit would be left off, and each function that makes a line shows that all of it is there.
+// not fit would be left off, and each function that makes a line shows that all of it is there. The caller lends the `Line`, and what it held is gone.
 #![tactic(auto, using(crate::proofs::Putting::putting))]
 
 ghost use Rattle.std.specs.Prelude.{[], length, ◌++◌, ◌≡◌, ◌≤◌, ◌+◌, ℕ, map, take};
@@ -73,13 +73,20 @@ impl Model for Line {
 }
 
 impl Line {
-    fn new() -> Line
+    pub fn new() -> Line
         ensures { result ≡ [] }
     {
         Line {
             bytes: [0; 1024],
             len: 0,
         }
+    }
+
+    // Only the length is set: to clear the bytes would take as long as to make most lines.
+    fn clear(&mut self)
+        ensures { self.new ≡ [] }
+    {
+        self.len = 0;
     }
 
     pub fn as_bytes(&self) -> &[u8]
@@ -89,22 +96,43 @@ impl Line {
         &self.bytes[..self.len]
     }
 
+    // A word that there is room for.
+    fn append(&mut self, word: &[u8])
+        requires { length self.old + length word.now ≤ room }
+        ensures { self.new ≡ self.old ++ word.now }
+    {
+        let end = self.len + word.len();
+        self.bytes[self.len..end].copy_from_slice(word);
+        self.len = end;
+    }
+
     // As much of the word as there is room for.
+    // (Two calls, and no `min`: so a word of known length is copied by a move or two, and not by a call.)
     fn text(&mut self, word: &[u8])
         ensures { self.new ≡ put self.old word.now }
     {
-        let n = word.len().min(self.bytes.len() - self.len);
-        self.bytes[self.len..self.len + n].copy_from_slice(&word[..n]);
-        self.len += n;
+        let left = self.bytes.len() - self.len;
+        if word.len() <= left {
+            self.append(word);
+        } else {
+            self.append(&word[..left]);
+        }
     }
 
     // By `io::decimal`: `write!` is no plainer, since its answer may be an `Err`, of which no clause promises a text.
+    // (Where there is room for all 20 bytes, they are copied at once, and the length goes back to the digits: two moves; a copy of the digits alone is a call.)
     fn number<N: Numeral>(&mut self, n: N)
         ensures { self.new ≡ put self.old (decimal (N.value n)) }
     {
         let mut digits = [0u8; 20];
         let k = io::decimal(n.value(), &mut digits);
-        self.text(&digits[..k]);
+        let left = self.bytes.len() - self.len;
+        if digits.len() <= left {
+            self.append(&digits);
+            self.len -= digits.len() - k;
+        } else {
+            self.text(&digits[..k]);
+        }
     }
 
     // A word and a number.
@@ -149,10 +177,10 @@ impl Line {
 
 // ---- the listing
 
-pub fn cube_line(n: usize, faulty: usize, labels: &[u8], exchanges: usize) -> Line
-    ensures { result ≡ cube_line n faulty labels.now exchanges }
+pub fn cube_line(n: usize, faulty: usize, labels: &[u8], exchanges: usize, line: &mut Line)
+    ensures { line.new ≡ cube_line n faulty labels.now exchanges }
 {
-    let mut line = Line::new();
+    line.clear();
     line.field(b"cube ", n);
     line.field(b" faulty ", faulty);
     line.field(b" safe ", count_of(labels, 0));
@@ -160,73 +188,67 @@ pub fn cube_line(n: usize, faulty: usize, labels: &[u8], exchanges: usize) -> Li
     line.field(b" strong ", count_of(labels, 2));
     line.field(b" rounds ", exchanges);
     line.text(b"\n");
-    line
 }
 
-pub fn pair_line(s: usize, d: usize, walked: Walked) -> Line
+pub fn pair_line(s: usize, d: usize, walked: Walked, line: &mut Line)
     requires { walked.hops ≤ 16 }
-    ensures { result ≡ pair_line s d walked }
+    ensures { line.new ≡ pair_line s d walked }
 {
-    let mut line = Line::new();
+    line.clear();
     line.number(s);
     line.field(b" ", d);
     line.ending(&walked);
     line.text(b"\n");
-    line
 }
 
 // A word, the number of a refusal, its place and the end of the line.
-pub fn refused_line(word: &[u8], k: u32, at: usize) -> Line
+pub fn refused_line(word: &[u8], k: u32, at: usize, line: &mut Line)
     requires { length word.now ≤ 20 }
-    ensures { result ≡ (word.now ++ decimal k) ++ field " " at ++ text "\n" }
+    ensures { line.new ≡ (word.now ++ decimal k) ++ field " " at ++ text "\n" }
 {
-    let mut line = Line::new();
+    line.clear();
     line.field(word, k);
     line.field(b" ", at);
     line.text(b"\n");
-    line
 }
 
 // The only line of an input that is too long.
-pub fn long_line() -> Line
-    ensures { result ≡ too_long }
+pub fn long_line(line: &mut Line)
+    ensures { line.new ≡ too_long }
 {
-    let mut line = Line::new();
+    line.clear();
     line.text(b"input too long\n");
-    line
 }
 
 // ---- the tally
 
 // A word, a number and the end of the line.
-fn field_line(word: &[u8], n: usize) -> Line
+fn field_line(word: &[u8], n: usize, line: &mut Line)
     requires { length word.now ≤ 20 }
-    ensures { result ≡ (word.now ++ decimal n) ++ text "\n" }
+    ensures { line.new ≡ (word.now ++ decimal n) ++ text "\n" }
 {
-    let mut line = Line::new();
+    line.clear();
     line.field(word, n);
     line.text(b"\n");
-    line
 }
 
-pub fn size_line(n: usize) -> Line
-    ensures { result ≡ size_line n }
+pub fn size_line(n: usize, line: &mut Line)
+    ensures { line.new ≡ size_line n }
 {
-    field_line(b"cube ", n)
+    field_line(b"cube ", n, line);
 }
 
-pub fn progress_line(n: usize) -> Line
-    ensures { result ≡ progress_line n }
+pub fn progress_line(n: usize, line: &mut Line)
+    ensures { line.new ≡ progress_line n }
 {
-    field_line(b"tally: cube ", n)
+    field_line(b"tally: cube ", n, line);
 }
 
-pub fn figures_line(faults: usize, figures: &[u32; 6]) -> Line
-    ensures { result ≡ figures_line faults figures.now }
+pub fn figures_line(faults: usize, figures: &[u32; 6], line: &mut Line)
+    ensures { line.new ≡ figures_line faults figures.now }
 {
-    let mut line = Line::new();
+    line.clear();
     line.number(faults);
     line.row(figures);
     line.text(b"\n");
-    line
 }

@@ -61,7 +61,7 @@ module _ (s t : List ℕ) (sized : length t ≡ wanted_len s) where
   same = ap (λ (x : Number). notice_from x s) (passes t (dimension_at s) sized)
 
   pub refused_head : {r : Refusal} {at : ℕ} {line : List ℕ} (labels : List ℕ) → noticed s t ≡ Err (r, at) → line ≡ notice_refused (number r) at
-      → Headed s (record { line = line; labelled = None }) labels
+      → Headed s line None labels
   unfolding head_line labels_in
   refused_head {r} {at} labels e made =
       let q : notice_of s ≡ Err (r, at) = sym same ∙ e in
@@ -119,7 +119,7 @@ module _ (s t : List ℕ) (sized : length t ≡ wanted_len s) where
 
       pub cube_head : {bytes : ℕ} {line : List ℕ} (before labels rest : List ℕ) → bytes ≡ label_bytes n → before ≡ replicate (label_bytes n) 0
           → line ≡ first_line m K → labels ≡ labels_after K 0 before
-          → Headed s (record { line = line; labelled = Some (record { n = n; bytes = bytes }) }) (labels ++ rest)
+          → Headed s line (Some (record { n = n; bytes = bytes })) (labels ++ rest)
       unfolding head_line labels_in label_bytes
       cube_head {bytes} before labels rest full zeros made after =
           let kept = after ∙ made_labels before zeros in

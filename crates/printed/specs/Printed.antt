@@ -12,7 +12,6 @@ use Rattle.notice.specs.Notice.{addresses_of, dimension_at, dimension_of, notice
 use Rattle.rule.specs.Cabinet.{Cabinet, exchanges_of, labels_of, plain}
 use Rattle.walk.specs.Walk.{row_bytes, walked}
 use Rattle.walk.specs.declared.Walked.{Walked}
-use Rattle.printed.specs.declared.Head.{Head}
 use Rattle.printed.specs.declared.Labelled.{Labelled}
 
 -- ---- for the notice
@@ -45,13 +44,13 @@ abbrev pub bytes_in : Option Labelled → ℕ
 bytes_in None = 0
 bytes_in (Some l) = l.bytes
 
--- what is answered for the notice: its line, and a cube unless it is refused, whose label buffer stands at the front of `labels`
-pub record Headed (s : List ℕ) (h : Head) (labels : List ℕ) : Type 0 where
-  pub line : h.line ≡ head_line s
-  pub given : is_some h.labelled ≡ is_ok (notice_of s)
-  pub dimension : dimension_in h.labelled ≡ dimension_of (notice_of s)
-  pub labelled : take (bytes_in h.labelled) labels ≡ labels_in s
-  pub few : bytes_in h.labelled ≤ 8192
+-- what is made for the notice: its line, and beside it a cube unless it is refused, whose label buffer stands at the front of `labels`
+pub record Headed (s made : List ℕ) (cube : Option Labelled) (labels : List ℕ) : Type 0 where
+  pub line : made ≡ head_line s
+  pub given : is_some cube ≡ is_ok (notice_of s)
+  pub dimension : dimension_in cube ≡ dimension_of (notice_of s)
+  pub labelled : take (bytes_in cube) labels ≡ labels_in s
+  pub few : bytes_in cube ≤ 8192
 
 -- ---- for the pair at place `at` of the input, in a cube of dimension n with this label buffer
 

@@ -15,7 +15,7 @@ loop-at-init g c =
 
 -- the next pair lies behind
 pub loop-at-smaller : goal.loop-at-smaller
-loop-at-smaller g c = omega (arith, next_beyond c.args.bytes.now c.loop-at.at (omega arith), c.line_at-pair.ensures.next)
+loop-at-smaller g c = omega (arith, next_beyond c.args.bytes.now c.loop-at.at (omega arith), c.line_at-next.ensures.next)
 
 pub loop-at-preserved : goal.loop-at-preserved
-loop-at-preserved g c = omega (arith, next_beyond c.args.bytes.now c.loop-at.at (omega arith), c.line_at-pair.ensures.next, c.loop-at.invariant)
+loop-at-preserved g c = omega (arith, next_beyond c.args.bytes.now c.loop-at.at (omega arith), c.line_at-next.ensures.next, c.loop-at.invariant)

@@ -1,12 +1,16 @@
 -- `Line::text`: behind the text so far stands of the word what there is room for.
 use mathlib.Core.Path.{ap, ◌∙◌}
-use mathlib.Core.List.{List}
-use Prim.Native.Nat.{ℕ}
-use Rattle.lines.specs.Lines.{put}
-use Rattle.lines.proofs.Putting.{copied}
+use native.Mathlib.Omega.{arith}
+use lib.ListN.{length, length-take}
+use Rattle.lines.proofs.Putting.{put_front, put_whole}
 use Rattle.lines.proofs.Line.text.Goals as goal
 
-pub returns : goal.returns
-returns c =
-    copied _ _ _ _ _ _ c.self.told c.self.invariant c.min-n.ensures c.copy_from_slice.ensures.after
-    ∙ ap (λ (l : List ℕ). put l c.args.word.now) c.self.view_is
+pub returns-then-word-left : goal.returns-then-word-left
+returns-then-word-left c =
+    let long = simp length-take at (ap length c.self.view_is) in
+    c.append.ensures ∙ put_whole _ _ (omega arith)
+
+pub returns-else-word-left : goal.returns-else-word-left
+returns-else-word-left c =
+    let long = simp length-take at (ap length c.self.view_is) in
+    c.append-else-word-left.ensures ∙ put_front _ _ _ (omega arith)
