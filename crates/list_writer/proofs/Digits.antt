@@ -2,13 +2,13 @@
 -- and 10 that it reaches, and its last digit.
 use mathlib.Core.Bool.{true, false}
 use mathlib.Core.List.{List, [], ◌∷◌, ◌++◌}
-use mathlib.Core.Logic.{◌⊎◌, inl, inr, ◌≢◌}
+use mathlib.Core.Logic.{◌⊎◌, inl, inr, ⊎_elim, ◌≢◌}
 use mathlib.Core.Path.{◌≡◌, sym, ap, ap₂, ◌∙◌}
 use Prim.Native.Nat.{ℕ, zero, suc, ◌+◌, ◌/◌, ◌%◌, ◌≤◌, ◌<◌}
 use native.Mathlib.Omega.{arith}
 use lib.Dec.{eqb, ltb}
 use lib.ListN.{length, length-append}
-use borrow.Author.Tests.{eq-eqb, le-ltb, lt-ltb, ltb-false, ltb-true, ne_eqb}
+use borrow.Author.Tests.{eq-eqb, eqb-false, eqb-true, le-ltb, lt-ltb, ltb-false, ltb-true, ne_eqb}
 use Rattle.cube.proofs.Bools.{by_cases, either}
 use Rattle.ranges.specs.Grammar.{dash}
 use Rattle.ranges.specs.Written.{decimal, digits_of, entry_text}
@@ -56,6 +56,19 @@ digit_none unit v h = rw (lt-ltb v unit h)
 pub digit_some : (unit v : ℕ) → unit ≤ v → digit_at unit v ≡ (48 + v / unit % 10) ∷ []
 unfolding digit_at
 digit_some unit v h = rw (le-ltb v unit h)
+
+pub digit_few : (unit v : ℕ) → length (digit_at unit v) ≤ 1
+unfolding digit_at
+digit_few unit v = by_cases (λ (l : List ℕ). length l ≤ 1) (ltb v unit) (λ e. omega arith) (λ e. omega arith)
+
+digit_rises : (unit : ℕ) {v w : ℕ} → v ≤ w → length (digit_at unit v) ≤ length (digit_at unit w)
+digit_rises unit {v} {w} h = go (either (ltb v unit))
+  where
+    go : (ltb v unit ≡ true) ⊎ (ltb v unit ≡ false) → length (digit_at unit v) ≤ length (digit_at unit w)
+    go (inl e) = omega (arith, ap length (digit_none unit v (ltb-true v unit e)))
+    go (inr e) =
+        let l = ltb-false v unit e in
+        omega (arith, ap length (digit_some unit v l), ap length (digit_some unit w (omega (arith, l))))
 
 -- a digit of the tenth stands for ten times as many in the number
 shifted : (unit ten v : ℕ) → (v / 10 < unit → v < ten) → (unit ≤ v / 10 → ten ≤ v) → v / 10 / unit ≡ v / ten → digit_at unit (v / 10) ≡ digit_at ten v
@@ -116,6 +129,24 @@ four_digits v h = go (either (ltb v 10))
 pub decimal_length : (v : ℕ) → v < 10000 → length (decimal v) ≡ length (digit_at 1000 v) + length (digit_at 100 v) + length (digit_at 10 v) + 1
 decimal_length v h = simp length-append at (ap length (four_digits v h))
 
+-- so it has one to four digits, and a higher one has no fewer
+pub decimal_few : (v : ℕ) → v < 10000 → length (decimal v) ≤ 4
+decimal_few v h = omega (arith, decimal_length v h, digit_few 1000 v, digit_few 100 v, digit_few 10 v)
+
+pub decimal_some : (v : ℕ) → v < 10000 → 1 ≤ length (decimal v)
+decimal_some v h = omega (arith, decimal_length v h)
+
+decimal_rises : {v w : ℕ} → v ≤ w → w < 10000 → length (decimal v) ≤ length (decimal w)
+decimal_rises {v} {w} h few =
+    omega (
+      arith,
+      decimal_length v (omega arith),
+      decimal_length w few,
+      digit_rises 1000 h,
+      digit_rises 100 h,
+      digit_rises 10 h,
+    )
+
 -- ---- the entry of a run: one number, or two with a dash between
 
 module _ (low high : ℕ) where
@@ -136,3 +167,24 @@ module _ (low high : ℕ) where
       by_cases (λ (l : List ℕ). length (decimal low) ≤ length l) (eqb low high)
       (λ e. omega arith)
       (λ e. omega (arith, length-append (decimal low) (dash ∷ decimal high)))
+
+  module _ (l : low < 10000) (h : high < 10000) where
+    pub entry_few : length (entry_text low high) ≤ 9
+    entry_few =
+        ⊎_elim
+        (λ (e : eqb low high ≡ true). omega (arith, ap length (entry_one (eqb-true low high e)), decimal_few low l))
+        (λ (e : eqb low high ≡ false). omega (arith, entry_two_length (eqb-false low high e), decimal_few low l, decimal_few high h))
+        (either (eqb low high))
+
+    pub entry_some : 1 ≤ length (entry_text low high)
+    entry_some = omega (arith, entry_low, decimal_some low l)
+
+-- an entry that ends earlier is no longer
+pub entry_rises : {low mid high : ℕ} → low ≤ mid → mid ≤ high → high < 10000 → length (entry_text low mid) ≤ length (entry_text low high)
+entry_rises {low} {mid} {high} a b few = go (either (eqb low mid))
+  where
+    go : (eqb low mid ≡ true) ⊎ (eqb low mid ≡ false) → length (entry_text low mid) ≤ length (entry_text low high)
+    go (inl e) = omega (arith, ap length (entry_one low mid (eqb-true low mid e)), entry_low low high)
+    go (inr e) =
+        let d = eqb-false low mid e in
+        omega (arith, entry_two_length low mid d, entry_two_length low high (λ z. d (omega arith)), decimal_rises b few)

@@ -79,15 +79,15 @@ fn put_list<S: Sink>(faults: NodeTable, sink: &mut S)
     let mut k: usize = 0;
     // no `for` and no chain is plainer: k goes on by a whole run, whose end is known only there
     while k < size {
-        if faults.has(k) {
-            let end = run_end(faults, k);
-            put_gap(first, sink);
-            put_entry(k, end - 1, sink);
-            first = false;
-            k = end;
-        } else {
+        if !faults.has(k) {
             k += 1;
+            continue;
         }
+        let end = run_end(faults, k);
+        put_gap(first, sink);
+        put_entry(k, end - 1, sink);
+        first = false;
+        k = end;
     }
 }
 

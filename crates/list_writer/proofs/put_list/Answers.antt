@@ -15,11 +15,11 @@ put_gap-requires g c =
     let P = c.loop-k.invariant in
     omega (
       arith,
-      run_room _ _ P (omega arith) _ c.run_end-end.ensures (sym c.has.ensures ∙ c.if-has.true) c.requires (g.met.S.Sink.left _ _ _ P.put),
+      run_room _ _ P (omega arith) _ c.run_end-end.ensures (sym c.has.ensures ∙ c.if-not-has.false) c.requires (g.met.S.Sink.left _ _ _ P.put),
     )
 
 pub overflow_sub-end : goal.overflow_sub-end
-overflow_sub-end g c = run_begins _ _ (omega arith) c.run_end-end.ensures (sym c.has.ensures ∙ c.if-has.true)
+overflow_sub-end g c = run_begins _ _ (omega arith) c.run_end-end.ensures (sym c.has.ensures ∙ c.if-not-has.false)
 
 pub put_entry-requires : goal.put_entry-requires
 unfolding list_text
@@ -30,24 +30,24 @@ put_entry-requires g c =
       omega (arith, n.1),
       omega (
         arith,
-        run_room _ _ P (omega arith) _ c.run_end-end.ensures (sym c.has.ensures ∙ c.if-has.true) c.requires (g.met.S.Sink.left _ _ _ P.put),
+        run_room _ _ P (omega arith) _ c.run_end-end.ensures (sym c.has.ensures ∙ c.if-not-has.false) c.requires (g.met.S.Sink.left _ _ _ P.put),
         g.met.S.Sink.left _ _ _ c.put_gap.ensures,
       ),
     )
 
-pub loop-k-smaller-then-has : goal.loop-k-smaller-then-has
-loop-k-smaller-then-has g c =
-    omega (arith, run_some _ _ _ _ (omega arith) c.run_end-end.ensures (sym c.has.ensures ∙ c.if-has.true))
-
-pub loop-k-preserved-then-has : goal.loop-k-preserved-then-has
-loop-k-preserved-then-has g c =
-    let P = c.loop-k.invariant in
-    let gap = g.met.S.Sink.more _ _ _ _ _ P.put c.put_gap.ensures in
-    put_run _ _ P (omega arith) _ c.run_end-end.ensures (sym c.has.ensures ∙ c.if-has.true)
-    (g.met.S.Sink.more _ _ _ _ _ gap c.put_entry.ensures)
+pub loop-k-smaller : goal.loop-k-smaller
+loop-k-smaller g c =
+    omega (arith, run_some _ _ _ _ (omega arith) c.run_end-end.ensures (sym c.has.ensures ∙ c.if-not-has.false))
 
 pub loop-k-preserved : goal.loop-k-preserved
-loop-k-preserved g c = put_not _ _ c.loop-k.invariant (omega arith) (sym c.has.ensures ∙ c.if-has.false)
+loop-k-preserved g c =
+    let P = c.loop-k.invariant in
+    let gap = g.met.S.Sink.more _ _ _ _ _ P.put c.put_gap.ensures in
+    put_run _ _ P (omega arith) _ c.run_end-end.ensures (sym c.has.ensures ∙ c.if-not-has.false)
+    (g.met.S.Sink.more _ _ _ _ _ gap c.put_entry.ensures)
+
+pub loop-k-preserved-then-not-has : goal.loop-k-preserved-then-not-has
+loop-k-preserved-then-not-has g c = put_not _ _ c.loop-k.invariant (omega arith) (sym c.has.ensures ∙ c.if-not-has.true)
 
 pub returns : goal.returns
 unfolding list_text
