@@ -53,7 +53,7 @@ fn check_addresses(bytes: &[u8], m: usize, size: usize) -> Number
 {
     let mut at: usize = 0;
     let mut base: usize = 0;
-    for _ in 0..m {
+    for _i in 0..m {
         let number = number_at(bytes, at);
         let Ok((v, next)) = number else {
             return number;

@@ -3,5 +3,5 @@ use Prim.Native.Nat.{◌-◌}
 use Rattle.notice.proofs.Passes.{Checking}
 use Rattle.notice.proofs.check_addresses.Given as goal
 
-abbrev pub invariant-loop : goal.invariant-loop
-invariant-loop l = Checking l.m l.bytes l.size (l.m - l.counter) l.at l.base
+abbrev pub invariant-loop-i : goal.invariant-loop-i
+invariant-loop-i l = Checking l.m l.bytes l.size (l.m - l._i) l.at l.base
