@@ -32,6 +32,7 @@ use Rattle.hop_networks.specs.Hopping.{is_board}
 use Rattle.hop_networks.proofs.Refusals.{board_passes, board_stops, list_passes, list_stops}
 use Rattle.walk_networks.specs.Crossing.{cross_refusal, crossing, ended_by, hops_after, hops_of, made, refusal_of, too_short}
 use Rattle.walk_networks.specs.declared.Crossed.{Crossed}
+use Rattle.walk_networks.proofs.Steps.{most_few}
 
 -- a number that refuses has its refusal
 pub refused_for : {A : Type 0} (k : ℕ) (x : A) → (k ≡ 0 → ⊥) → answered k x ≡ Err (R.refusal k)
@@ -68,10 +69,18 @@ hops_within k (Hop i) = omega arith
 hops_within k Halted = omega arith
 
 -- so a walk that is found has no more hops than a walk may have
-pub made_few : (n N : ℕ) (lab : ℕ → ℕ) (d s : ℕ) (c : Crossed) → 0 < N → s < 2 ^ n → Ok c ≡ ended_by (hops_on n N lab d s) (last_on n N lab d s)
+pub found_few : (n N : ℕ) (lab : ℕ → ℕ) (d s : ℕ) (c : Crossed) → 0 < N → s < 2 ^ n → Ok c ≡ ended_by (hops_on n N lab d s) (last_on n N lab d s)
     → made c ≤ most_hops n N
-made_few n N lab d s c some hs e =
+found_few n N lab d s c some hs e =
     omega (arith, ap hops_of e, hops_within (hops_on n N lab d s) (last_on n N lab d s), (walks n lab d s hs N some).within)
+
+-- nor than there are places for, and so too where it is refused, with none
+pub made_few : (n N : ℕ) (lab : ℕ → ℕ) (d s : ℕ) (r : Result Crossed Refusal) (count : ℕ) → (1 ≤ n) × (n ≤ 12) → (0 < N) × (N ≤ 5) → s < 2 ^ n
+    → r ≡ ended_by (hops_on n N lab d s) (last_on n N lab d s) → count ≡ hops_of r → (count ≤ 120) × (count ≤ most_hops n N)
+made_few n N lab d s r count dimension networks hs e ec =
+    let w = walks n lab d s hs N networks.0 in
+    let few : count ≤ most_hops n N = omega (arith, ec, ap hops_of e, hops_within (hops_on n N lab d s) (last_on n N lab d s), w.within) in
+    (omega (arith, few, most_few n N dimension.1 networks.1), few)
 
 module _ (n N j s d m : ℕ) (lab : ℕ → ℕ) (list : List ℕ) where
   abbrev refusal : ℕ

@@ -18,7 +18,7 @@ use Rattle.hop_networks.specs.Helpers.{board_refusal, list_refusal}
 use Rattle.hop_networks.specs.Hopping.{is_board}
 use Rattle.hop_networks.proofs.Refusals.{board_good, board_is, list_good}
 use Rattle.walk_networks.specs.Crossing.{ended_by, too_short}
-use Rattle.walk_networks.proofs.Refusals.{made_few, unboarded, unlabelled, unlisted, unwalked, walked}
+use Rattle.walk_networks.proofs.Refusals.{found_few, unboarded, unlabelled, unlisted, unwalked, walked}
 use Rattle.walk_networks.proofs.Steps.{most_few}
 use Rattle.walk_networks.proofs.walk_networks.Goals as goal
 use Rattle.walk_networks.proofs.walk_networks.Goals.{After-of-table, In_ok-board_refusal, In_ok-found, In_ok-list_refusal, In_ok-table_refusal}
@@ -115,7 +115,7 @@ write-requires c =
     let g = goal.at.write-requires c in
     let b = g.In_ok-board_refusal in
     let p = asked g.In_ok-list_refusal (small b) in
-    let f = made_few _ _ _ _ _ _ (networks-few b).0 p.0.first (found g.In_ok-found) in
+    let f = found_few _ _ _ _ _ _ (networks-few b).0 p.0.first (found g.In_ok-found) in
     (omega (arith, c.hops.ensures, f, most b), omega (arith, c.hops.ensures, f, p.1))
 
 pub returns : goal.returns
