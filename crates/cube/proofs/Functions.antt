@@ -24,6 +24,10 @@ use Rattle.cube.specs.contracts.NodeTable.has as has-claims
 use Rattle.cube.proofs.NodeTable.has.Reads as has-claims-reads
 use Rattle.cube.specs.contracts.unused_set
 use Rattle.cube.proofs.unused_set.Reads as unused_set-reads
+use Rattle.cube.specs.Refused.{number}
+use Rattle.cube.specs.declared.refusals.Refusal.{Refusal}
+use Rattle.cube.specs.contracts.refusals.U32FromRefusal.from as from-claims
+use Rattle.cube.proofs.refusals.U32FromRefusal.from.Reads as from-claims-reads
 use Rattle.cube.specs.contracts.count_of
 use Rattle.cube.proofs.count_of.Reads as count_of-reads
 
@@ -162,3 +166,21 @@ count_of_asks = record { asked = λ κs a. tt; empty = λ w κs a. (tt, refl) }
 
 pub count_of_says : Says count-of (λ i. label_count i.0 i.1) (λ i. tt)
 count_of_says = record { says = λ κs a r e p. (p, refl) }
+
+-- handed a refusal, its number
+abbrev pub refusal-number : Function from-claims.ended Refusal ℕ Nothing
+refusal-number =
+    record {
+      clauses = λ w. from-claims.clauses w.𝓛 w.𝓜.mem w.𝓡.returns;
+      asked = from-claims-reads.Asked;
+      post = from-claims-reads.Post;
+      handed = λ κs a. a.0;
+      answered = λ κs r. r;
+      left = λ κs e. tt;
+    }
+
+pub refusal_number_asks : AsksNothing refusal-number
+refusal_number_asks = record { asked = λ κs a. tt; empty = λ w κs a. (tt, refl) }
+
+pub refusal_number_says : Says refusal-number number (λ i. tt)
+refusal_number_says = record { says = λ κs a r e p. (p, refl) }

@@ -93,6 +93,7 @@ settled =
       cube_table_len = settles cube.table_len_says;
       cube_node_bit = settles cube.node_bit_says;
       cube_has = settles cube.has_says;
+      cube_from = settles cube.refusal_number_says;
       cube_unused_set = settles cube.unused_set_says;
       jobs_label_bytes = settles jobs.label_bytes_says;
       notice_set_bit = settles notice.set_bit_says;
@@ -152,5 +153,6 @@ unasked =
       cube_distance = cube.distance_asks;
       cube_is_dimension = cube.is_dimension_asks;
       cube_count_of = cube.count_of_asks;
+      cube_from = cube.refusal_number_asks;
       jobs_is_job = jobs.is_job_asks;
     }

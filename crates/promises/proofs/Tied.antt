@@ -85,6 +85,7 @@ all_tied =
       cube_table_len = record { clauses = λ w. refl; asked = refl; post = refl };
       cube_node_bit = record { clauses = λ w. refl; asked = refl; post = refl };
       cube_has = record { clauses = λ w. refl; asked = refl; post = refl };
+      cube_from = record { clauses = λ w. refl; asked = refl; post = refl };
       cube_unused_set = record { clauses = λ w. refl; asked = refl; post = refl };
       jobs_is_job = record { clauses = λ w. refl; asked = refl; post = refl };
       jobs_label_bytes = record { clauses = λ w. refl; asked = refl; post = refl };

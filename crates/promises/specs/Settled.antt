@@ -94,6 +94,7 @@ pub record Settled : Type 0 where
   pub cube_table_len : Settles cube.table-len
   pub cube_node_bit : Settles cube.node-bit
   pub cube_has : Settles cube.has
+  pub cube_from : Settles cube.refusal-number
   pub cube_unused_set : Settles cube.unused-set
   pub jobs_label_bytes : Settles jobs.label-bytes
   pub notice_set_bit : Settles notice.set-bit
@@ -154,4 +155,5 @@ pub record Unasked : Type 2 where
   pub cube_distance : AsksNothing cube.distance
   pub cube_is_dimension : AsksNothing cube.is-dimension
   pub cube_count_of : AsksNothing cube.count-of
+  pub cube_from : AsksNothing cube.refusal-number
   pub jobs_is_job : AsksNothing jobs.is-job

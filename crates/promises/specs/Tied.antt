@@ -29,6 +29,8 @@ use Rattle.cube.specs.contracts.table_len as cube_table_len
 use Rattle.cube.proofs.table_len.Reads as cube_table_len-reads
 use Rattle.cube.specs.contracts.NodeTable.has as cube_has
 use Rattle.cube.proofs.NodeTable.has.Reads as cube_has-reads
+use Rattle.cube.specs.contracts.refusals.U32FromRefusal.from as cube_from
+use Rattle.cube.proofs.refusals.U32FromRefusal.from.Reads as cube_from-reads
 use Rattle.cube.specs.contracts.unused_set as cube_unused_set
 use Rattle.cube.proofs.unused_set.Reads as cube_unused_set-reads
 use Rattle.groups.proofs.Functions as groups
@@ -327,6 +329,9 @@ pub record AllTied : Type 2 where
   pub cube_has :
       Tied cube.has (λ w. cube_has.clauses w.𝓛 w.𝓜.mem w.𝓡.returns)
       cube_has-reads.Asked cube_has-reads.Post
+  pub cube_from :
+      Tied cube.refusal-number (λ w. cube_from.clauses w.𝓛 w.𝓜.mem w.𝓡.returns)
+      cube_from-reads.Asked cube_from-reads.Post
   pub cube_unused_set :
       Tied cube.unused-set (λ w. cube_unused_set.clauses w.𝓛 w.𝓜.mem w.𝓡.returns)
       cube_unused_set-reads.Asked cube_unused_set-reads.Post
